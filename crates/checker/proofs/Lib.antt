@@ -1,0 +1,5 @@
+pub mod Reflects
+pub mod Leads
+pub mod Carry
+pub mod Fullest
+pub mod Places

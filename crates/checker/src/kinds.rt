@@ -1,0 +1,18 @@
+// The number of each kind of record: its place in `kinds` of specs/Recording.antt.
+pub const READ: u8 = 0;
+
+pub const WRITE: u8 = 1;
+
+pub const TAKE: u8 = 2;
+
+pub const GIVE: u8 = 3;
+
+pub const LOOK: u8 = 4;
+
+pub const SET: u8 = 5;
+
+pub const START: u8 = 6;
+
+pub const JOIN: u8 = 7;
+
+pub const LOST: u8 = 8;
