@@ -2,4 +2,12 @@ pub mod Reflects
 pub mod Leads
 pub mod Carry
 pub mod Fullest
+pub mod Reach
 pub mod Places
+pub mod Between
+pub mod Bounds
+pub mod Tests
+pub mod Latest
+pub mod Decide
+pub mod Demands
+pub mod Examples

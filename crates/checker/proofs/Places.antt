@@ -51,13 +51,13 @@ occurs-before (onward d) (next o) = suc-le-suc (occurs-before d o)
 at-tail : {x e : Event} {es : List Event} {i : ℕ} → At (x ∷ es) (suc i) e → At es i e
 at-tail (there a) = a
 
--- the step is from the event that stands first, or to the one that stands last
+-- what is true of the event that stands at a place is true of the one known to stand there
 from-first : {e d f : Event} {es : List Event} → At (e ∷ es) zero d → Step d f → Step e f
 from-first here s = s
 
-to-last : {e d f : Event} {es before : List Event} {k : ℕ} → Ends es k before f → At es k d → Step e d → Step e f
-to-last ends here s = s
-to-last (onward o) (there a) s = to-last o a s
+pub to-last : (P : Event → Type 0) {d f : Event} {es before : List Event} {k : ℕ} → Ends es k before f → At es k d → P d → P f
+to-last P ends here s = s
+to-last P (onward o) (there a) s = to-last P o a s
 
 -- Moving a path along the list
 
@@ -101,14 +101,14 @@ leads-first (onward d) (via s p) =
     more (record { e = _; f = _; from = here; to = there here; later = suc-le-suc zero-le; step = s }) (path-on (leads-first d p))
 
 first-leads : {e f : Event} {es mid : List Event} {k : ℕ} → Ends es k mid f → Path (e ∷ es) zero (suc k) → Leads e mid f
-first-leads ends (one s) = last (to-last ends (at-tail (s .to)) (from-first (s .from) (s .step)))
+first-leads ends (one s) = last (to-last (Step _) ends (at-tail (s .to)) (from-first (s .from) (s .step)))
 first-leads ends (more s p) = absurd (not-suc-le-zero (le-of-suc-le-suc (lt-trans-step (s .later) (path-later p))))
   where
     lt-trans-step : {i j k : ℕ} → i < j → j < k → suc i < k
     lt-trans-step h l = omega arith
 first-leads (onward d) (one s) = over (first-leads d (one (step-out s)))
 first-leads (onward d) (more {j = zero} s p) = absurd (not-suc-le-zero (s .later))
-first-leads (onward d) (more {j = suc zero} s p) = via (to-last ends (at-tail (s .to)) (from-first (s .from) (s .step))) (first-leads d (path-back p))
+first-leads (onward d) (more {j = suc zero} s p) = via (to-last (Step _) ends (at-tail (s .to)) (from-first (s .from) (s .step))) (first-leads d (path-back p))
 first-leads (onward d) (more {j = suc (suc j)} s p) = over (first-leads d (more (step-out s) (path-on (path-back (path-back p)))))
 
 pub leads-path : {e f : Event} {es before mid : List Event} {i k : ℕ} → Ends es k before f → Occurs before i e mid → Leads e mid f → Path es i k

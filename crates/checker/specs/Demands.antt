@@ -1,4 +1,4 @@
--- Demands 2 and 3 over recordings, as types. proofs/Demands.antt proves them.
+-- Demands 2 and 3 over recordings, as types, of whatever gives the verdicts. proofs/Demands.antt proves them of what is computed.
 use Prim.Native.Nat.{ℕ}
 use mathlib.Core.Path.{_≡_}
 use mathlib.Core.Logic.{_↔_}

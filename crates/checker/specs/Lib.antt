@@ -5,3 +5,5 @@ pub mod Completion
 pub mod Verdict
 pub mod Demands
 pub mod Acceptance
+pub mod Decide
+pub mod Examples
