@@ -2,16 +2,16 @@
 -- hears goes on to every node that a filler tells, and nothing else moves. Two rounds do all of that. Assumes nothing.
 use mathlib.Core.Logic.{_↔_, _⊎_, inl, inr}
 use mathlib.Core.Path.{_≡_, refl, sym, subst}
-use mathlib.Core.Bool.{Bool, true, false, cond}
+use mathlib.Core.Bool.{Bool, true, false}
 use mathlib.Core.List.{List, [], _∷_, _++_}
-use Prim.Native.Nat.{ℕ, zero, suc, _<_, _/_, _%_, _^_, zero-le, suc-le-suc}
+use Prim.Native.Nat.{ℕ, zero, suc, _<_, zero-le, suc-le-suc}
 use native.Mathlib.Nat.{le-of-suc-le-suc, not-suc-le-zero, zero-lt-suc}
 use native.Mathlib.Omega.{arith}
-use lib.Dec.{T, eqb, lit<}
+use lib.Dec.{T, lit<}
 use Rattle.checker.specs.Limits.{tasks}
 use Rattle.checker.specs.Recording.{Op, take, give, look, set, start, join, Event, act, lost, series}
 use Rattle.checker.specs.Order.{Step}
-use Rattle.checker.specs.Completion.{names, Named, Loses, takes, gives, looks, sets, Filler, filler, Every, no-more, and-more, Filled, done, keep, fill, Completion, inTurn, onEach, part, round, rounds, fullest, nothing}
+use Rattle.checker.specs.Completion.{bit, names, Named, Loses, takes, gives, looks, sets, Filler, filler, Every, no-more, and-more, Filled, done, keep, fill, Completion, inTurn, onEach, part, partIf, round, rounds, fullest, nothing}
 use Rattle.checker.proofs.Reflects.{by-test, both, at-most, passed, is-true}
 use Rattle.checker.proofs.Leads.{Leads}
 use Rattle.checker.proofs.Carry.{Node, due, acted, semaphore, flag, Hears, own, by-take, by-look, by-join, Tells, own-next, own-acted, by-give, by-set, by-start, Carry, stay, pass, move, carry-skip, carry-append, carry-split, carry-one, carry-in-turn, leads-carried, carried-leads}
@@ -65,14 +65,14 @@ hub : Node
 hub = semaphore 0
 
 named-task : {mask t : ℕ} → Named mask t → t < tasks
-named-task {mask} {t} d = passed (both (at-most (suc t) tasks) (by-test (eqb (mask / 2 ^ t % 2) 1))) (d .named) .0
+named-task {mask} {t} d = passed (both (at-most (suc t) tasks) (by-test (bit mask t))) (d .named) .0
 
 -- a named task's part is in the round
 carry-round : {mask t : ℕ} {n m : Node} → Named mask t → Carry n (part t) m → Carry n (round mask) m
 unfolding round
 carry-round {mask} {t} {n} {m} named c =
-    carry-in-turn tasks (λ u. cond (names mask u) (part u) []) t (named-task named)
-    (subst (λ (b : Bool). Carry n (cond b (part t) []) m) (sym (is-true (by-test (names mask t)) (named .named))) c)
+    carry-in-turn tasks (λ u. partIf (names mask u) u) t (named-task named)
+    (subst (λ (b : Bool). Carry n (partIf b t) m) (sym (is-true (by-test (names mask t)) (named .named))) c)
 
 heard-round : {mask : ℕ} {n : Node} → Heard mask n → Carry n (round mask) hub
 unfolding hub part
@@ -86,7 +86,7 @@ told-round (_, filler l named h, tells) =
 
 pub mix-rounds : {mask : ℕ} {n m : Node} → Mix mask n m → Carry n (rounds mask) m
 unfolding rounds
-mix-rounds {mask} same = carry-skip (round mask ++ round mask)
+mix-rounds {mask} same = carry-skip (rounds mask)
 mix-rounds (mixed heard told) = carry-append (heard-round heard) (told-round told)
 
 -- The fullest has every path of every completion
@@ -124,9 +124,9 @@ filler-part named =
 
 filler-round : (mask : ℕ) → Every (Filler mask) (round mask)
 unfolding round
-filler-round mask = every-in-turn tasks (λ t. cond (names mask t) (part t) []) (λ t h. of-task t (names mask t) (λ n. record { named = n }))
+filler-round mask = every-in-turn tasks (λ t. partIf (names mask t) t) (λ t h. of-task t (names mask t) (λ n. record { named = n }))
   where
-    of-task : (t : ℕ) (b : Bool) → (T b → Named mask t) → Every (Filler mask) (cond b (part t) [])
+    of-task : (t : ℕ) (b : Bool) → (T b → Named mask t) → Every (Filler mask) (partIf b t)
     of-task t true n = filler-part (n tt)
     of-task t false n = no-more
 

@@ -1,15 +1,19 @@
 -- Loss marks and what may be filled in for them: completions, and the fullest of them ("Verdicts", demand 3).
 use Prim.Native.Nat.{ℕ, zero, suc, _+_, _/_, _%_, _^_, _<_}
-use mathlib.Core.Bool.{Bool, true, false, cond, _&&_}
+use mathlib.Core.Bool.{Bool, true, false, _&&_}
 use mathlib.Core.List.{List, [], _∷_, _++_}
 use lib.Dec.{T, ltb, eqb}
 use lib.ListN.{length}
 use Rattle.checker.specs.Limits.{tasks}
 use Rattle.checker.specs.Recording.{Op, take, give, look, set, Event, act, lost, series}
 
--- the mask names task t: t is a task, and the bit of weight 2 to the power t is in the mask
+-- the bit of weight 2 to the power t is in the mask
+abbrev pub bit : ℕ → ℕ → Bool
+bit mask t = eqb (mask / 2 ^ t % 2) 1
+
+-- the mask names task t: t is a task, and its bit is in the mask
 abbrev pub names : ℕ → ℕ → Bool
-names mask t = ltb t tasks && eqb (mask / 2 ^ t % 2) 1
+names mask t = ltb t tasks && bit mask t
 
 -- the same as a type
 pub record Named (mask t : ℕ) : Type 0 where
@@ -72,9 +76,14 @@ onEach o t = inTurn (series o) (λ n. act o t n ∷ [])
 unfoldable pub part : ℕ → List Event
 part t = (onEach take t ++ onEach look t) ++ (onEach give t ++ onEach set t)
 
+-- the part of a task that is named, and nothing for one that is not
+abbrev pub partIf : Bool → ℕ → List Event
+partIf true t = part t
+partIf false t = []
+
 -- a round: the named tasks, one after the other, lowest first
 unfoldable pub round : ℕ → List Event
-round mask = inTurn tasks (λ t. cond (names mask t) (part t) [])
+round mask = inTurn tasks (λ t. partIf (names mask t) t)
 
 -- "the fullest" filling of a mark: the whole round, twice
 unfoldable pub rounds : ℕ → List Event
