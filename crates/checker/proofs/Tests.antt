@@ -5,8 +5,7 @@ use mathlib.Core.Logic.{_⊎_, inl, inr, _≢_}
 use mathlib.Core.List.{List, [], _∷_}
 use Prim.Native.Nat.{ℕ}
 use lib.Dec.{T}
-use lib.ListN.{getD}
-use Rattle.checker.specs.Recording.{Op, read, write, take, give, look, set, start, join, Event, act, lost, kind, _is_, ActsIn, acts}
+use Rattle.checker.specs.Recording.{Op, read, write, take, give, look, set, start, join, Event, act, lost, kind, opOf, _is_, ActsIn, acts}
 use Rattle.checker.specs.Order.{Step, same-task, gives-takes, sets-looks, starts, joins, isAccess, Conflict, conflict}
 use Rattle.checker.specs.Decide.{steps, any, reaches, conflicts, actsIn, again}
 use Rattle.checker.proofs.Reflects.{Reflects, right, wrong, by-test, both, either, fails, same-as, equal}
@@ -14,11 +13,7 @@ use Rattle.checker.proofs.Leads.{Leads, last, over, via}
 
 -- Ops
 
-opOf : ℕ → Op
-opOf k = getD (read ∷ write ∷ take ∷ give ∷ look ∷ set ∷ start ∷ join ∷ []) k read
-
-opOf-kind : (o : Op) → opOf (kind o) ≡ o
-unfolding opOf
+pub opOf-kind : (o : Op) → opOf (kind o) ≡ o
 opOf-kind read = refl
 opOf-kind write = refl
 opOf-kind take = refl

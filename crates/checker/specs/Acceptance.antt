@@ -2,12 +2,12 @@
 use Prim.Native.Nat.{ℕ, zero, suc, _^_}
 use mathlib.Core.Bool.{Bool, true, false, cond, not, _&&_, _||_}
 use mathlib.Core.List.{List, [], _∷_, _++_}
-use mathlib.Core.Option.{Option, none, some}
-use lib.Dec.{leb, eqb}
+use lib.Dec.{leb, ltb, eqb}
 use lib.ListN.{length}
 use Rattle.checker.specs.declared.record.Record.{Record}
 use Rattle.checker.specs.Limits.{tasks, records}
-use Rattle.checker.specs.Recording.{Op, read, write, take, give, look, set, start, join, Event, act, lost, series, eventOf, _is_}
+use Rattle.checker.specs.Turns.{turns}
+use Rattle.checker.specs.Recording.{Op, read, write, take, give, look, set, start, join, Event, act, lost, kind, lossMark, seriesOf, eventOf}
 use Rattle.checker.specs.Completion.{names}
 
 -- a task is unseen until it is started, then live, then ended by a join
@@ -49,32 +49,33 @@ phaseFrom p (e ∷ es) t = phaseFrom (phaseAfter e t p) es t
 abbrev pub phase : List Event → ℕ → Phase
 phase es t = phaseFrom (cond (eqb t zero) live unseen) es t
 
+-- the record is a loss mark
+abbrev pub isMark : Record → Bool
+isMark r = eqb (r .kind) lossMark
+
+-- the record is an act, of any op and none
+abbrev pub isAct : Record → Bool
+isAct r = not (isMark r)
+
+abbrev pub hasKind : Record → Op → Bool
+hasKind r o = eqb (r .kind) (kind o)
+
 -- the test passes at one of the numbers below n at least
 abbrev pub anyBelow : ℕ → (ℕ → Bool) → Bool
-anyBelow zero p = false
-anyBelow (suc n) p = p zero || anyBelow n (λ k. p (suc k))
+anyBelow n p = turns n (λ k b. b || p k) false
 
--- which of rows 2 to 9 apply to an event after a recording, in their order
-abbrev pub rows : List Event → Event → List Bool
-rows es (act o t n) =
-    leb tasks t
-    ∷ leb (series o) n
-    ∷ false
-    ∷ leb records (length es)
-    ∷ not (isLive (phase es t))
-    ∷ (o is start && not (isUnseen (phase es n)))
-    ∷ (o is join && eqb n t)
-    ∷ (o is join && not (isLive (phase es n)))
-    ∷ []
-rows es (lost mask) =
-    false
-    ∷ false
-    ∷ (eqb mask zero || leb (2 ^ tasks) mask)
-    ∷ leb records (length es)
-    ∷ false
-    ∷ false
-    ∷ false
-    ∷ anyBelow tasks (λ t. names mask t && not (isLive (phase es t)))
+-- which of rows 1 to 9 apply to a record, in their order, by which tasks are live and unseen and by the count of accepted records
+abbrev pub rows : (ℕ → Bool) → (ℕ → Bool) → ℕ → Record → List Bool
+rows isLiveTask isUnseenTask count r =
+    ltb lossMark (r .kind)
+    ∷ (isAct r && leb tasks (r .task))
+    ∷ (isAct r && leb (seriesOf (r .kind)) (r .on))
+    ∷ (isMark r && (eqb (r .on) 0 || leb (2 ^ tasks) (r .on)))
+    ∷ leb records count
+    ∷ (isAct r && not (isLiveTask (r .task)))
+    ∷ (hasKind r start && not (isUnseenTask (r .on)))
+    ∷ (hasKind r join && eqb (r .on) (r .task))
+    ∷ ((hasKind r join && not (isLiveTask (r .on))) || (isMark r && anyBelow tasks (λ t. names (r .on) t && not (isLiveTask t))))
     ∷ []
 
 -- the number of the first row that applies, the first of the list having number n; 0 where none does
@@ -82,24 +83,23 @@ abbrev pub firstRow : ℕ → List Bool → ℕ
 firstRow n [] = zero
 firstRow n (b ∷ bs) = cond b n (firstRow (suc n) bs)
 
-abbrev pub refusalOf : List Event → Option Event → ℕ
-refusalOf es none = 1
-refusalOf es (some e) = firstRow 2 (rows es e)
+-- the refusal that a record gets by rows 1 to 9; 0 where it is accepted
+unfoldable pub refusalBy : (ℕ → Bool) → (ℕ → Bool) → ℕ → Record → ℕ
+refusalBy isLiveTask isUnseenTask count r = firstRow 1 (rows isLiveTask isUnseenTask count r)
 
--- the refusal that a record gets after a recording, by rows 1 to 9; 0 where it is accepted
+-- after a recording
 abbrev pub refusal : List Event → Record → ℕ
-refusal es r = refusalOf es (eventOf r)
+refusal es r = refusalBy (λ t. isLive (phase es t)) (λ t. isUnseen (phase es t)) (length es) r
 
--- the recording after a record that says e was fed and got the refusal n: accepted records join it, refused ones leave it as it was
-abbrev pub joined : List Event → Option Event → ℕ → List Event
-joined es none n = es
-joined es (some e) zero = es ++ (e ∷ [])
-joined es (some e) (suc n) = es
+-- the recording after a record was fed that got the refusal n: accepted records join it, refused ones leave it as it was
+abbrev pub joined : List Event → Record → ℕ → List Event
+joined es r zero = es ++ (eventOf r ∷ [])
+joined es r (suc n) = es
 
 -- the recording after the records of a list were fed one after the other
 abbrev pub fedAfter : List Event → List Record → List Event
 fedAfter es [] = es
-fedAfter es (r ∷ rs) = fedAfter (joined es (eventOf r) (refusal es r)) rs
+fedAfter es (r ∷ rs) = fedAfter (joined es r (refusal es r)) rs
 
 -- "recording": those records of a list, fed from a fresh state, that were accepted
 abbrev pub recording : List Record → List Event

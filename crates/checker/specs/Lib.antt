@@ -1,4 +1,5 @@
 pub mod Limits
+pub mod Turns
 pub mod Recording
 pub mod Order
 pub mod Completion
@@ -7,3 +8,8 @@ pub mod Demands
 pub mod Acceptance
 pub mod Decide
 pub mod Examples
+pub mod Tables
+pub mod History
+pub mod Reckonings
+pub mod Control
+pub mod Step

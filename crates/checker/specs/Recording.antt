@@ -1,10 +1,9 @@
 -- Records and recordings ("What a record says").
 use Prim.Native.Nat.{ℕ, zero, suc}
 use mathlib.Core.List.{List, [], _∷_}
-use mathlib.Core.Option.{Option, none, some}
-use mathlib.Core.Bool.{Bool}
+use mathlib.Core.Bool.{Bool, cond}
 use lib.Dec.{eqb}
-use lib.ListN.{getElem?}
+use lib.ListN.{getD}
 use Rattle.checker.specs.Limits.{tasks, semaphores, flags, variables}
 use Rattle.checker.specs.declared.record.Record.{Record}
 
@@ -29,19 +28,7 @@ series set = flags
 series start = tasks
 series join = tasks
 
--- the kinds of a record that is fed: each makes an event of the record's task and number, and its place here is its kind number
-abbrev pub kinds : List (ℕ → ℕ → Event)
-kinds = act read ∷ act write ∷ act take ∷ act give ∷ act look ∷ act set ∷ act start ∷ act join ∷ (λ task on. lost on) ∷ []
-
-abbrev pub made : Record → Option (ℕ → ℕ → Event) → Option Event
-made r none = none
-made r (some make) = some (make (r .task) (r .on))
-
--- what a record that is fed says, if its kind is one of the nine
-abbrev pub eventOf : Record → Option Event
-eventOf r = made r (getElem? kinds (r .kind))
-
--- the kind number of an op
+-- the kind number of an op, in a record that is fed
 abbrev pub kind : Op → ℕ
 kind read = 0
 kind write = 1
@@ -51,6 +38,25 @@ kind look = 4
 kind set = 5
 kind start = 6
 kind join = 7
+
+-- the kind number of a loss mark, which is the highest
+abbrev pub lossMark : ℕ
+lossMark = 8
+
+-- the ops by their kind numbers
+abbrev pub ops : List Op
+ops = read ∷ write ∷ take ∷ give ∷ look ∷ set ∷ start ∷ join ∷ []
+
+abbrev pub opOf : ℕ → Op
+opOf k = getD ops k read
+
+-- the size of a kind's series
+abbrev pub seriesOf : ℕ → ℕ
+seriesOf k = series (opOf k)
+
+-- what a record that is fed says, if its kind is one of the nine
+abbrev pub eventOf : Record → Event
+eventOf r = cond (eqb (r .kind) lossMark) (lost (r .on)) (act (opOf (r .kind)) (r .task) (r .on))
 
 -- whether two ops are the same
 infix 40 _is_
