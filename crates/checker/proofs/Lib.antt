@@ -1,8 +1,16 @@
+pub mod Turns
 pub mod Reflects
+pub mod Acceptance
 pub mod Leads
 pub mod Carry
 pub mod Fullest
 pub mod Reach
+pub mod Tables
+pub mod Acting
+pub mod Mixing
+pub mod Bits
+pub mod Ranges
+pub mod Accepting
 pub mod Places
 pub mod Between
 pub mod Bounds

@@ -1,5 +1,5 @@
 -- Which records are accepted: rows 1 to 9 of the refusal table, over the recording so far.
-use Prim.Native.Nat.{ℕ, zero, suc, _^_}
+use Prim.Native.Nat.{ℕ, zero, suc, _^_, _<_}
 use mathlib.Core.Bool.{Bool, true, false, cond, not, _&&_, _||_}
 use mathlib.Core.List.{List, [], _∷_, _++_}
 use lib.Dec.{leb, ltb, eqb}
@@ -48,6 +48,11 @@ phaseFrom p (e ∷ es) t = phaseFrom (phaseAfter e t p) es t
 -- task t's phase after a recording: task 0 is live in a fresh state, the others are unseen
 abbrev pub phase : List Event → ℕ → Phase
 phase es t = phaseFrom (cond (eqb t zero) live unseen) es t
+
+-- the numbers of an act are in their ranges
+pub record Fitting (k task on : ℕ) : Type 0 where
+  pub task-fits : task < tasks
+  pub on-fits : on < seriesOf k
 
 -- the record is a loss mark
 abbrev pub isMark : Record → Bool

@@ -5,6 +5,7 @@ use mathlib.Core.List.{List}
 use lib.Count.{trailingZeros}
 use lib.Dec.{ltb, leb, eqb}
 use lib.ListN.{getD, set}
+use Rattle.checker.specs.declared.masks.Masks.{Masks}
 use Rattle.checker.specs.Turns.{turns}
 use Rattle.checker.specs.Limits.{tasks}
 use Rattle.checker.specs.Recording.{lossMark}
@@ -73,3 +74,14 @@ setMask cells last k task on = maskOf (setApart cells last k task on)
 -- the lowest task of a mask
 abbrev pub lowestTask : ℕ → ℕ
 lowestTask mask = trailingZeros 16 mask
+
+abbrev pub masksBy : ℕ → ℕ → Masks
+masksBy full arrived = record { full = full; arrived = arrived }
+
+-- the masks of an access, in the fullest filling and as it arrived; none for any other record
+abbrev pub clockMasks : List ℕ → List ℕ → List ℕ → ℕ → ℕ → ℕ → Masks
+clockMasks clocks fullclocks last k task on =
+    cond (accesses k) (masksBy (clockMask fullclocks last k task on) (clockMask clocks last k task on)) (masksBy 0 0)
+
+abbrev pub setMasks : List ℕ → List ℕ → List ℕ → ℕ → ℕ → ℕ → Masks
+setMasks sets fullsets last k task on = cond (accesses k) (masksBy (setMask fullsets last k task on) (setMask sets last k task on)) (masksBy 0 0)

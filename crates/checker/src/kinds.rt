@@ -16,3 +16,6 @@ pub const START: u8 = 6;
 pub const JOIN: u8 = 7;
 
 pub const LOST: u8 = 8;
+
+// The kinds below this one are accesses.
+pub const ACCESSES: u8 = 2;

@@ -1,19 +1,41 @@
 // The order checker below the text layer.
 // What is meant by order, completions and verdicts stands in specs/, and what is known of them in proofs/.
 mod answer;
+mod clocks;
+mod control;
+mod history;
 mod kinds;
 mod limits;
+mod masks;
 mod numbers;
 mod record;
+mod refusals;
 mod rows;
+mod sets;
 mod state;
+mod stepping;
 
 pub use answer::Answer;
+pub use masks::Masks;
 pub use numbers::Flag;
 pub use numbers::RecordNumber;
 pub use numbers::Semaphore;
 pub use numbers::Task;
 pub use numbers::Variable;
 pub use record::Record;
+pub use refusals::refusal;
+pub use state::ClockState;
+pub use state::ClockStepped;
+pub use state::SetState;
+pub use state::SetStepped;
 pub use state::State;
 pub use state::Stepped;
+pub use state::fresh;
+pub use state::fresh_clocks;
+pub use state::fresh_sets;
+pub use stepping::clock_step;
+pub use stepping::clock_step_in_place;
+pub use stepping::set_step;
+pub use stepping::set_step_in_place;
+pub use stepping::step;
+pub use stepping::step_in_place;

@@ -9,9 +9,9 @@ use crate::numbers::Flag;
 use crate::numbers::Semaphore;
 use crate::numbers::Task;
 ghost use mathlib.Core.Path.{_≡_};
-ghost use Prim.Native.Nat.{_<_, max};
+ghost use Prim.Native.Nat.{_<_};
 ghost use Rattle.checker.specs.Completion.{bit};
-ghost use Rattle.checker.specs.Tables.{dueRow, actedRow, semaphoreRow, flagRow, heardRow, toldRow, isHeard, isTold, rowOrHub, joinRow};
+ghost use Rattle.checker.specs.Tables.{dueRow, actedRow, semaphoreRow, flagRow, heardRow, toldRow, isHeard, isTold, rowOrHub};
 
 fn due_row(t: Task) -> usize
     ensures { λ r. ⌜ r ≡ dueRow (t .0) ⌝ }
@@ -69,14 +69,32 @@ pub(crate) fn has_bit(mask: u32, t: u32) -> bool
     (mask >> t) % 2 == 1
 }
 
-fn greater32(a: u32, b: u32) -> u32
-    ensures { λ r. ⌜ r ≡ max a b ⌝ }
+// Row r where a mark's lost records can hear it, and the hub where not.
+pub(crate) fn heard_by(mask: u32, r: usize) -> usize
+    requires { ⌜ r < 96 ⌝ }
+    ensures { λ q. ⌜ (q ≡ rowOrHub (isHeard mask r) r) × (q < 96) ⌝ }
 {
-    if a < b { b } else { a }
+    if r < 16 {
+        if has_bit(mask, r as u32) { r } else { 32 }
+    } else if r < 32 {
+        32
+    } else {
+        r
+    }
 }
 
-fn greater8(a: u8, b: u8) -> u8
-    ensures { λ r. ⌜ r ≡ max a b ⌝ }
+// Row r where they can tell it, and the hub where not.
+pub(crate) fn told_by(mask: u32, r: usize) -> usize
+    requires { ⌜ r < 96 ⌝ }
+    ensures { λ q. ⌜ (q ≡ rowOrHub (isTold mask r) r) × (q < 96) ⌝ }
 {
-    if a < b { b } else { a }
+    if r < 32 {
+        if has_bit(mask, (r % 16) as u32) {
+            r
+        } else {
+            32
+        }
+    } else {
+        r
+    }
 }

@@ -1,0 +1,158 @@
+-- Tables of rows and columns: their size, what a store does to their cells, and what a row knows once it is joined by another.
+-- Assumes nothing.
+use mathlib.Core.Path.{_≡_, refl, ap, _∙_, sym}
+use mathlib.Core.Bool.{Bool}
+use mathlib.Core.Logic.{_↔_, _⊎_, inl, inr, ⊎-elim}
+use mathlib.Core.List.{List}
+use Prim.Native.Nat.{ℕ, zero, suc, _+_, _*_, _≤_, _<_, max}
+use native.Mathlib.Nat.{mul-le-mul-right, suc-mul}
+use native.Mathlib.Omega.{arith}
+use lib.ListN.{length, getD, set, length-set, replicate, length-replicate, getD-replicate}
+use lib.Seq.{set-getD, getD-set-same, getD-set-other}
+use Rattle.checker.specs.Turns.{turns}
+use Rattle.checker.specs.Tables.{cell, joinCell, joinRow}
+use Rattle.checker.proofs.Reflects.{Reflects, right, wrong, equal, at-most}
+
+-- a row knows what it knows
+self-turns : (w r n : ℕ) (b : List ℕ) → turns n (joinCell w r r) b ≡ b
+unfolding turns
+self-turns w r zero b = refl
+self-turns w r (suc n) b =
+    ap (joinCell w r r n) (self-turns w r n b)
+    ∙ (ap (set b (r * w + n)) (max-same (cell w b r n)) ∙ set-getD b (r * w + n) 0)
+  where
+    max-same : (x : ℕ) → max x x ≡ x
+    max-same x = omega arith
+
+pub join-self : (w r : ℕ) (b : List ℕ) → b ≡ joinRow w r r b
+unfolding joinRow
+join-self w r b = sym (self-turns w r w b)
+
+-- Definition
+
+-- a table of 96 rows
+pub record Sized (w : ℕ) (b : List ℕ) : Type 0 where
+  pub size : length b ≡ 96 * w
+
+-- the cell of row r and column c is above i
+pub record Above (w : ℕ) (b : List ℕ) (i r c : ℕ) : Type 0 where
+  pub above : i < cell w b r c
+
+-- Size
+
+pub sized-set : {w : ℕ} {b : List ℕ} → Sized w b → (k v : ℕ) → Sized w (set b k v)
+sized-set {b = b} s k v = record { size = length-set b k v ∙ s .size }
+
+pub sized-turns : {w : ℕ} {b : List ℕ} (n : ℕ) {f : ℕ → List ℕ → List ℕ} → ((k : ℕ) (x : List ℕ) → Sized w x → Sized w (f k x)) →
+    Sized w b → Sized w (turns n f b)
+unfolding turns
+sized-turns zero h s = s
+sized-turns (suc n) h s = h n _ (sized-turns n h s)
+
+pub sized-join : {w : ℕ} {b : List ℕ} → Sized w b → (to from : ℕ) → Sized w (joinRow w to from b)
+unfolding joinRow
+sized-join {w} s to from = sized-turns w (λ k x t. sized-set t _ _) s
+
+-- Places
+
+-- a row ends before the next begins
+row-end : (w r q : ℕ) → r < q → r * w + w ≤ q * w
+row-end w r q h = omega (arith, suc-mul r w, mul-le-mul-right w h)
+
+in-table : {w : ℕ} {b : List ℕ} {r c : ℕ} → Sized w b → r < 96 → c < w → r * w + c < length b
+in-table {w} {r = r} s h l = omega (arith, row-end w r 96 h)
+
+-- each place is in one row and one column
+row-at-most : (w r q c d : ℕ) → d < w → r * w + c ≡ q * w + d → r ≤ q
+row-at-most w r q c d l e = decided (at-most r q)
+  where
+    decided : {b : Bool} → Reflects (r ≤ q) b → r ≤ q
+    decided (right h) = h
+    decided (wrong f) = let h : q < r = omega arith in absurd (omega (arith, row-end w q r h))
+
+pub one-place : (w r q c d : ℕ) → c < w → d < w → r * w + c ≡ q * w + d → (r ≡ q) × (c ≡ d)
+one-place w r q c d l m e = (same, omega (arith, ap (λ (k : ℕ). k * w) same))
+  where
+    same : r ≡ q
+    same = omega (arith, row-at-most w r q c d m e, row-at-most w q r d c l (sym e))
+
+-- Stores
+
+pub cell-set-same : {w : ℕ} {b : List ℕ} → Sized w b → (r c v : ℕ) → r < 96 → c < w → cell w (set b (r * w + c) v) r c ≡ v
+cell-set-same {w} {b} s r c v h l = getD-set-same b (r * w + c) v 0 (in-table s h l)
+
+pub cell-set-other : (w : ℕ) (b : List ℕ) (q d v r c : ℕ) → d < w → c < w → ¬ ((r ≡ q) × (c ≡ d)) →
+    cell w (set b (q * w + d) v) r c ≡ cell w b r c
+cell-set-other w b q d v r c m l n = getD-set-other b (q * w + d) (r * w + c) v 0 (λ e. n (one-place w r q c d l m e))
+
+-- Joining a row
+
+module _ {w : ℕ} {b : List ℕ} (s : Sized w b) (to from : ℕ) where
+  -- n turns leave the other rows as they were, and the columns from n on
+  turns-other : (n r c : ℕ) → n ≤ w → c < w → ¬ ((r ≡ to) × (c < n)) → cell w (turns n (joinCell w to from) b) r c ≡ cell w b r c
+  unfolding turns
+  turns-other zero r c h l f = refl
+  turns-other (suc n) r c h l f =
+      cell-set-other w (turns n (joinCell w to from) b) to n _ r c h l (λ x. f (x .0, omega arith))
+      ∙ turns-other n r c (omega arith) l (λ x. f (x .0, omega arith))
+
+  -- and below n the joined row has the greater
+  turns-same : (n c : ℕ) → to < 96 → n ≤ w → c < n → cell w (turns n (joinCell w to from) b) to c ≡ max (cell w b to c) (cell w b from c)
+  unfolding turns
+  turns-same zero c t h l = absurd (omega arith)
+  turns-same (suc n) c t h l = decided (equal c n) (turns-same n c t (omega arith))
+    where
+      past : List ℕ
+      past = turns n (joinCell w to from) b
+
+      -- column n is as it was
+      here : (r : ℕ) → cell w past r n ≡ cell w b r n
+      here r = turns-other n r n (omega arith) h (λ x. omega arith)
+
+      decided : {p : Bool} → Reflects (c ≡ n) p → (c < n → cell w past to c ≡ max (cell w b to c) (cell w b from c)) →
+          cell w (joinCell w to from n past) to c ≡ max (cell w b to c) (cell w b from c)
+      decided (right e) f = rw e (cell-set-same (sized-turns n (λ k x t. sized-set t _ _) s) to n _ t h ∙ (rw (here to, here from)))
+      decided (wrong d) f = cell-set-other w past to n _ to c h (omega arith) (λ x. d (x .1)) ∙ f (omega arith)
+
+pub join-cell-same : {w : ℕ} {b : List ℕ} → Sized w b → (to from c : ℕ) → to < 96 → c < w →
+    cell w (joinRow w to from b) to c ≡ max (cell w b to c) (cell w b from c)
+unfolding joinRow
+join-cell-same {w} s to from c h l = turns-same s to from w c h (omega arith) l
+
+pub join-cell-other : {w : ℕ} {b : List ℕ} → Sized w b → (to from r c : ℕ) → c < w → ¬ (r ≡ to) →
+    cell w (joinRow w to from b) r c ≡ cell w b r c
+unfolding joinRow
+join-cell-other {w} s to from r c l f = turns-other s to from w r c (omega arith) l (λ x. f (x .0))
+
+above-max : (i x y : ℕ) → i < max x y → (i < x) ⊎ (i < y)
+above-max i x y g = decided (at-most (suc i) x)
+  where
+    decided : {p : Bool} → Reflects (i < x) p → (i < x) ⊎ (i < y)
+    decided (right h) = inl h
+    decided (wrong f) = inr (omega arith)
+
+pub join-above : {w : ℕ} {b : List ℕ} {to from i r c : ℕ} → Sized w b → to < 96 → from < 96 → r < 96 → c < w →
+    Above w (joinRow w to from b) i r c ↔ (Above w b i r c ⊎ ((r ≡ to) × Above w b i from c))
+join-above {w} {b} {to} {from} {i} {r} {c} s h k l m = decided (equal r to)
+  where
+    joined : (x : ℕ) → r ≡ to → x ≡ max (cell w b r c) (cell w b from c) → (i < x) ↔ (Above w b i r c ⊎ ((r ≡ to) × Above w b i from c))
+    joined x e q = (
+      λ g. ⊎-elim (λ v. inl (record { above = v })) (λ v. inr (e, record { above = v })) (above-max i _ _ (rw q at g)),
+      λ a. rw q (⊎-elim (λ v. omega arith) (λ v. omega arith) a),
+    )
+
+    decided : {p : Bool} → Reflects (r ≡ to) p → Above w (joinRow w to from b) i r c ↔ (Above w b i r c ⊎ ((r ≡ to) × Above w b i from c))
+    decided (right e) =
+        let j = joined (cell w (joinRow w to from b) r c) e (rw e (join-cell-same s to from c h m)) in
+        (λ a. j .0 (a .above), λ a. record { above = j .1 a })
+    decided (wrong f) =
+        let q = join-cell-other s to from r c m f in
+        (λ a. inl (record { above = rw q at (a .above) }), ⊎-elim (λ a. record { above = rw q (a .above) }) (λ a. absurd (f (a .0))))
+
+-- Fresh tables
+
+pub sized-fresh : (w : ℕ) → Sized w (replicate (96 * w) 0)
+sized-fresh w = record { size = length-replicate (96 * w) 0 }
+
+pub fresh-cell : (w r c : ℕ) → r < 96 → c < w → cell w (replicate (96 * w) 0) r c ≡ 0
+fresh-cell w r c h l = getD-replicate (96 * w) (r * w + c) 0 0 (omega (arith, row-end w r 96 h))

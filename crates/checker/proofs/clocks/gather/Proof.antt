@@ -1,0 +1,30 @@
+-- What a mark can hear is joined to the hub, row by row.
+use Prim.Native.Nat.{_≤_, _-_}
+use native.Mathlib.Omega.{arith}
+use Rattle.checker.specs.Tables.{joinRow, isHeard, rowOrHub, gather}
+use Rattle.checker.proofs.Turns.{Turned, no-turn, one-turn, all-turns}
+use borrow.Author.Needs.{needs}
+use Rattle.checker.proofs.clocks.gather.Statement.{statement}
+use Rattle.checker.proofs.clocks.gather.Tie as tie
+
+abbrev Inv-loop : tie.InvT-loop
+Inv-loop cells₀ mask r₀ cells r = (r ≤ 96) × Turned (λ q b. joinRow 16 32 (rowOrHub (isHeard mask q) q) b) cells₀ r cells
+
+abbrev μ-loop : tie.MeasureT-loop
+μ-loop cells₀ mask r₀ cells r = 96 - r
+
+loop-holds : tie.Need-loop-holds Inv-loop μ-loop
+loop-holds c = (search needs, no-turn)
+
+loop-again : tie.Need-loop-again Inv-loop μ-loop
+loop-again c = (search needs, one-turn (c .before .before .before .before .loop .inv .1) (rw (← c .before .heard-by .ensures .0) (c .join-row .ensures)))
+
+returns : tie.Need-returns Inv-loop μ-loop
+unfolding gather
+returns c = all-turns 96 (c .before .loop .inv .1) (omega arith) (omega arith)
+
+pub gather-spec : {M : Type 1} → statement M
+gather-spec =
+    tie.close (tie.spec
+    Inv-loop μ-loop loop-holds (λ c κs. search needs) (λ c κs. search needs) (λ c. search needs) (λ c. search needs)
+    loop-again returns)

@@ -1,0 +1,11 @@
+use borrow.Author.Needs.{needs}
+use Rattle.checker.proofs.history.latest_number.Statement.{statement}
+use Rattle.checker.proofs.history.latest_number.Tie as tie
+
+returns : tie.Need-returns
+returns c = rw (← c .before .latest-slot .ensures .0)
+
+pub latest-number-spec : {M : Type 1} → statement M
+latest-number-spec =
+    tie.close (tie.spec
+    (λ c κs. search needs) (λ c. search needs) (λ c. search needs) returns)

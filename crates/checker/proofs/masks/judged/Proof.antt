@@ -1,0 +1,24 @@
+-- Race by the fullest mask, Doubt by the arrived one, else Clear.
+use borrow.Author.Tests.{eq-eqb, ne-eqb}
+use Rattle.checker.specs.Step.{judgedBy}
+use borrow.Author.Needs.{needs}
+use Rattle.checker.proofs.masks.judged.Statement.{statement}
+use Rattle.checker.proofs.masks.judged.Tie as tie
+
+returns : tie.Need-returns
+unfolding judgedBy
+returns c = simp (ne-eqb _ _ (c .before .before .if1 .taken), ← c .before .lowest .ensures .0, ← c .latest-number .ensures)
+
+returns-2 : tie.Need-returns-2
+unfolding judgedBy
+returns-2 c = simp (eq-eqb _ _ (c .before .before .before .if1 .left), ne-eqb _ _ (c .before .before .if2 .taken), ← c .before .lowest2 .ensures .0, ← c .latest-number2 .ensures)
+
+returns-3 : tie.Need-returns-3
+unfolding judgedBy
+returns-3 c = simp (eq-eqb _ _ (c .before .if1 .left), eq-eqb _ _ (c .if2 .left))
+
+pub judged-spec : {M : Type 1} → statement M
+judged-spec =
+    tie.close (tie.spec
+    (λ c κs. search needs) (λ c κs. search needs) returns (λ c κs. search needs) (λ c κs. search needs) returns-2
+    returns-3)

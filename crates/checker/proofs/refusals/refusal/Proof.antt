@@ -1,0 +1,15 @@
+-- `checker::refusal::refusal` is the number of the first row that applies. Assumes nothing.
+use borrow.Author.Tests.{lt-ltb}
+use Rattle.checker.specs.Acceptance.{refusalBy}
+use borrow.Author.Needs.{needs}
+use Rattle.checker.proofs.refusals.refusal.Statement.{statement}
+use Rattle.checker.proofs.refusals.refusal.Tie as tie
+
+returns : tie.Need-returns
+unfolding refusalBy
+returns c = rw (lt-ltb 8 (c .before .before .args .r .kind) (c .if1 .taken))
+
+pub refusal-spec : {M : Type 1} → statement M
+refusal-spec =
+    tie.close (tie.spec
+    returns (λ c κs. search needs) (λ c. search needs) (λ c κs. search needs) (λ c. search needs))

@@ -1,0 +1,12 @@
+use Rattle.checker.specs.Step.{freshState}
+use borrow.Author.Needs.{needs}
+use Rattle.checker.proofs.state.fresh.Statement.{statement}
+use Rattle.checker.proofs.state.fresh.Tie as tie
+
+returns : tie.Need-returns
+unfolding freshState
+returns c = rw (c .fresh-control .ensures)
+
+pub fresh-spec : {M : Type 1} → statement M
+fresh-spec = tie.close (tie.spec
+    (λ c κs. search needs) returns)

@@ -1,0 +1,12 @@
+use Rattle.checker.specs.Step.{freshSets}
+use borrow.Author.Needs.{needs}
+use Rattle.checker.proofs.state.fresh_sets.Statement.{statement}
+use Rattle.checker.proofs.state.fresh_sets.Tie as tie
+
+returns : tie.Need-returns
+unfolding freshSets
+returns c = rw (c .fresh-control .ensures)
+
+pub fresh-sets-spec : {M : Type 1} → statement M
+fresh-sets-spec = tie.close (tie.spec
+    (λ c κs. search needs) returns)

@@ -1,0 +1,39 @@
+-- The calls' equations put together.
+use native.Mathlib.Omega.{arith}
+use Rattle.checker.specs.Step.{setStepOf}
+use Rattle.checker.proofs.Accepting.{accepts, set-refused}
+use borrow.Author.Needs.{needs}
+use Rattle.checker.proofs.stepping.set_step_in_place.Statement.{statement}
+use Rattle.checker.proofs.stepping.set_step_in_place.Tie as tie
+
+returns : tie.Need-returns
+unfolding setStepOf
+returns c = rw (← c .before .refusal .ensures) (set-refused _ _ _ (c .if1 .taken))
+
+add-number : tie.Need-add-number
+add-number c = let a = accepts (c .before .before .before .before .args .control .now) (c .before .before .before .before .args .r) _ (c .before .before .refusal .ensures) (c .before .if1 .left) in omega arith
+
+set-masks-requires : tie.Need-set-masks-requires
+set-masks-requires c κs = (accepts (c .before .before .before .before .before .before .before .args .control .now) (c .before .before .before .before .before .before .before .args .r) _ (c .before .before .before .before .before .refusal .ensures) (c .before .before .before .before .if1 .left)) .fits
+
+answered-requires : tie.Need-answered-requires
+answered-requires c κs = (accepts (c .before .before .before .before .before .before .before .before .before .args .control .now) (c .before .before .before .before .before .before .before .before .before .args .r) _ (c .before .before .before .before .before .before .before .refusal .ensures) (c .before .before .before .before .before .before .if1 .left)) .fits
+
+note-requires : tie.Need-note-requires
+note-requires c κs = let a = accepts (c .before .before .before .before .before .before .before .before .before .before .before .before .args .control .now) (c .before .before .before .before .before .before .before .before .before .before .before .before .args .r) _ (c .before .before .before .before .before .before .before .before .before .before .refusal .ensures) (c .before .before .before .before .before .before .before .before .before .if1 .left) in (a .on-task, a .room)
+
+keep-requires : tie.Need-keep-requires
+keep-requires c κs = (accepts (c .before .before .before .before .before .before .before .before .before .before .before .before .before .before .args .control .now) (c .before .before .before .before .before .before .before .before .before .before .before .before .before .before .args .r) _ (c .before .before .before .before .before .before .before .before .before .before .before .before .refusal .ensures) (c .before .before .before .before .before .before .before .before .before .before .before .if1 .left)) .fits
+
+advance-sets-requires : tie.Need-advance-sets-requires
+advance-sets-requires c κs = (accepts (c .before .before .before .before .before .before .before .before .before .before .before .before .before .before .before .before .before .args .control .now) (c .before .before .before .before .before .before .before .before .before .before .before .before .before .before .before .before .before .args .r) _ (c .before .before .before .before .before .before .before .before .before .before .before .before .before .before .before .refusal .ensures) (c .before .before .before .before .before .before .before .before .before .before .before .before .before .before .if1 .left)) .fits
+
+returns-2 : tie.Need-returns-2
+unfolding setStepOf
+returns-2 c = rw (← c .before .before .before .before .before .before .before .before .before .before .before .before .before .before .before .before .refusal .ensures, c .before .before .before .before .before .before .before .before .before .before .before .before .before .before .before .if1 .left, c .before .before .before .before .before .note .ensures, c .before .before .before .keep .ensures, c .advance-sets .ensures .0, c .advance-sets .ensures .1, c .before .before .before .before .before .before .before .before .answered .ensures, c .before .before .before .before .before .before .before .before .before .before .set-masks .ensures)
+
+pub set-step-in-place-spec : {M : Type 1} → statement M
+set-step-in-place-spec =
+    tie.close (tie.spec
+    (λ c κs. search needs) returns (λ c. search needs) add-number set-masks-requires answered-requires
+    (λ c. search needs) note-requires keep-requires advance-sets-requires returns-2)

@@ -1,0 +1,164 @@
+// Clocks: a table of 96 rows and a column for each task. A cell has the number of the task's last record from which order has come
+// to the row's node. One table is for the recording as it arrived, one for the fullest filling.
+use crate::history::is_access;
+use crate::history::latest_number;
+use crate::kinds::LOST;
+use crate::masks::Masks;
+use crate::masks::bit_of;
+use crate::numbers::Task;
+use crate::rows::heard_by;
+use crate::rows::heard_row;
+use crate::rows::told_by;
+use crate::rows::told_row;
+ghost use mathlib.Core.Path.{_≡_};
+ghost use mathlib.Core.Bool.{false};
+ghost use lib.Dec.{eqb};
+ghost use Prim.Native.Nat.{_<_, max};
+ghost use Rattle.checker.specs.Tables.{joinRow, flow, gather, spread, mix};
+ghost use Rattle.checker.specs.Reckonings.{clockAct, clocksArrived, clocksFull, clockApart, clockMask, clockMasks};
+ghost use Rattle.checker.specs.Acceptance.{Fitting};
+
+fn greater(a: u32, b: u32) -> u32
+    ensures { λ r. ⌜ r ≡ max a b ⌝ }
+{
+    if a < b { b } else { a }
+}
+
+// What row `from` knows is known to row `to` as well.
+fn join_row(cells: &mut [u32; 1536], to: usize, from: usize)
+    requires { ⌜ (to < 96) × (from < 96) ⌝ }
+    ensures { λ _. ⌜ now (cells .exit) ≡ joinRow 16 to from (now (cells .entry)) ⌝ }
+{
+    if to == from {
+        return;
+    }
+    let mut c = 0;
+    while c < 16 {
+        cells[to * 16 + c] = greater(cells[to * 16 + c], cells[from * 16 + c]);
+        c += 1;
+    }
+}
+
+// Order over an act: the task's next act knows what the heard row knows, and passes it on.
+fn flow(cells: &mut [u32; 1536], heard: usize, told: usize, task: usize)
+    requires { ⌜ (heard < 96) × (told < 96) × (task < 16) ⌝ }
+    ensures { λ _. ⌜ now (cells .exit) ≡ flow 16 heard told task (now (cells .entry)) ⌝ }
+{
+    join_row(cells, task, heard);
+    join_row(cells, 16 + task, task);
+    join_row(cells, told, task);
+}
+
+// What a mark's lost records can hear comes to the hub.
+fn gather(cells: &mut [u32; 1536], mask: u32)
+    ensures { λ _. ⌜ now (cells .exit) ≡ gather 16 mask (now (cells .entry)) ⌝ }
+{
+    let mut r = 0;
+    while r < 96 {
+        join_row(cells, 32, heard_by(mask, r));
+        r += 1;
+    }
+}
+
+// What the hub knows goes to all that they can tell.
+fn spread(cells: &mut [u32; 1536], mask: u32)
+    ensures { λ _. ⌜ now (cells .exit) ≡ spread 16 mask (now (cells .entry)) ⌝ }
+{
+    let mut r = 0;
+    while r < 96 {
+        join_row(cells, told_by(mask, r), 32);
+        r += 1;
+    }
+}
+
+// The fullest filling of a mark.
+fn mix(cells: &mut [u32; 1536], mask: u32)
+    ensures { λ _. ⌜ now (cells .exit) ≡ mix 16 mask (now (cells .entry)) ⌝ }
+{
+    gather(cells, mask);
+    spread(cells, mask);
+}
+
+// The clocks after an act: the task's own cell is the act's number.
+fn act(cells: &mut [u32; 1536], kind: u8, task: u32, on: u32, number: u32)
+    requires { ⌜ Fitting kind task on ⌝ }
+    ensures { λ _. ⌜ now (cells .exit) ≡ clockAct kind task on number (now (cells .entry)) ⌝ }
+{
+    let t = task as usize;
+    cells[t * 16 + t] = number;
+    flow(
+        cells,
+        heard_row(kind, Task(task), on),
+        told_row(kind, Task(task), on),
+        t,
+    );
+}
+
+// Both tables after an accepted record.
+pub(crate) fn advance_clocks(
+    clocks: &mut [u32; 1536],
+    fullclocks: &mut [u32; 1536],
+    kind: u8,
+    task: u32,
+    on: u32,
+    number: u32,
+)
+    requires { ⌜ (eqb kind 8 ≡ false → Fitting kind task on) ⌝ }
+    ensures { λ _. ⌜ (now (clocks .exit) ≡ clocksArrived kind task on number (now (clocks .entry)))
+        × (now (fullclocks .exit) ≡ clocksFull kind task on number (now (fullclocks .entry))) ⌝ }
+{
+    if kind == LOST {
+        mix(fullclocks, on);
+        return;
+    }
+    act(clocks, kind, task, on, number);
+    act(fullclocks, kind, task, on, number);
+}
+
+// Whether task u's latest conflicting access is not known to the acting task.
+fn apart(cells: &[u32; 1536], last: &[u32; 2048], kind: u8, task: u32, on: u32, u: u32) -> bool
+    requires { ⌜ (task < 16) × (on < 64) × (u < 16) ⌝ }
+    ensures { λ r. ⌜ r ≡ clockApart (now (cells .entry)) (now (last .entry)) kind task on u ⌝ }
+{
+    if u == task {
+        return false;
+    }
+    cells[task as usize * 16 + u as usize] < latest_number(last, kind, on, u)
+}
+
+fn mask(cells: &[u32; 1536], last: &[u32; 2048], kind: u8, task: u32, on: u32) -> u16
+    requires { ⌜ (task < 16) × (on < 64) ⌝ }
+    ensures { λ r. ⌜ r ≡ clockMask (now (cells .entry)) (now (last .entry)) kind task on ⌝ }
+{
+    let mut m: u16 = 0;
+    let mut i: u32 = 0;
+    while i < 16 {
+        m = bit_of(apart(cells, last, kind, task, on, 15 - i)) + 2 * m;
+        i += 1;
+    }
+    m
+}
+
+// The masks of the tasks whose latest conflicting access has no path to this access; empty for any other record.
+pub(crate) fn clock_masks(
+    clocks: &[u32; 1536],
+    fullclocks: &[u32; 1536],
+    last: &[u32; 2048],
+    kind: u8,
+    task: u32,
+    on: u32,
+) -> Masks
+    requires { ⌜ (eqb kind 8 ≡ false → Fitting kind task on) ⌝ }
+    ensures { λ r. ⌜ r ≡ clockMasks (now (clocks .entry)) (now (fullclocks .entry)) (now (last .entry)) kind task on ⌝ }
+{
+    if is_access(kind) {
+        return Masks {
+            full: mask(fullclocks, last, kind, task, on),
+            arrived: mask(clocks, last, kind, task, on),
+        };
+    }
+    Masks {
+        full: 0,
+        arrived: 0,
+    }
+}

@@ -1,0 +1,57 @@
+// The kept accesses: the latest of each variable, task and kind, by its record number.
+use crate::kinds::ACCESSES;
+use crate::kinds::READ;
+use crate::kinds::WRITE;
+ghost use mathlib.Core.Path.{_≡_};
+ghost use mathlib.Core.Bool.{false};
+ghost use lib.Dec.{eqb};
+ghost use Prim.Native.Nat.{_<_};
+ghost use Rattle.checker.specs.Acceptance.{Fitting};
+ghost use Rattle.checker.specs.History.{accesses, slot, latestSlot, latestNumber, lastAfter};
+
+pub(crate) fn is_access(kind: u8) -> bool
+    ensures { λ r. ⌜ r ≡ accesses kind ⌝ }
+{
+    kind < ACCESSES
+}
+
+// Where the access of a kind to variable v by task u is kept.
+pub(crate) fn slot(kind: u8, v: u32, u: u32) -> usize
+    requires { ⌜ (kind < 2) × (v < 64) × (u < 16) ⌝ }
+    ensures { λ r. ⌜ (r ≡ slot kind v u) × (r < 2048) ⌝ }
+{
+    (kind as usize * 64 + v as usize) * 16 + u as usize
+}
+
+// The slot of task u's latest access to v that conflicts with one of this kind.
+pub(crate) fn latest_slot(last: &[u32; 2048], kind: u8, v: u32, u: u32) -> usize
+    requires { ⌜ (v < 64) × (u < 16) ⌝ }
+    ensures { λ r. ⌜ (r ≡ latestSlot (now (last .entry)) kind v u) × (r < 2048) ⌝ }
+{
+    let read = slot(READ, v, u);
+    let write = slot(WRITE, v, u);
+    if kind == WRITE {
+        if last[write] < last[read] {
+            return read;
+        }
+    }
+    write
+}
+
+// Its record number, 0 where there is none.
+pub(crate) fn latest_number(last: &[u32; 2048], kind: u8, v: u32, u: u32) -> u32
+    requires { ⌜ (v < 64) × (u < 16) ⌝ }
+    ensures { λ r. ⌜ r ≡ latestNumber (now (last .entry)) kind v u ⌝ }
+{
+    last[latest_slot(last, kind, v, u)]
+}
+
+// The history after an accepted record.
+pub(crate) fn keep(last: &mut [u32; 2048], kind: u8, task: u32, on: u32, number: u32)
+    requires { ⌜ (eqb kind 8 ≡ false → Fitting kind task on) ⌝ }
+    ensures { λ _. ⌜ now (last .exit) ≡ lastAfter kind task on number (now (last .entry)) ⌝ }
+{
+    if is_access(kind) {
+        last[slot(kind, on, task)] = number;
+    }
+}

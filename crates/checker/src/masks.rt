@@ -1,0 +1,82 @@
+// The tasks that are apart from an access, as masks, and the verdict that they make.
+use crate::answer::Answer;
+use crate::history::is_access;
+use crate::history::latest_number;
+use crate::numbers::RecordNumber;
+ghost use mathlib.Core.Path.{_≡_};
+ghost use Prim.Native.Nat.{_<_, _≤_};
+ghost use Rattle.checker.specs.Reckonings.{bitOf, lowestTask};
+ghost use Rattle.checker.specs.Step.{judgedBy, answeredBy, sameMasks};
+ghost use mathlib.Core.Bool.{false, not};
+ghost use lib.Dec.{eqb};
+ghost use Rattle.checker.specs.Acceptance.{Fitting};
+
+// The tasks whose latest conflicting access has no path to an access: in the fullest filling, and as the recording arrived.
+pub struct Masks {
+    pub full: u16,
+    pub arrived: u16,
+}
+
+pub(crate) fn bit_of(b: bool) -> u16
+    ensures { λ r. ⌜ (r ≡ bitOf b) × (r ≤ 1) ⌝ }
+{
+    if b { 1 } else { 0 }
+}
+
+// The lowest-numbered task of a mask that is not empty.
+fn lowest(mask: u16) -> u32
+    requires { ⌜ (mask ≡ 0 → ⊥) ⌝ }
+    ensures { λ r. ⌜ (r ≡ lowestTask mask) × (r < 16) ⌝ }
+{
+    u16::trailing_zeros(mask)
+}
+
+// The answer to an accepted access.
+pub(crate) fn judged(last: &[u32; 2048], kind: u8, on: u32, number: u32, masks: Masks) -> Answer
+    requires { ⌜ on < 64 ⌝ }
+    ensures { λ r. ⌜ r ≡ judgedBy (now (last .entry)) kind on number (masks .full) (masks .arrived) ⌝ }
+{
+    let full = masks.full;
+    let arrived = masks.arrived;
+    if full != 0 {
+        return Answer::Race(
+            RecordNumber(number),
+            RecordNumber(latest_number(last, kind, on, lowest(full))),
+        );
+    }
+    if arrived != 0 {
+        return Answer::Doubt(
+            RecordNumber(number),
+            RecordNumber(latest_number(last, kind, on, lowest(arrived))),
+        );
+    }
+    Answer::Clear(RecordNumber(number))
+}
+
+// The answer to an accepted record.
+pub(crate) fn answered(
+    last: &[u32; 2048],
+    kind: u8,
+    task: u32,
+    on: u32,
+    number: u32,
+    masks: Masks,
+) -> Answer
+    requires { ⌜ (eqb kind 8 ≡ false → Fitting kind task on) ⌝ }
+    ensures { λ r. ⌜ r ≡ answeredBy (now (last .entry)) kind on number masks ⌝ }
+{
+    if is_access(kind) {
+        return judged(last, kind, on, number, masks);
+    }
+    Answer::Accepted(RecordNumber(number))
+}
+
+// Row 10: whether the two reckonings differ about some path.
+pub(crate) fn differ(a: Masks, b: Masks) -> bool
+    ensures { λ r. ⌜ r ≡ not (sameMasks a b) ⌝ }
+{
+    if a.full == b.full {
+        return a.arrived != b.arrived;
+    }
+    true
+}
