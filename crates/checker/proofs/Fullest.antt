@@ -64,7 +64,7 @@ tells-part {t} {n} l h by-set = carry-append (carry-skip (onEach give t)) (carry
 hub : Node
 hub = semaphore 0
 
-named-task : {mask t : ℕ} → Named mask t → t < tasks
+pub named-task : {mask t : ℕ} → Named mask t → t < tasks
 named-task {mask} {t} d = passed (both (at-most (suc t) tasks) (by-test (bit mask t))) (d .named) .0
 
 -- a named task's part is in the round

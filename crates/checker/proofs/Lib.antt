@@ -9,6 +9,10 @@ pub mod Tables
 pub mod Acting
 pub mod Mixing
 pub mod Bits
+pub mod Nodes
+pub mod Marks
+pub mod Came
+pub mod Exact
 pub mod Ranges
 pub mod Accepting
 pub mod Places
