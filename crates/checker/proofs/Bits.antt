@@ -5,9 +5,10 @@ use Prim.Native.Nat.{ℕ, zero, suc, _+_, _*_, _-_, _^_, _/_, _%_, _≤_, _<_, z
 use native.Mathlib.Nat.{pow-suc}
 use native.Mathlib.Numerals.{add-one}
 use native.Mathlib.Omega.{arith}
-use lib.Count.{trailingZeros, under}
+use lib.Count.{trailingZeros, under, trailing-of-zero}
 use lib.Pow.{pow-mono}
-use Rattle.checker.specs.Reckonings.{bitOf}
+use Rattle.checker.specs.Turns.{turns}
+use Rattle.checker.specs.Reckonings.{bitOf, maskOf, lowestTask}
 
 -- a mask of i bits leaves room for one more
 pub mask-room : (i m : ℕ) → i < 16 → m < 2 ^ i → 2 * m + 1 < 65536
@@ -25,3 +26,87 @@ trailing-lt (suc k) n h l = decided (n % 2) refl (trailing-lt k (n / 2))
     decided : (d : ℕ) → n % 2 ≡ d → (¬ (n / 2 ≡ 0) → n / 2 < 2 ^ k → trailingZeros k (n / 2) < k) → under d (trailingZeros k (n / 2)) < suc k
     decided zero e below = suc-le-suc (below (λ q. h (omega arith)) (omega (arith, pow-suc 2 k)))
     decided (suc d) e below = suc-le-suc zero-le
+
+-- The mask of a test
+
+-- the highest n of the 16 tasks that pass the test, as a mask: bit k is that of task 16 - n + k
+abbrev upper : (ℕ → Bool) → ℕ → ℕ
+upper p n = turns n (λ i m. bitOf (p (15 - i)) + 2 * m) 0
+
+bit-le : (b : Bool) → bitOf b ≤ 1
+bit-le true = omega arith
+bit-le false = omega arith
+
+upper-lt : (p : ℕ → Bool) (n : ℕ) → upper p n < 2 ^ n
+unfolding turns
+upper-lt p zero = omega arith
+upper-lt p (suc n) = rw (add-one n) at (mask-next n (upper p n) (bitOf (p (15 - n))) (upper-lt p n) (bit-le (p (15 - n))))
+
+-- one more bit below a mask
+trailing-next : (n b m : ℕ) → b ≤ 1 → trailingZeros (suc n) (b + 2 * m) ≡ under b (trailingZeros n m)
+unfolding trailingZeros
+trailing-next n b m h =
+    let r : (b + 2 * m) % 2 ≡ b = omega arith in
+    let q : (b + 2 * m) / 2 ≡ m = omega arith in
+    rw (r, q)
+
+-- a count of zeros in a mask of the highest n tasks: the tasks below it fail, and that at it passes
+record Lowest (p : ℕ → Bool) (n z : ℕ) : Type 0 where
+  below : (k : ℕ) → k < z → p (16 - n + k) ≡ false
+  here : z < n → p (16 - n + z) ≡ true
+
+lowest-next : (p : ℕ → Bool) (n z : ℕ) (b : Bool) → n < 16 → p (15 - n) ≡ b → Lowest p n z → Lowest p (suc n) (under (bitOf b) z)
+lowest-next p n z true h e l =
+    record { below = λ k i. absurd (omega arith); here = λ i. let q : 16 - suc n + 0 ≡ 15 - n = omega arith in rw q e }
+lowest-next p n z false h e l = record { below = below; here = λ i. let q : 16 - suc n + suc z ≡ 16 - n + z = omega arith in rw q (l .here (omega arith)) }
+  where
+    below : (k : ℕ) → k < suc z → p (16 - suc n + k) ≡ false
+    below zero i = let q : 16 - suc n + 0 ≡ 15 - n = omega arith in rw q e
+    below (suc k) i = let q : 16 - suc n + suc k ≡ 16 - n + k = omega arith in rw q (l .below k (omega arith))
+
+lowest : (p : ℕ → Bool) (n : ℕ) → n ≤ 16 → Lowest p n (trailingZeros n (upper p n))
+unfolding turns
+lowest p zero h = record { below = λ k i. absurd (none i); here = λ i. absurd (omega arith) }
+  where
+    none : {k : ℕ} → k < trailingZeros zero 0 → ⊥
+    none i = omega (arith, trailing-of-zero 0)
+lowest p (suc n) h =
+    rw (trailing-next n (bitOf (p (15 - n))) (upper p n) (bit-le (p (15 - n))))
+    (lowest-next p n (trailingZeros n (upper p n)) (p (15 - n)) (omega arith) refl (lowest p n (omega arith)))
+
+lowest-of : (p : ℕ → Bool) → Lowest p 16 (lowestTask (maskOf p))
+unfolding maskOf
+lowest-of p = lowest p 16 (omega arith)
+
+-- no task passes the test of an empty mask
+pub mask-none : (p : ℕ → Bool) → maskOf p ≡ 0 → (u : ℕ) → u < 16 → p u ≡ false
+mask-none p e u h =
+    let z : lowestTask (maskOf p) ≡ 16 = rw e (trailing-of-zero 16) in
+    let q : 16 - 16 + u ≡ u = omega arith in
+    rw q at (lowest-of p .below u (omega arith))
+
+-- the lowest task of any other is the lowest that passes
+pub mask-lowest : (p : ℕ → Bool) → ¬ (maskOf p ≡ 0) →
+    (lowestTask (maskOf p) < 16) × (p (lowestTask (maskOf p)) ≡ true) × ((u : ℕ) → u < lowestTask (maskOf p) → p u ≡ false)
+mask-lowest p n =
+    let h : lowestTask (maskOf p) < 16 = trailing-lt 16 (maskOf p) n (mask-lt p) in (
+      h,
+      rw (from-zero (lowestTask (maskOf p))) at (lowest-of p .here h),
+      λ u i. rw (from-zero u) at (lowest-of p .below u i),
+    )
+  where
+    from-zero : (u : ℕ) → 16 - 16 + u ≡ u
+    from-zero u = omega arith
+
+    mask-lt : (p : ℕ → Bool) → maskOf p < 2 ^ 16
+    mask-lt p = unfold maskOf in upper-lt p 16
+
+upper-ext : (p q : ℕ → Bool) → ((u : ℕ) → u < 16 → p u ≡ q u) → (n : ℕ) → upper p n ≡ upper q n
+unfolding turns
+upper-ext p q e zero = refl
+upper-ext p q e (suc n) = rw (e (15 - n) (omega arith), upper-ext p q e n)
+
+-- tests that agree on the tasks have one mask
+pub mask-ext : (p q : ℕ → Bool) → ((u : ℕ) → u < 16 → p u ≡ q u) → maskOf p ≡ maskOf q
+unfolding maskOf
+mask-ext p q e = upper-ext p q e 16

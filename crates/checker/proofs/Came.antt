@@ -83,7 +83,7 @@ module _ {w : Filling} {Chosen : Event → List Event → Type 0} {Stays : Type 
             recent = c .recent;
             occurs = occurs-old x (c .occurs);
             chosen = keeps (c .e) (c .after) .1 (s, c .chosen);
-            reach = r
+            reach = r;
           }
 
       from : (Stays × Onward w Chosen es x i n) ⊎ (Newly Chosen es x i × Tells x n) → Came w Chosen (es ++ (x ∷ [])) i n

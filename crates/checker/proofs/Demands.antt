@@ -140,13 +140,16 @@ unmarked-place (an-act u) (keep c) (suc i) = ap suc (unmarked-place u c i)
 unmarked-racy : {es fs : List Event} {k : ℕ} → Unmarked es → (c : Completion es fs) → Unordered es k → Racy c k
 unmarked-racy {es} {fs} {k} u c (t, i, a, n) = (t, i, a, λ q. n (rw (unmarked-place u c i, unmarked-place u c k, unmarked-filled u c) at q))
 
+-- what is firm without marks is as demand 2 has it
+pub firm-unmarked : {es : List Event} {k : ℕ} {v : Verdict} → Unmarked es → Firm es k v → ((v ≡ Race) ↔ Unordered es k) × ((v ≡ Clear) ↔ (¬ Unordered es k))
+firm-unmarked {es} u f = (
+  (λ e. racy-arrived (arrived-completes es) (f .race .0 e _ (arrived-completes es)), λ x. f .race .1 (λ fs c. unmarked-racy u c x)),
+  (λ e x. f .clear .0 e _ (arrived-completes es) (arrived-racy x), λ n. f .clear .1 (λ fs c r. n (racy-arrived c r))),
+)
+
 -- demand 2
 pub demand2 : Demand2 verdictAt
-demand2 es k u a =
-    let f = demand3 es k a in (
-      (λ e. racy-arrived (arrived-completes es) (f .race .0 e _ (arrived-completes es)), λ x. f .race .1 (λ fs c. unmarked-racy u c x)),
-      (λ e x. f .clear .0 e _ (arrived-completes es) (arrived-racy x), λ n. f .clear .1 (λ fs c r. n (racy-arrived c r))),
-    )
+demand2 es k u a = firm-unmarked u (demand3 es k a)
 
 -- The partner
 

@@ -32,7 +32,7 @@ pub some-occurs : {P : Event → Type 0} {es : List Event} → Some P es → (j 
 some-occurs (this p) = (zero, _, _, first, p)
 some-occurs (further s) = let (j, x, after, o, p) = some-occurs s in (suc j, x, after, next o, p)
 
-occurs-after : {es after after′ : List Event} {i j : ℕ} {e x : Event} → Occurs es i e after → Occurs after j x after′ → (k : ℕ) × (i < k) × Occurs es k x after′
+pub occurs-after : {es after after′ : List Event} {i j : ℕ} {e x : Event} → Occurs es i e after → Occurs after j x after′ → (k : ℕ) × (i < k) × Occurs es k x after′
 occurs-after {j = j} first q = (suc j, omega arith, next q)
 occurs-after (next o) q = let (k, h, r) = occurs-after o q in (suc k, omega arith, next r)
 

@@ -13,8 +13,17 @@ pub mod Nodes
 pub mod Marks
 pub mod Came
 pub mod Exact
+pub mod ExactClocks
+pub mod Slots
+pub mod ExactSets
+pub mod Conflicts
+pub mod Reckoned
+pub mod Masked
+pub mod Represents
+pub mod Feeding
 pub mod Ranges
 pub mod Accepting
+pub mod ExactControl
 pub mod Places
 pub mod Between
 pub mod Bounds
@@ -23,3 +32,4 @@ pub mod Latest
 pub mod Decide
 pub mod Demands
 pub mod Examples
+pub mod Fed

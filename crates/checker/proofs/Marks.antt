@@ -13,7 +13,7 @@ use Rattle.checker.proofs.Fullest.{Heard, Told, named-task}
 use Rattle.checker.proofs.Reach.{heard-due, heard-acted, heard-semaphore, heard-flag, told-due, told-acted, told-semaphore, told-flag}
 use Rattle.checker.proofs.Nodes.{row, InRange, due-in, acted-in, semaphore-in, flag-in}
 
-bit-named : (mask t : ℕ) → t < 16 → T (bit mask t) → Named mask t
+pub bit-named : (mask t : ℕ) → t < 16 → T (bit mask t) → Named mask t
 bit-named mask t h b = record { named = passes (both (at-most (suc t) 16) (by-test (bit mask t))) (h, b) }
 
 named-bit : {mask t : ℕ} → Named mask t → T (bit mask t)

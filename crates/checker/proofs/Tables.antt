@@ -156,3 +156,7 @@ sized-fresh w = record { size = length-replicate (96 * w) 0 }
 
 pub fresh-cell : (w r c : ℕ) → r < 96 → c < w → cell w (replicate (96 * w) 0) r c ≡ 0
 fresh-cell w r c h l = getD-replicate (96 * w) (r * w + c) 0 0 (omega (arith, row-end w r 96 h))
+
+-- nothing is known in a fresh table
+pub fresh-none : (w i r c : ℕ) → r < 96 → c < w → ¬ Above w (replicate (96 * w) 0) i r c
+fresh-none w i r c hr hc a = let h : i < 0 = rw (fresh-cell w r c hr hc) at (a .above) in omega arith

@@ -13,3 +13,4 @@ pub mod History
 pub mod Reckonings
 pub mod Control
 pub mod Step
+pub mod Feeding
