@@ -8,7 +8,7 @@ use Prim.Native.Nat.{ℕ, zero, suc, _+_, _^_, _≤_, _<_}
 use native.Mathlib.Omega.{arith}
 use lib.Dec.{leb, ltb, eqb}
 use lib.ListN.{List·getD-eq-default}
-use borrow.Author.Tests.{le-ltb, ltb-true, ltb-false, leb-false, ne-eqb, eqb-false, not-false}
+use borrow.Author.Tests.{le-leb, lt-leb, le-ltb, ltb-true, ltb-false, leb-false, ne-eqb, eqb-false, not-false}
 use Rattle.checker.specs.declared.record.Record.{Record}
 use Rattle.checker.specs.Limits.{tasks, variables, records}
 use Rattle.checker.specs.Turns.{turns}
@@ -30,6 +30,13 @@ series-pair a k n p q h l = decided (equal k a)
 -- above the ops the series is that of a read
 pub series-above : (k : ℕ) → lossMark ≤ k → seriesOf k ≡ variables
 series-above k h = ap series (List·getD-eq-default ops read h)
+
+-- row 3 of a kind whose series has n numbers
+pub within : (k n on : ℕ) → seriesOf k ≡ n → on < n → false ≡ leb (seriesOf k) on
+within k n on e h = rw e (sym (lt-leb n on h))
+
+pub beyond : (k n on : ℕ) → seriesOf k ≡ n → n ≤ on → true ≡ leb (seriesOf k) on
+beyond k n on e h = rw e (sym (le-leb n on h))
 
 -- Rows that do not apply
 

@@ -9,11 +9,12 @@ use crate::kinds::LOST;
 use crate::kinds::SET;
 use crate::kinds::START;
 use crate::kinds::TAKE;
-use crate::limits::FLAGS;
+use crate::limits::LAST_FLAG;
+use crate::limits::LAST_SEMAPHORE;
+use crate::limits::LAST_TASK;
+use crate::limits::LAST_VARIABLE;
 use crate::limits::RECORDS;
-use crate::limits::SEMAPHORES;
 use crate::limits::TASKS;
-use crate::limits::VARIABLES;
 use crate::record::Record;
 use crate::rows::has_bit;
 ghost use mathlib.Core.Path.{_≡_};
@@ -47,10 +48,22 @@ fn outside(kind: u8, on: u32) -> bool
     ensures { λ r. ⌜ r ≡ leb (seriesOf kind) on ⌝ }
 {
     match kind {
-        TAKE | GIVE => SEMAPHORES <= on,
-        LOOK | SET => FLAGS <= on,
-        START | JOIN => TASKS <= on,
-        _ => VARIABLES <= on,
+        TAKE | GIVE => match on {
+            0..=LAST_SEMAPHORE => false,
+            _ => true,
+        },
+        LOOK | SET => match on {
+            0..=LAST_FLAG => false,
+            _ => true,
+        },
+        START | JOIN => match on {
+            0..=LAST_TASK => false,
+            _ => true,
+        },
+        _ => match on {
+            0..=LAST_VARIABLE => false,
+            _ => true,
+        },
     }
 }
 

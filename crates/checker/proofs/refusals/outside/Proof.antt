@@ -1,23 +1,50 @@
--- `checker::refusal::outside` compares with the series of the kind. Assumes nothing.
+-- `checker::refusals::outside` compares with the series of the kind. Assumes nothing.
 use mathlib.Core.Path.{refl}
 use mathlib.Core.Logic.{⊎-elim}
 use native.Mathlib.Omega.{arith}
-use Rattle.checker.proofs.Acceptance.{series-pair, series-above}
+use Rattle.checker.proofs.Acceptance.{series-pair, series-above, within, beyond}
 use Rattle.checker.proofs.refusals.outside.Statement.{statement}
 use Rattle.checker.proofs.refusals.outside.Tie as tie
 
 returns : tie.Need-returns
-returns c = rw (series-pair 2 (c .before .before .args .kind) 32 refl refl (c .before .if1 .left) (c .if2 .taken))
+returns c =
+    let a = c .before .before .before .args in
+    within (a .kind) 32 (a .on) (series-pair 2 (a .kind) 32 refl refl (c .before .before .if1 .left) (c .before .if2 .taken)) (c .if3 .taken)
 
 returns-2 : tie.Need-returns-2
-returns-2 c = rw (series-pair 4 (c .before .before .before .args .kind) 32 refl refl (c .before .if2 .left) (c .if3 .taken))
+returns-2 c =
+    let a = c .before .before .before .args in
+    beyond (a .kind) 32 (a .on) (series-pair 2 (a .kind) 32 refl refl (c .before .before .if1 .left) (c .before .if2 .taken)) (c .if3 .left)
 
 returns-3 : tie.Need-returns-3
-returns-3 c = rw (series-pair 6 (c .before .before .before .before .args .kind) 16 refl refl (c .before .if3 .left) (c .if4 .taken))
+returns-3 c =
+    let a = c .before .before .before .before .args in
+    within (a .kind) 32 (a .on) (series-pair 4 (a .kind) 32 refl refl (c .before .before .if2 .left) (c .before .if4 .taken)) (c .if5 .taken)
 
 returns-4 : tie.Need-returns-4
-returns-4 c = rw (⊎-elim (λ w. series-pair 0 (c .before .args .kind) 64 refl refl (omega arith) (w .taken)) (λ w. series-above (c .before .args .kind) (w .3 .left)) (c .if1 .came))
+returns-4 c =
+    let a = c .before .before .before .before .args in
+    beyond (a .kind) 32 (a .on) (series-pair 4 (a .kind) 32 refl refl (c .before .before .if2 .left) (c .before .if4 .taken)) (c .if5 .left)
+
+returns-5 : tie.Need-returns-5
+returns-5 c =
+    let a = c .before .before .before .before .before .args in
+    within (a .kind) 16 (a .on) (series-pair 6 (a .kind) 16 refl refl (c .before .before .if4 .left) (c .before .if6 .taken)) (c .if7 .taken)
+
+returns-6 : tie.Need-returns-6
+returns-6 c =
+    let a = c .before .before .before .before .before .args in
+    beyond (a .kind) 16 (a .on) (series-pair 6 (a .kind) 16 refl refl (c .before .before .if4 .left) (c .before .if6 .taken)) (c .if7 .left)
+
+returns-7 : tie.Need-returns-7
+returns-7 c =
+    let a = c .before .before .args in
+    within (a .kind) 64 (a .on) (⊎-elim (λ w. series-pair 0 (a .kind) 64 refl refl (omega arith) (w .taken)) (λ w. series-above (a .kind) (w .3 .left)) (c .before .if1 .came)) (c .if8 .taken)
+
+returns-8 : tie.Need-returns-8
+returns-8 c =
+    let a = c .before .before .args in
+    beyond (a .kind) 64 (a .on) (⊎-elim (λ w. series-pair 0 (a .kind) 64 refl refl (omega arith) (w .taken)) (λ w. series-above (a .kind) (w .3 .left)) (c .before .if1 .came)) (c .if8 .left)
 
 pub outside-spec : {M : Type 1} → statement M
-outside-spec = tie.close (tie.spec
-    returns returns-2 returns-3 returns-4)
+outside-spec = tie.close (tie.spec returns returns-2 returns-3 returns-4 returns-5 returns-6 returns-7 returns-8)

@@ -1,0 +1,18 @@
+-- `cases::full::by_both` is safe and ends. Assumes nothing.
+use Prim.Native.Nat.{_-_}
+use borrow.Author.Needs.{needs}
+use Rattle.cases.proofs.full.by_both.Statement.{statement}
+use Rattle.cases.proofs.full.by_both.Tie as tie
+
+abbrev Inv-loop : tie.InvT-loop
+Inv-loop control₀ last₀ clocks₀ fullclocks₀ sets₀ fullsets₀ n₀ control last clocks fullclocks sets fullsets n = Unit
+
+abbrev μ-loop : tie.MeasureT-loop
+μ-loop control₀ last₀ clocks₀ fullclocks₀ sets₀ fullsets₀ n₀ control last clocks fullclocks sets fullsets n = 60_005 - n
+
+pub by-both-spec : {M : Type 1} → statement M
+by-both-spec =
+    tie.close (tie.spec
+    Inv-loop μ-loop (λ c. search needs) (λ c κs. search needs) (λ c κs. search needs) (λ c. search needs)
+    (λ c κs. search needs) (λ c κs. search needs) (λ c κs. search needs) (λ c. search needs) (λ c. search needs)
+    (λ c. search needs) (λ c. search needs))

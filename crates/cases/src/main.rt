@@ -1,0 +1,25 @@
+// Feeds the recordings of document 01 to the order checker and prints each answer. The file `stdout` has what document 01 says.
+mod edges;
+mod feeding;
+mod full;
+mod recordings;
+mod telling;
+mod text;
+
+fn main() {
+    recordings::short();
+    recordings::lossy();
+    recordings::longer();
+    recordings::by_value();
+    recordings::refused();
+    edges::rows();
+    edges::first_row();
+    edges::series();
+    edges::tasks();
+    edges::huge();
+    edges::masks();
+    edges::all_tasks();
+    full::by_both();
+    full::by_clocks();
+    full::by_sets();
+}

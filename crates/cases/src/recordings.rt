@@ -1,0 +1,51 @@
+// The recordings of document 01, and a few more.
+use crate::feeding::run;
+use crate::feeding::run_both;
+use crate::feeding::run_by_value;
+
+// Short recordings without loss.
+pub fn short() {
+    run(b"K1", b"");
+    run(b"K2", b"0+1 0w5 1r5");
+    run(b"K3", b"0w5 0+1 1r5");
+    run(b"K4", b"0+1 1w5 0-1 0w5");
+    run(b"K5", b"0+1 0r5 1r5");
+    run(b"K6", b"0+1 0w5 0l3 1s3 1w5");
+    run(b"K7", b"0+1 0+2 1w5 1g4 2g4 0t4 0r5");
+}
+
+// Short recordings with loss.
+pub fn lossy() {
+    run(b"K8", b"0+1 0w5 1w5 _?3");
+    run(b"K9", b"0+1 0w5 _?3 1w5");
+    run(b"K10", b"0+1 0w5 _?2 1w5");
+    run(b"K11", b"0+1 0w5 _?1 1w5");
+    run(b"K11 with a take", b"0+1 0w5 _?1 1t9 1w5");
+    run(b"K12", b"0+1 0w5 _?1 _?2 1w5");
+    run(b"K12 reversed", b"0+1 0w5 _?2 _?1 1w5");
+}
+
+// A task that is joined without having acted passes no order on, but a lost act of it may have. An older access is not forgotten.
+// The report's example of document 01.
+pub fn longer() {
+    run(b"idle task", b"0+2 0w5 0+1 2-1 2r5");
+    run(b"idle task with a loss", b"0+2 0w5 0+1 _?2 2-1 2r5");
+    run(b"older access", b"0+1 0+2 1w5 2w5 2g4 0t4 0w5");
+    run(b"report", b"0+1 0w5 0g2 0w6 _?2 1r5 1r6 1t2 1w5 2r5");
+}
+
+pub fn by_value() {
+    run_by_value(b"K9 by value", b"0+1 0w5 _?3 1w5");
+    run_by_value(b"K12 by value", b"0+1 0w5 _?1 _?2 1w5");
+    run_by_value(b"K12 reversed by value", b"0+1 0w5 _?2 _?1 1w5");
+}
+
+// Refused records between accepted ones.
+pub fn refused() {
+    run_both(
+        b"refused records are not counted",
+        b"0+1 2r5 0w5 0+1 _?4 1r5",
+        true,
+    );
+    run_both(b"an ended task", b"0+1 0-1 1r5 0+1 0-1 _?2", false);
+}

@@ -1,0 +1,49 @@
+// What is printed of an answer: a line each.
+use checker::Answer;
+use checker::RecordNumber;
+
+pub fn line(text: &[u8]) {
+    io::write_all(1, text);
+    io::write_all(1, b"\n");
+}
+
+fn number(n: u32) {
+    io::print_decimal(1, n as u64);
+}
+
+// A word with the number that belongs to it.
+fn told(word: &[u8], n: u32) {
+    io::write_all(1, word);
+    number(n);
+    io::write_all(1, b"\n");
+}
+
+pub fn tell(a: Answer) {
+    match a {
+        Answer::Refused(row) => told(b"refused ", row),
+        Answer::Accepted(_) => line(b"accepted"),
+        Answer::Clear(_) => line(b"clear"),
+        Answer::Race(_, with) => told(b"race ", with.0),
+        Answer::Doubt(_, with) => told(b"doubt ", with.0),
+    }
+}
+
+fn number_of(a: Answer) -> u32 {
+    match a {
+        Answer::Refused(_) => 0,
+        Answer::Accepted(n) => n.0,
+        Answer::Clear(n) => n.0,
+        Answer::Race(n, _) => n.0,
+        Answer::Doubt(n, _) => n.0,
+    }
+}
+
+// The same after the record's own number; a refused one has none.
+pub fn tell_numbered(a: Answer) {
+    let n = number_of(a);
+    if n != 0 {
+        number(n);
+        io::write_all(1, b" ");
+    }
+    tell(a);
+}
