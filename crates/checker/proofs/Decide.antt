@@ -129,18 +129,18 @@ module _ {g : ℕ → List Event} {f : Event} where
 -- `Far i` is that the access at place i is apart from the one at place k; it has to agree with the filling g
 module _ (g : ℕ → List Event) (Far : ℕ → Type 0) {es before : List Event} {k : ℕ} {p : Op} {u m : ℕ} (d : Ends es k before (act p u m))
     (agree : (i : ℕ) (o : Op) (t n : ℕ) (mid : List Event) → Occurs before i (act o t n) mid → Far i ↔ (¬ Leads (act o t n) (fillWith g mid) (act p u m))) where
-  candidate-latest : {t i : ℕ} → Candidate g (act p u m) before t i → Latest es t i k
+  pub candidate-latest : {t i : ℕ} → Candidate g (act p u m) before t i → Latest es t i k
   candidate-latest c =
       let a = c .apart in
       final-latest d (record { x = c .e; after = c .after; occurs = c .occurs; acting = a .acting; conflict = a .conflict; none = a .none })
 
-  candidate-far : {t i : ℕ} → Candidate g (act p u m) before t i → Far i
+  pub candidate-far : {t i : ℕ} → Candidate g (act p u m) before t i → Far i
   candidate-far c = of-act (c .apart .acting) (c .occurs) (c .apart .unordered)
     where
       of-act : {t i : ℕ} {e : Event} {mid : List Event} → ActsIn t e → Occurs before i e mid → ¬ Leads e (fillWith g mid) (act p u m) → Far i
       of-act acts o l = agree _ _ _ _ _ o .1 l
 
-  far-candidate : {t i : ℕ} → Latest es t i k → Far i → Candidate g (act p u m) before t i
+  pub far-candidate : {t i : ℕ} → Latest es t i k → Far i → Candidate g (act p u m) before t i
   far-candidate l h =
       let a = latest-final d l in
       record { e = a .x; after = a .after; occurs = a .occurs; apart = record { acting = a .acting; conflict = a .conflict; none = a .none; unordered = of-act (a .acting) (a .occurs) h } }

@@ -18,7 +18,7 @@ use Rattle.checker.proofs.Demands.{Ruling, judge-ruling, ruling-firm, r
 
 -- The answers to a recording are right
 
-ends-middle : (before : List Event) {f : Event} (rest : List Event) → Ends (before ++ (f ∷ rest)) (length before) before f
+pub ends-middle : (before : List Event) {f : Event} (rest : List Event) → Ends (before ++ (f ∷ rest)) (length before) before f
 ends-middle [] rest = ends
 ends-middle (x ∷ before) rest = onward (ends-middle before rest)
 

@@ -88,7 +88,7 @@ shape-of es r e = decided (equal (r .kind) 8)
 
 -- Acts of a known op
 
-event-act : (o : Op) (t n : ℕ) → eventOf (record { kind = kind o; task = t; on = n }) ≡ act o t n
+pub event-act : (o : Op) (t n : ℕ) → eventOf (record { kind = kind o; task = t; on = n }) ≡ act o t n
 event-act read t n = refl
 event-act write t n = refl
 event-act take t n = refl
@@ -118,7 +118,7 @@ no-mark Op.set = refl
 no-mark start = refl
 no-mark join = refl
 
-on-series : (o : Op) {t n : ℕ} → Fitting (kind o) t n → n < series o
+pub on-series : (o : Op) {t n : ℕ} → Fitting (kind o) t n → n < series o
 on-series o {n = n} f = subst (λ (s : ℕ). n < s) (series-op o) (f .on-fits)
 
 -- What a state holds of a recording
@@ -312,21 +312,32 @@ fed-to-sets es s (r ∷ rs) x =
     let (e, y) = set-fed-one es s r x in
     rw (e, fed-to-sets (joined es r (refusal es r)) ((setStepOf s r) .state) rs y)
 
--- whatever is fed from a fresh state
-pub fed-answers : (rs : List Record) → fed rs ≡ answersFrom [] rs
+-- the fresh states represent the empty recording
+
+pub fresh-represents : Represents [] freshState
 unfolding freshState
-fed-answers rs =
-    fed-to [] freshState rs
-    (record {
+fresh-represents =
+    record {
       base = fresh-base;
       clocks = record { as-arrived = fresh-clocks; in-full = fresh-clocks };
       sets = record { as-arrived = fresh-sets; in-full = fresh-sets };
-    })
+    }
+
+pub fresh-represents-clocks : RepresentsClocks [] freshClocks
+unfolding freshClocks
+fresh-represents-clocks = record { base = fresh-base; clocks = record { as-arrived = fresh-clocks; in-full = fresh-clocks } }
+
+pub fresh-represents-sets : RepresentsSets [] freshSets
+unfolding freshSets
+fresh-represents-sets = record { base = fresh-base; sets = record { as-arrived = fresh-sets; in-full = fresh-sets } }
+
+-- whatever is fed from a fresh state
+
+pub fed-answers : (rs : List Record) → fed rs ≡ answersFrom [] rs
+fed-answers rs = fed-to [] freshState rs fresh-represents
 
 pub clock-fed-answers : (rs : List Record) → clockFed rs ≡ answersFrom [] rs
-unfolding freshClocks
-clock-fed-answers rs = fed-to-clocks [] freshClocks rs (record { base = fresh-base; clocks = record { as-arrived = fresh-clocks; in-full = fresh-clocks } })
+clock-fed-answers rs = fed-to-clocks [] freshClocks rs fresh-represents-clocks
 
 pub set-fed-answers : (rs : List Record) → setFed rs ≡ answersFrom [] rs
-unfolding freshSets
-set-fed-answers rs = fed-to-sets [] freshSets rs (record { base = fresh-base; sets = record { as-arrived = fresh-sets; in-full = fresh-sets } })
+set-fed-answers rs = fed-to-sets [] freshSets rs fresh-represents-sets

@@ -33,3 +33,4 @@ pub mod Decide
 pub mod Demands
 pub mod Examples
 pub mod Fed
+pub mod Paths

@@ -1,6 +1,7 @@
 -- Feeding a list of records one after the other from a fresh state, and the demands on what it answers. A record may be of any kind,
 -- known or not, and refused ones are fed too. proofs/Fed.antt proves the demands of the clocks, of the sets, and of the step with both.
-use Prim.Native.Nat.{ℕ, zero, suc, _≤_}
+use Prim.Native.Nat.{ℕ, zero, suc, _≤_, _<_}
+use lib.Dec.{T}
 use mathlib.Core.Path.{_≡_}
 use mathlib.Core.Bool.{Bool, true, false, cond}
 use mathlib.Core.Logic.{_↔_, _⊎_}
@@ -16,10 +17,12 @@ use Rattle.checker.specs.declared.state.ClockState.{ClockState}
 use Rattle.checker.specs.declared.state.SetState.{SetState}
 use Rattle.checker.specs.Recording.{Event, act, lost, kind, lossMark, Unmarked, eventOf}
 use Rattle.checker.specs.Acceptance.{refusal, joined, recording}
-use Rattle.checker.specs.Verdict.{Verdict, Race, Clear, Doubt, AccessAt, Unordered, With}
+use Rattle.checker.specs.Verdict.{Verdict, Race, Clear, Doubt, AccessAt, Unordered, Latest, ApartAsArrived, ApartInAll, With}
 use Rattle.checker.specs.Demands.{Firm}
 use Rattle.checker.specs.Decide.{Judgement, judge, isAccessEvent}
+use Rattle.checker.specs.Limits.{tasks}
 use Rattle.checker.specs.History.{accesses}
+use Rattle.checker.specs.Reckonings.{clockApart, setApart}
 use Rattle.checker.specs.Decide
 use Rattle.checker.specs.Examples.{Example, table}
 use Rattle.checker.specs.Step.{recordNumber, nextNumber, stepOf, clockStepOf, setStepOf, freshState, freshClocks, freshSets}
@@ -136,6 +139,40 @@ answerTo es r = answerBy es r (refusal es r)
 abbrev pub answersFrom : List Event → List Record → List Answer
 answersFrom es [] = []
 answersFrom es (r ∷ rs) = answerTo es r ∷ answersFrom (joined es r (refusal es r)) rs
+
+-- Each reckoning on its own says "path" exactly where Order has one
+
+abbrev pub clocksAfter : ClockState → List Record → ClockState
+clocksAfter s [] = s
+clocksAfter s (r ∷ rs) = clocksAfter ((clockStepOf s r) .state) rs
+
+abbrev pub setsAfter : SetState → List Record → SetState
+setsAfter s [] = s
+setsAfter s (r ∷ rs) = setsAfter ((setStepOf s r) .state) rs
+
+-- for the access f after the recording es: the tasks that pass the tests are those whose latest conflicting access has no path to f, as
+-- it arrived and in any completion
+pub record SaysPaths (es : List Event) (f : Event) (asArrived inFull : ℕ → Bool) : Type 0 where
+  pub as-arrived : (u : ℕ) → u < tasks →
+      T (asArrived u) ↔ ((i : ℕ) × Latest (es ++ (f ∷ [])) u i (length es) × ApartAsArrived (es ++ (f ∷ [])) (length es) i)
+  pub in-full : (u : ℕ) → u < tasks → T (inFull u) ↔ ((i : ℕ) × Latest (es ++ (f ∷ [])) u i (length es) × ApartInAll (es ++ (f ∷ [])) (length es) i)
+
+-- whatever was fed before, for every access that is accepted then. The masks are made of these tests, task by task.
+abbrev pub ClockPaths : Type 0
+ClockPaths =
+    (rs : List Record) (r : Record) →
+    refusal (recording rs) r ≡ 0 →
+    accesses (r .kind) ≡ true →
+    let s : ClockState = clocksAfter freshClocks rs in
+    SaysPaths (recording rs) (eventOf r) (clockApart (s .clocks) (s .last) (r .kind) (r .task) (r .on)) (clockApart (s .fullclocks) (s .last) (r .kind) (r .task) (r .on))
+
+abbrev pub SetPaths : Type 0
+SetPaths =
+    (rs : List Record) (r : Record) →
+    refusal (recording rs) r ≡ 0 →
+    accesses (r .kind) ≡ true →
+    let s : SetState = setsAfter freshSets rs in
+    SaysPaths (recording rs) (eventOf r) (setApart (s .sets) (s .last) (r .kind) (r .task) (r .on)) (setApart (s .fullsets) (s .last) (r .kind) (r .task) (r .on))
 
 -- Demand 1, for records: in any state a record is refused with a number of the table, and the state is as it was, or it is taken in, an
 -- access with a verdict
