@@ -2,6 +2,8 @@
 use crate::kinds::ACCESSES;
 use crate::kinds::READ;
 use crate::kinds::WRITE;
+use crate::numbers::Task;
+use crate::numbers::Variable;
 ghost use mathlib.Core.Path.{_≡_};
 ghost use mathlib.Core.Bool.{false};
 ghost use lib.Dec.{eqb};
@@ -16,11 +18,11 @@ pub(crate) fn is_access(kind: u8) -> bool
 }
 
 // Where the access of a kind to variable v by task u is kept.
-pub(crate) fn slot(kind: u8, v: u32, u: u32) -> usize
-    requires { ⌜ (kind < 2) × (v < 64) × (u < 16) ⌝ }
-    ensures { λ r. ⌜ (r ≡ slot kind v u) × (r < 2048) ⌝ }
+pub(crate) fn slot(kind: u8, v: Variable, u: Task) -> usize
+    requires { ⌜ (kind < 2) × (v .0 < 64) × (u .0 < 16) ⌝ }
+    ensures { λ r. ⌜ (r ≡ slot kind (v .0) (u .0)) × (r < 2048) ⌝ }
 {
-    (kind as usize * 64 + v as usize) * 16 + u as usize
+    (kind as usize * 64 + v.0 as usize) * 16 + u.0 as usize
 }
 
 // The slot of task u's latest access to v that conflicts with one of this kind.
@@ -28,8 +30,8 @@ pub(crate) fn latest_slot(last: &[u32; 2048], kind: u8, v: u32, u: u32) -> usize
     requires { ⌜ (v < 64) × (u < 16) ⌝ }
     ensures { λ r. ⌜ (r ≡ latestSlot (now (last .entry)) kind v u) × (r < 2048) ⌝ }
 {
-    let read = slot(READ, v, u);
-    let write = slot(WRITE, v, u);
+    let read = slot(READ, Variable(v), Task(u));
+    let write = slot(WRITE, Variable(v), Task(u));
     if kind == WRITE {
         if last[write] < last[read] {
             return read;
@@ -52,6 +54,6 @@ pub(crate) fn keep(last: &mut [u32; 2048], kind: u8, task: u32, on: u32, number:
     ensures { λ _. ⌜ now (last .exit) ≡ lastAfter kind task on number (now (last .entry)) ⌝ }
 {
     if is_access(kind) {
-        last[slot(kind, on, task)] = number;
+        last[slot(kind, Variable(on), Task(task))] = number;
     }
 }

@@ -9,6 +9,7 @@ use crate::kinds::LOST;
 use crate::masks::Masks;
 use crate::masks::bit_of;
 use crate::numbers::Task;
+use crate::numbers::Variable;
 use crate::rows::heard_by;
 use crate::rows::heard_row;
 use crate::rows::told_by;
@@ -100,7 +101,7 @@ fn own(cells: &mut [u8; 196608], kind: u8, task: u32, on: u32)
     ensures { λ _. ⌜ now (cells .exit) ≡ setOwn kind task on (now (cells .entry)) ⌝ }
 {
     if is_access(kind) {
-        let s = slot(kind, on, task);
+        let s = slot(kind, Variable(on), Task(task));
         clear_column(cells, s);
         cells[task as usize * 2048 + s] = 1;
     }
