@@ -6,6 +6,7 @@ use crate::kinds::GIVE;
 use crate::kinds::JOIN;
 use crate::kinds::LOOK;
 use crate::kinds::LOST;
+use crate::kinds::READ;
 use crate::kinds::SET;
 use crate::kinds::START;
 use crate::kinds::TAKE;
@@ -183,11 +184,10 @@ fn act_refusal(control: &[u32; 17], r: Record) -> u32
 pub fn refusal(control: &[u32; 17], r: Record) -> u32
     ensures { λ n. ⌜ n ≡ refusalIn (now (control .entry)) r ⌝ }
 {
-    if LOST < r.kind {
-        return 1;
+    let kind = r.kind;
+    match kind {
+        READ..=JOIN => act_refusal(control, r),
+        LOST => mark_refusal(control, r),
+        _ => 1,
     }
-    if r.kind == LOST {
-        return mark_refusal(control, r);
-    }
-    act_refusal(control, r)
 }
