@@ -7,7 +7,7 @@ use native.Mathlib.Nat.{le-refl, le-of-suc-le-suc, not-suc-le-zero, zero-add, su
 use native.Mathlib.Omega.{arith}
 use lib.ListN.{length}
 use Rattle.checker.specs.Recording.{Op, Event, act, lost, At}
-use Rattle.checker.specs.Order.{Path}
+use Rattle.checker.specs.Order.{HappensBefore}
 use Rattle.checker.specs.Completion.{Filler, Every, Filled, done, keep, fill, Completion, place, fillWith}
 use Rattle.checker.proofs.Leads.{Leads, Is, is, filled-is, filled-with}
 use Rattle.checker.proofs.Places.{Ends, ends, onward, Occurs, first, next, leads-path, path-leads}
@@ -74,7 +74,7 @@ module _ (g : ℕ → List Event) (fillers : (mask : ℕ) → Every (Filler mask
 
   -- what stands between two arrived records in that completion is what stood between them, filled in by g
   pub completes-between : {es before mid : List Event} {i k : ℕ} {o p : Op} {t u n m : ℕ} → Ends es k before (act p u m) → Occurs before i (act o t n) mid →
-      Path (fillWith g es) (place (completes es) i) (place (completes es) k) ↔ Leads (act o t n) (fillWith g mid) (act p u m)
+      HappensBefore (fillWith g es) (place (completes es) i) (place (completes es) k) ↔ Leads (act o t n) (fillWith g mid) (act p u m)
   unfolding completes
   completes-between {es} {i = i} {k = k} d o =
       let b = between (filled-with g es) d o in

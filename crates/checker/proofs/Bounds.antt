@@ -5,7 +5,7 @@ use mathlib.Core.List.{List}
 use Prim.Native.Nat.{ℕ, suc, _≤_, _<_}
 use native.Mathlib.Omega.{arith}
 use Rattle.checker.specs.Recording.{Op, Event, act, At}
-use Rattle.checker.specs.Order.{Path}
+use Rattle.checker.specs.Order.{HappensBefore}
 use Rattle.checker.specs.Completion.{Filled, Completion, place, fillWith, nothing, rounds, fullest}
 use Rattle.checker.specs.Verdict.{ApartInAll, ApartAsArrived}
 use Rattle.checker.proofs.Reflects.{Reflects, right, wrong, at-most}
@@ -25,7 +25,7 @@ fullest-completes = completes rounds filler-rounds
 -- Paths in between
 
 pub path-survives : {F : ℕ → List Event → Type 0} {es fs : List Event} {i k : ℕ} {o p : Op} {t u n m : ℕ} (c : Filled F es fs) →
-    At es i (act o t n) → At es k (act p u m) → Path es i k → Path fs (place c i) (place c k)
+    At es i (act o t n) → At es k (act p u m) → HappensBefore es i k → HappensBefore fs (place c i) (place c k)
 path-survives c ai ak p =
     let (before, d) = at-ends ak in
     let (mid, o) = at-occurs d ai (path-later p) in
@@ -33,7 +33,7 @@ path-survives c ai ak p =
     leads-path (b .to) (b .from) (leads-survives (b .filled) (path-leads d o p))
 
 -- a path of a filled list leads to a later record
-placed-later : {F : ℕ → List Event → Type 0} {es fs : List Event} {i k : ℕ} (c : Filled F es fs) → Path fs (place c i) (place c k) → i < k
+placed-later : {F : ℕ → List Event → Type 0} {es fs : List Event} {i k : ℕ} (c : Filled F es fs) → HappensBefore fs (place c i) (place c k) → i < k
 placed-later {i = i} {k = k} c p = decided (at-most (suc i) k)
   where
     decided : {b : _} → Reflects (i < k) b → i < k
@@ -41,7 +41,7 @@ placed-later {i = i} {k = k} c p = decided (at-most (suc i) k)
     decided (wrong n) = let l = path-later p in let m = place-mono c k i (omega arith) in absurd (omega arith)
 
 pub path-most : {es fs : List Event} {i k : ℕ} {o p : Op} {t u n m : ℕ} (c : Completion es fs) → At es i (act o t n) → At es k (act p u m) →
-    Path fs (place c i) (place c k) → Path (fullest es) (place (fullest-completes es) i) (place (fullest-completes es) k)
+    HappensBefore fs (place c i) (place c k) → HappensBefore (fullest es) (place (fullest-completes es) i) (place (fullest-completes es) k)
 unfolding fullest-completes
 path-most c ai ak p =
     let (before, d) = at-ends ak in
@@ -50,7 +50,7 @@ path-most c ai ak p =
     completes-between rounds filler-rounds d o .1 (leads-most (b .filled) (path-leads (b .to) (b .from) p))
 
 pub path-arrived : {es : List Event} {i k : ℕ} {o p : Op} {t u n m : ℕ} → At es i (act o t n) → At es k (act p u m) →
-    Path (fillWith nothing es) (place (arrived-completes es) i) (place (arrived-completes es) k) → Path es i k
+    HappensBefore (fillWith nothing es) (place (arrived-completes es) i) (place (arrived-completes es) k) → HappensBefore es i k
 unfolding arrived-completes
 path-arrived {es} ai ak p =
     let (before, d) = at-ends ak in

@@ -9,7 +9,7 @@ use native.Mathlib.Omega.{arith}
 use lib.ListN as ListN
 use lib.ListN.{getD}
 use Rattle.checker.specs.Recording.{Op, Event, act, lost, At, ActsIn, acts, Unmarked, no-events, an-act}
-use Rattle.checker.specs.Order.{Path, Conflict, conflict}
+use Rattle.checker.specs.Order.{HappensBefore, Conflict, conflict}
 use Rattle.checker.specs.Completion.{Filled, done, keep, fill, Completion, place, fillWith, nothing, rounds, fullest}
 use Rattle.checker.specs.Verdict.{Verdict, Race, Clear, Doubt, AccessAt, Earlier, Latest, Racy, Unordered, Partner, ApartInAll, ApartAsArrived, With, clear, race, doubt}
 use Rattle.checker.specs.Demands.{Always, Never, Sometimes, SometimesNot, Firm, Demand2, Demand3}

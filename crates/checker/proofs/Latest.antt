@@ -8,7 +8,7 @@ use Prim.Native.Nat.{ℕ, zero, suc, _≤_, _<_}
 use native.Mathlib.Nat.{le-of-suc-le-suc, not-suc-le-zero}
 use native.Mathlib.Omega.{arith}
 use Rattle.checker.specs.Recording.{Op, Event, act, At, ActsIn, acts}
-use Rattle.checker.specs.Order.{Step, same-task, Path, one, more, Conflict, conflict}
+use Rattle.checker.specs.Order.{Step, same-task, HappensBefore, one, more, Conflict, conflict}
 use Rattle.checker.specs.Completion.{Completion, place}
 use Rattle.checker.specs.Verdict.{Earlier, Latest, Racy, Unordered}
 use Rattle.checker.proofs.Reflects.{Reflects, right, wrong, equal, at-most}
@@ -96,12 +96,12 @@ latest-exists {t = t} a =
 
 -- Only the latest matters
 
-pub path-then : {es : List Event} {i j k : ℕ} → Path es i j → Path es j k → Path es i k
+pub path-then : {es : List Event} {i j k : ℕ} → HappensBefore es i j → HappensBefore es j k → HappensBefore es i k
 path-then (one s) q = more s q
 path-then (more s p) q = more s (path-then p q)
 
 -- an older access of a task leads to its newer ones
-older-leads : {es : List Event} {t i j k : ℕ} → Earlier es t i k → Earlier es t j k → i < j → Path es i j
+older-leads : {es : List Event} {t i j k : ℕ} → Earlier es t i k → Earlier es t j k → i < j → HappensBefore es i j
 older-leads a b h = one (record { e = a .e; f = b .e; from = a .from; to = b .from; later = h; step = same (a .by) (b .by) })
   where
     same : {t : ℕ} {e f : Event} → ActsIn t e → ActsIn t f → Step e f
@@ -109,7 +109,7 @@ older-leads a b h = one (record { e = a .e; f = b .e; from = a .from; to = b .fr
 
 -- `Ordered` says which accesses are ordered before the one at k; whatever leads to an ordered one is ordered
 pub latest-apart : {es : List Event} {t i k : ℕ} (Ordered : ℕ → Type 0) →
-    ((i j : ℕ) → Earlier es t i k → Earlier es t j k → Path es i j → Ordered j → Ordered i) →
+    ((i j : ℕ) → Earlier es t i k → Earlier es t j k → HappensBefore es i j → Ordered j → Ordered i) →
     Earlier es t i k → ¬ Ordered i → (j : ℕ) × Latest es t j k × (¬ Ordered j)
 latest-apart {es} {t} {i} {k} Ordered back a n =
     let (j, l) = latest-exists a in
@@ -120,24 +120,24 @@ latest-apart {es} {t} {i} {k} Ordered back a n =
     decided j l o (wrong n) = let h = l .latest i a in back i j a (l .earlier) (older-leads a (l .earlier) (omega arith)) o
 
 -- as it arrived
-pub latest-as-arrived : {es : List Event} {k : ℕ} → Unordered es k ↔ ((t : ℕ) × (i : ℕ) × Latest es t i k × (¬ Path es i k))
+pub latest-as-arrived : {es : List Event} {k : ℕ} → Unordered es k ↔ ((t : ℕ) × (i : ℕ) × Latest es t i k × (¬ HappensBefore es i k))
 latest-as-arrived {es} {k} = (
-  λ u. let (j, l, n) = latest-apart (λ i. Path es i k) (λ i j a b. path-then) (u .2) (u .3) in (u .0, j, l, n),
+  λ u. let (j, l, n) = latest-apart (λ i. HappensBefore es i k) (λ i j a b. path-then) (u .2) (u .3) in (u .0, j, l, n),
   λ l. (l .0, l .1, l .2 .earlier, l .3),
 )
 
 -- in each completion
 pub latest-in-completion : {es fs : List Event} {k : ℕ} (c : Completion es fs) →
-    Racy c k ↔ ((t : ℕ) × (i : ℕ) × Latest es t i k × (¬ Path fs (place c i) (place c k)))
+    Racy c k ↔ ((t : ℕ) × (i : ℕ) × Latest es t i k × (¬ HappensBefore fs (place c i) (place c k)))
 latest-in-completion {es} {fs} {k} c = (
   λ u.
-      let (j, l, n) = latest-apart (λ i. Path fs (place c i) (place c k)) (λ i j a b p q. path-then (survives a b p) q) (u .2) (u .3) in
+      let (j, l, n) = latest-apart (λ i. HappensBefore fs (place c i) (place c k)) (λ i j a b p q. path-then (survives a b p) q) (u .2) (u .3) in
       (u .0, j, l, n),
   λ l. (l .0, l .1, l .2 .earlier, l .3),
 )
   where
-    survives : {t i j : ℕ} → Earlier es t i k → Earlier es t j k → Path es i j → Path fs (place c i) (place c j)
+    survives : {t i j : ℕ} → Earlier es t i k → Earlier es t j k → HappensBefore es i j → HappensBefore fs (place c i) (place c j)
     survives a b = moved (a .from) (a .by) (b .from) (b .by)
       where
-        moved : {t i j : ℕ} {e f : Event} → At es i e → ActsIn t e → At es j f → ActsIn t f → Path es i j → Path fs (place c i) (place c j)
+        moved : {t i j : ℕ} {e f : Event} → At es i e → ActsIn t e → At es j f → ActsIn t f → HappensBefore es i j → HappensBefore fs (place c i) (place c j)
         moved x acts y acts = path-survives c x y

@@ -8,7 +8,7 @@ use native.Mathlib.Nat.{le-of-suc-le-suc, not-suc-le-zero, zero-add, suc-add}
 use native.Mathlib.Omega.{arith}
 use lib.ListN.{length}
 use Rattle.checker.specs.Recording.{Op, Event, act, lost, At, here, there}
-use Rattle.checker.specs.Order.{Step, StepAt, Path, one, more}
+use Rattle.checker.specs.Order.{Step, StepAt, HappensBefore, one, more}
 use Rattle.checker.specs.Completion.{Filled, done, keep, fill, place}
 use Rattle.checker.proofs.Leads.{Leads, last, over, via}
 
@@ -67,16 +67,16 @@ step-on s = record { e = s .e; f = s .f; from = there (s .from); to = there (s .
 step-back : {x : Event} {es : List Event} {i j : ℕ} → StepAt (x ∷ es) (suc i) (suc j) → StepAt es i j
 step-back s = record { e = s .e; f = s .f; from = at-tail (s .from); to = at-tail (s .to); later = le-of-suc-le-suc (s .later); step = s .step }
 
-pub path-on : {x : Event} {es : List Event} {i j : ℕ} → Path es i j → Path (x ∷ es) (suc i) (suc j)
+pub path-on : {x : Event} {es : List Event} {i j : ℕ} → HappensBefore es i j → HappensBefore (x ∷ es) (suc i) (suc j)
 path-on (one s) = one (step-on s)
 path-on (more s p) = more (step-on s) (path-on p)
 
-pub path-back : {x : Event} {es : List Event} {i j : ℕ} → Path (x ∷ es) (suc i) (suc j) → Path es i j
+pub path-back : {x : Event} {es : List Event} {i j : ℕ} → HappensBefore (x ∷ es) (suc i) (suc j) → HappensBefore es i j
 path-back (one s) = one (step-back s)
 path-back (more {j = zero} s p) = absurd (not-suc-le-zero (s .later))
 path-back (more {j = suc j} s p) = more (step-back s) (path-back p)
 
-pub path-later : {es : List Event} {i k : ℕ} → Path es i k → i < k
+pub path-later : {es : List Event} {i k : ℕ} → HappensBefore es i k → i < k
 path-later (one s) = s .later
 path-later (more s p) = let h = path-later p in let l = s .later in omega arith
 
@@ -87,20 +87,20 @@ step-in s = record { e = _; f = s .f; from = here; to = there (there (at-tail (s
 step-out : {e x : Event} {es : List Event} {j : ℕ} → StepAt (e ∷ (x ∷ es)) zero (suc (suc j)) → StepAt (e ∷ es) zero (suc j)
 step-out s = record { e = _; f = s .f; from = here; to = there (at-tail (at-tail (s .to))); later = suc-le-suc zero-le; step = from-first (s .from) (s .step) }
 
-path-in : {e x : Event} {es : List Event} {k : ℕ} → Path (e ∷ es) zero (suc k) → Path (e ∷ (x ∷ es)) zero (suc (suc k))
+path-in : {e x : Event} {es : List Event} {k : ℕ} → HappensBefore (e ∷ es) zero (suc k) → HappensBefore (e ∷ (x ∷ es)) zero (suc (suc k))
 path-in (one s) = one (step-in s)
 path-in (more {j = zero} s p) = absurd (not-suc-le-zero (s .later))
 path-in (more {j = suc j} s p) = more (step-in s) (path-on (path-on (path-back p)))
 
 -- Paths by places and paths by what lies between
 
-leads-first : {e f : Event} {es mid : List Event} {k : ℕ} → Ends es k mid f → Leads e mid f → Path (e ∷ es) zero (suc k)
+leads-first : {e f : Event} {es mid : List Event} {k : ℕ} → Ends es k mid f → Leads e mid f → HappensBefore (e ∷ es) zero (suc k)
 leads-first ends (last s) = one (record { e = _; f = _; from = here; to = there here; later = suc-le-suc zero-le; step = s })
 leads-first (onward d) (over p) = path-in (leads-first d p)
 leads-first (onward d) (via s p) =
     more (record { e = _; f = _; from = here; to = there here; later = suc-le-suc zero-le; step = s }) (path-on (leads-first d p))
 
-first-leads : {e f : Event} {es mid : List Event} {k : ℕ} → Ends es k mid f → Path (e ∷ es) zero (suc k) → Leads e mid f
+first-leads : {e f : Event} {es mid : List Event} {k : ℕ} → Ends es k mid f → HappensBefore (e ∷ es) zero (suc k) → Leads e mid f
 first-leads ends (one s) = last (to-last (Step _) ends (at-tail (s .to)) (from-first (s .from) (s .step)))
 first-leads ends (more s p) = absurd (not-suc-le-zero (le-of-suc-le-suc (lt-trans-step (s .later) (path-later p))))
   where
@@ -111,10 +111,10 @@ first-leads (onward d) (more {j = zero} s p) = absurd (not-suc-le-zero (s .later
 first-leads (onward d) (more {j = suc zero} s p) = via (to-last (Step _) ends (at-tail (s .to)) (from-first (s .from) (s .step))) (first-leads d (path-back p))
 first-leads (onward d) (more {j = suc (suc j)} s p) = over (first-leads d (more (step-out s) (path-on (path-back (path-back p)))))
 
-pub leads-path : {e f : Event} {es before mid : List Event} {i k : ℕ} → Ends es k before f → Occurs before i e mid → Leads e mid f → Path es i k
+pub leads-path : {e f : Event} {es before mid : List Event} {i k : ℕ} → Ends es k before f → Occurs before i e mid → Leads e mid f → HappensBefore es i k
 leads-path (onward d) first p = leads-first d p
 leads-path (onward d) (next o) p = path-on (leads-path d o p)
 
-pub path-leads : {e f : Event} {es before mid : List Event} {i k : ℕ} → Ends es k before f → Occurs before i e mid → Path es i k → Leads e mid f
+pub path-leads : {e f : Event} {es before mid : List Event} {i k : ℕ} → Ends es k before f → Occurs before i e mid → HappensBefore es i k → Leads e mid f
 path-leads (onward d) first p = first-leads d p
 path-leads (onward d) (next o) p = path-leads d o (path-back p)

@@ -72,14 +72,23 @@ anyBelow n p = turns n (λ k b. b || p k) false
 -- which of rows 1 to 9 apply to a record, in their order, by which tasks are live and unseen and by the count of accepted records
 abbrev pub rows : (ℕ → Bool) → (ℕ → Bool) → ℕ → Record → List Bool
 rows isLiveTask isUnseenTask count r =
+    -- 1: the op is none of the nine
     ltb lossMark (r .kind)
+    -- 2: acting task above 15
     ∷ (isAct r && leb tasks (r .task))
+    -- 3: `on` outside its series
     ∷ (isAct r && leb (seriesOf (r .kind)) (r .on))
+    -- 4: mask 0 or above 65,535
     ∷ (isMark r && (eqb (r .on) 0 || leb (2 ^ tasks) (r .on)))
+    -- 5: 60,000 records are already accepted
     ∷ leb records count
+    -- 6: acting task not live
     ∷ (isAct r && not (isLiveTask (r .task)))
+    -- 7: start of a task that is not unseen
     ∷ (hasKind r start && not (isUnseenTask (r .on)))
+    -- 8: join of the acting task
     ∷ (hasKind r join && eqb (r .on) (r .task))
+    -- 9: the joined task, or any one of the marked tasks, is not live
     ∷ ((hasKind r join && not (isLiveTask (r .on))) || (isMark r && anyBelow tasks (λ t. names (r .on) t && not (isLiveTask t))))
     ∷ []
 

@@ -19,7 +19,8 @@ names mask t = ltb t tasks && bit mask t
 pub record Named (mask t : ℕ) : Type 0 where
   pub named : T (names mask t)
 
--- the ops of lost records: takes, gives, looks and sets. Accesses are not lost, starts and joins are resent until they arrive.
+-- the ops that a completion may put: takes, gives, looks and sets. Starts and joins are resent until they arrive, and lost accesses lie
+-- outside: a verdict is about accesses that arrived.
 pub data Loses : Op → Type 0 where
   takes : Loses take
   gives : Loses give

@@ -23,10 +23,10 @@ pub record StepAt (es : List Event) (i j : ℕ) : Type 0 where
   pub later : i < j
   pub step : Step e f
 
--- "path": one or more steps
-pub data Path (es : List Event) : ℕ → ℕ → Type 0 where
-  one : {i j : ℕ} → StepAt es i j → Path es i j
-  more : {i j k : ℕ} → StepAt es i j → Path es j k → Path es i k
+-- "path": one or more steps. This is the happens-before relation.
+pub data HappensBefore (es : List Event) : ℕ → ℕ → Type 0 where
+  one : {i j : ℕ} → StepAt es i j → HappensBefore es i j
+  more : {i j k : ℕ} → StepAt es i j → HappensBefore es j k → HappensBefore es i k
 
 -- "access": a read or a write
 abbrev pub isAccess : Op → Bool

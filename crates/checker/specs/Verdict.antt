@@ -3,7 +3,7 @@ use Prim.Native.Nat.{ℕ, zero, suc, _≤_, _<_}
 use mathlib.Core.List.{List}
 use lib.Dec.{T}
 use Rattle.checker.specs.Recording.{Op, Event, act, At, ActsIn}
-use Rattle.checker.specs.Order.{Path, isAccess, Conflict}
+use Rattle.checker.specs.Order.{HappensBefore, isAccess, Conflict}
 use Rattle.checker.specs.Completion.{Completion, place}
 
 -- "verdict"
@@ -31,11 +31,11 @@ pub record Earlier (es : List Event) (t i k : ℕ) : Type 0 where
 -- "racy", of the access at place k in one completion: an earlier access of the recording conflicts with it, and no path in the
 -- completion leads from that one to it
 abbrev pub Racy : {es fs : List Event} → Completion es fs → ℕ → Type 0
-Racy {es} {fs} c k = (t : ℕ) × (i : ℕ) × Earlier es t i k × (¬ Path fs (place c i) (place c k))
+Racy {es} {fs} c k = (t : ℕ) × (i : ℕ) × Earlier es t i k × (¬ HappensBefore fs (place c i) (place c k))
 
 -- the same in the recording itself, as demand 2 has it: "an earlier conflicting access has no happens-before path to it"
 abbrev pub Unordered : List Event → ℕ → Type 0
-Unordered es k = (t : ℕ) × (i : ℕ) × Earlier es t i k × (¬ Path es i k)
+Unordered es k = (t : ℕ) × (i : ℕ) × Earlier es t i k × (¬ HappensBefore es i k)
 
 -- "latest conflicting earlier access" of task t
 pub record Latest (es : List Event) (t i k : ℕ) : Type 0 where
@@ -52,11 +52,11 @@ pub record Partner (Apart : ℕ → Type 0) (es : List Event) (i k : ℕ) : Type
 
 -- "has no path to this one in any completion"
 abbrev pub ApartInAll : List Event → ℕ → ℕ → Type 0
-ApartInAll es k i = (fs : List Event) (c : Completion es fs) → ¬ Path fs (place c i) (place c k)
+ApartInAll es k i = (fs : List Event) (c : Completion es fs) → ¬ HappensBefore fs (place c i) (place c k)
 
 -- no path "in the recording as it arrived"
 abbrev pub ApartAsArrived : List Event → ℕ → ℕ → Type 0
-ApartAsArrived es k i = ¬ Path es i k
+ApartAsArrived es k i = ¬ HappensBefore es i k
 
 -- "`with`": the record number of the partner, 0 for Clear
 pub data With (es : List Event) (k : ℕ) : Verdict → ℕ → Type 0 where
