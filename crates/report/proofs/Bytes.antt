@@ -1,0 +1,173 @@
+-- The first place of a byte, what stands before and after it, and words at the start of a list. Assumes nothing.
+use mathlib.Core.Path.{_≡_, refl, ap, ap₂, _∙_}
+use mathlib.Core.Bool.{Bool, true, false, cond, _&&_}
+use mathlib.Core.List.{List, [], _∷_, _++_, append-nil}
+use Prim.Native.Nat.{ℕ, zero, suc, _+_, _≤_, _<_}
+use native.Mathlib.Nat.{add-zero}
+use native.Mathlib.Numerals.{add-one}
+use native.Mathlib.Omega.{arith}
+use lib.Dec.{eqb}
+use lib.ListN.{length, getD, take, drop, drop-of-length-le, length-append}
+use lib.Seq.{drop-cons}
+use borrow.Author.Tests.{eq-eqb, ne-eqb, eqb-true, eqb-false}
+use Rattle.report.specs.Bytes.{indexOf, upTo, after, startsWith, isWord}
+
+-- The first place of a byte
+
+pub index-here : (b : ℕ) {x : ℕ} (s : List ℕ) → x ≡ b → indexOf b (x ∷ s) ≡ 0
+unfolding indexOf
+index-here b {x} s e = rw (eq-eqb x b e)
+
+pub index-later : (b : ℕ) {x : ℕ} (s : List ℕ) → (x ≡ b → ⊥) → indexOf b (x ∷ s) ≡ suc (indexOf b s)
+unfolding indexOf
+index-later b {x} s d = rw (ne-eqb x b d)
+
+pub index-none : (b : ℕ) → indexOf b [] ≡ 0
+unfolding indexOf
+index-none b = refl
+
+-- from place i on: the byte is there, or not, or the list is at its end
+module _ (b : ℕ) (s : List ℕ) (i : ℕ) where
+  pub found-at : i < length s → getD s i 0 ≡ b → i + indexOf b (drop i s) ≡ i
+  found-at h e = rw (drop-cons s i 0 h, index-here b (drop (suc i) s) e) (add-zero i)
+
+  pub passed-at : i < length s → (getD s i 0 ≡ b → ⊥) → i + indexOf b (drop i s) ≡ (i + 1) + indexOf b (drop (i + 1) s)
+  passed-at h d = rw (add-one i, drop-cons s i 0 h, index-later b (drop (suc i) s) d) (omega arith)
+
+  pub ended-at : length s ≤ i → i + indexOf b (drop i s) ≡ i
+  ended-at h = rw (drop-of-length-le s h, index-none b) (add-zero i)
+
+pub index-fits : (b : ℕ) (s : List ℕ) → indexOf b s ≤ length s
+unfolding indexOf
+index-fits b [] = omega arith
+index-fits b (x ∷ s) = picked (eqb x b) (index-fits b s)
+  where
+    picked : (t : Bool) → indexOf b s ≤ length s → cond t zero (suc (indexOf b s)) ≤ suc (length s)
+    picked true h = omega arith
+    picked false h = omega arith
+
+-- Before and after
+
+-- no element of the list is b
+abbrev pub Without : ℕ → List ℕ → Type 0
+Without b s = indexOf b s ≡ length s
+
+first-not : (t : Bool) (n m : ℕ) → cond t zero (suc n) ≡ suc m → (t ≡ false) × (n ≡ m)
+first-not true n m e = absurd (omega arith)
+first-not false n m e = (refl, omega arith)
+
+pub without-append : (b : ℕ) (w s : List ℕ) → Without b w → Without b s → Without b (w ++ s)
+unfolding indexOf
+without-append b [] s h k = k
+without-append b (x ∷ w) s h k = let (f, g) = first-not (eqb x b) (indexOf b w) (length w) h in rw f (ap suc (without-append b w s g k))
+
+pub index-seam : (b : ℕ) (w s : List ℕ) → Without b w → indexOf b (w ++ (b ∷ s)) ≡ length w
+unfolding indexOf
+index-seam b [] s h = index-here b s refl
+index-seam b (x ∷ w) s h = let (f, g) = first-not (eqb x b) (indexOf b w) (length w) h in rw f (ap suc (index-seam b w s g))
+
+pub without-cons : (b x : ℕ) (s : List ℕ) → (x ≡ b → ⊥) → Without b s → Without b (x ∷ s)
+without-cons b x s d h = index-later b s d ∙ ap suc h
+
+take-seam : (w s : List ℕ) → take (length w) (w ++ s) ≡ w
+take-seam [] s = refl
+take-seam (x ∷ w) s = ap (λ (l : List ℕ). x ∷ l) (take-seam w s)
+
+drop-seam : (w : List ℕ) (b : ℕ) (s : List ℕ) → drop (suc (length w)) (w ++ (b ∷ s)) ≡ s
+drop-seam [] b s = refl
+drop-seam (x ∷ w) b s = drop-seam w b s
+
+pub before-seam : (b : ℕ) (w s : List ℕ) → Without b w → upTo b (w ++ (b ∷ s)) ≡ w
+before-seam b w s h = rw (index-seam b w s h) (take-seam w (b ∷ s))
+
+pub after-seam : (b : ℕ) (w s : List ℕ) → Without b w → after b (w ++ (b ∷ s)) ≡ s
+after-seam b w s h = rw (index-seam b w s h) (drop-seam w b s)
+
+-- a list without b, and then another
+pub index-append : (b : ℕ) (w s : List ℕ) → Without b w → indexOf b (w ++ s) ≡ length w + indexOf b s
+unfolding indexOf
+index-append b [] s h = omega arith
+index-append b (x ∷ w) s h =
+    let (f, g) = first-not (eqb x b) (indexOf b w) (length w) h in
+    rw (f, index-append b w s g) (omega arith)
+
+-- there is no b before the first b
+pub before-without : (b : ℕ) (s : List ℕ) → Without b (upTo b s)
+unfolding indexOf
+before-without b [] = refl
+before-without b (x ∷ s) = picked (eqb x b) refl (before-without b s)
+  where
+    picked : (t : Bool) → eqb x b ≡ t → Without b (upTo b s) → Without b (take (cond t zero (suc (indexOf b s))) (x ∷ s))
+    picked true e ih = refl
+    picked false e ih = without-cons b x (upTo b s) (eqb-false x b e) ih
+
+-- where something stands after the first b, the list is what stands before it, b and that
+pub rejoined : (b : ℕ) (s : List ℕ) → 0 < length (after b s) → s ≡ upTo b s ++ (b ∷ after b s)
+unfolding indexOf
+rejoined b [] h = absurd (omega arith)
+rejoined b (x ∷ s) h = picked (eqb x b) refl h (rejoined b s)
+  where
+    picked : (t : Bool) → eqb x b ≡ t → 0 < length (drop (suc (cond t zero (suc (indexOf b s)))) (x ∷ s))
+        → (0 < length (after b s) → s ≡ upTo b s ++ (b ∷ after b s))
+        → x ∷ s ≡ take (cond t zero (suc (indexOf b s))) (x ∷ s) ++ (b ∷ drop (suc (cond t zero (suc (indexOf b s)))) (x ∷ s))
+    picked true e h ih = ap (λ (y : ℕ). y ∷ s) (eqb-true x b e)
+    picked false e h ih = ap (λ (l : List ℕ). x ∷ l) (ih h)
+
+-- Words
+
+pub starts-short : (w s : List ℕ) → length s < length w → startsWith w s ≡ false
+unfolding startsWith
+starts-short [] s h = absurd (omega arith)
+starts-short (x ∷ w) [] h = refl
+starts-short (x ∷ w) (y ∷ s) h = rw (starts-short w s (omega arith)) (and-no (eqb y x))
+  where
+    and-no : (t : Bool) → (t && false) ≡ false
+    and-no true = refl
+    and-no false = refl
+
+-- from place i on: the bytes are the same there, or not, or the word is at its end
+module _ (w s : List ℕ) (i : ℕ) where
+  pub same-at : i < length w → i < length s → getD s i 0 ≡ getD w i 0
+      → startsWith (drop i w) (drop i s) ≡ startsWith (drop (i + 1) w) (drop (i + 1) s)
+  unfolding startsWith
+  same-at h k e = rw (add-one i, drop-cons w i 0 h, drop-cons s i 0 k, eq-eqb (getD s i 0) (getD w i 0) e)
+
+  pub differs-at : i < length w → i < length s → (getD s i 0 ≡ getD w i 0 → ⊥) → startsWith (drop i w) (drop i s) ≡ false
+  unfolding startsWith
+  differs-at h k d = rw (drop-cons w i 0 h, drop-cons s i 0 k, ne-eqb (getD s i 0) (getD w i 0) d)
+
+  pub word-ended : length w ≤ i → startsWith (drop i w) (drop i s) ≡ true
+  unfolding startsWith
+  word-ended h = rw (drop-of-length-le w h)
+
+pub and-true : (a b : Bool) → (a && b) ≡ true → (a ≡ true) × (b ≡ true)
+and-true true b e = (refl, e)
+and-true false b e = absurd (let z : _≡_ {A = ℕ} 0 1 = cc in omega arith)
+
+-- a list that starts with a word is the word and what follows it
+pub word-split : (w s : List ℕ) → startsWith w s ≡ true → s ≡ w ++ drop (length w) s
+unfolding startsWith
+word-split [] s e = refl
+word-split (x ∷ w) [] e = absurd (let z : _≡_ {A = ℕ} 0 1 = cc in omega arith)
+word-split (x ∷ w) (y ∷ s) e =
+    let (f, g) = and-true (eqb y x) (startsWith w s) e in
+    ap₂ (λ (z : ℕ) (l : List ℕ). z ∷ l) (eqb-true y x f) (word-split w s g)
+
+pub word-starts : (w s : List ℕ) → startsWith w (w ++ s) ≡ true
+unfolding startsWith
+word-starts [] s = refl
+word-starts (x ∷ w) s = rw (eq-eqb x x refl) (word-starts w s)
+
+pub word-dropped : (w s : List ℕ) → drop (length w) (w ++ s) ≡ s
+word-dropped [] s = refl
+word-dropped (x ∷ w) s = word-dropped w s
+
+pub is-the-word : (w s : List ℕ) → isWord w s ≡ true → s ≡ w
+unfolding isWord
+is-the-word w s e =
+    let (f, g) = and-true (eqb (length s) (length w)) (startsWith w s) e in
+    let h : length s ≤ length w = omega (arith, eqb-true (length s) (length w) f) in
+    word-split w s g ∙ rw (drop-of-length-le s h) (append-nil w)
+
+pub word-fits : (w s : List ℕ) → startsWith w s ≡ true → length w ≤ length s
+word-fits w s e = omega (arith, simp length-append at (ap length (word-split w s e)))

@@ -1,0 +1,68 @@
+-- How long the lines of the report are: none is longer than 64 bytes. Assumes nothing.
+use mathlib.Core.Path.{_≡_, refl}
+use mathlib.Core.List.{List}
+use Prim.Native.Nat.{ℕ, zero, suc, _+_, _*_, _/_, _^_, _≤_, _<_}
+use mathlib.Core.Bool.{Bool, true, false}
+use native.Mathlib.Nat.{pow-suc}
+use native.Mathlib.Omega.{arith}
+use lib.Dec.{ltb}
+use lib.ListN.{length, length-append}
+use borrow.Author.Tests.{ltb-true, ltb-false}
+use Rattle.checker.specs.declared.record.Record.{Record}
+use Rattle.checker.specs.declared.answer.Answer.{Answer}
+use Rattle.checker.specs.declared.answer.Answer.the-variants.{Refused, Accepted, Clear, Race, Doubt}
+use Rattle.checker.specs.Feeding.{refusalNumber}
+use Rattle.report.specs.Printing.{bytes, decimal, fiveDigits}
+use Rattle.report.specs.ReportLines.{accessPart, accessLine, refusedLine, reportLine}
+use Rattle.report.proofs.Digits.{length-small, length-more}
+
+-- a number below 10 ^ k has at most k digits, for each k from 1 on
+pub decimal-fits : (k n : ℕ) → n < 10 ^ suc k → length (decimal n) ≤ suc k
+decimal-fits zero n h = omega (arith, length-small n h)
+decimal-fits (suc k) n h = go (ltb n 10) refl (decimal-fits k (n / 10))
+  where
+    go : (b : Bool) → ltb n 10 ≡ b → (n / 10 < 10 ^ suc k → length (decimal (n / 10)) ≤ suc k) → length (decimal n) ≤ suc (suc k)
+    go true e less = omega (arith, length-small n (ltb-true n 10 e))
+    go false e less =
+        let p : 10 ^ suc (suc k) ≡ 10 ^ suc k * 10 = pow-suc 10 (suc k) in
+        let l : n / 10 < 10 ^ suc k = omega arith in
+        omega (arith, length-more n (ltb-false n 10 e), less l)
+
+-- the lengths of the lines: the words and the numbers of five digits are of fixed length
+pub length-access-part : (number task variable : ℕ) → length (accessPart number task variable) ≡ 20 + length (decimal task) + length (decimal variable)
+unfolding accessPart fiveDigits
+length-access-part number task variable = simp length-append (omega arith)
+
+pub length-access-line : (number task variable : ℕ) (verdict : List ℕ) (partner : ℕ)
+    → length (accessLine number task variable verdict partner) ≡ 41 + length (decimal task) + length (decimal variable) + length verdict
+unfolding accessLine fiveDigits
+length-access-line number task variable verdict partner = simp length-append (omega (arith, length-access-part number task variable))
+
+pub length-refused-line : (line number : ℕ) → length (refusedLine line number) ≡ 15 + length (decimal line) + length (decimal number)
+unfolding refusedLine
+length-refused-line line number = simp length-append (omega arith)
+
+-- a refusal, by any line number and any number of 32 bits
+pub refused-line-fits : (line number : ℕ) → line < 2 ^ 64 → number < 2 ^ 32 → length (refusedLine line number) ≤ 64
+refused-line-fits line number h g =
+    omega (arith, length-refused-line line number, decimal-fits 19 line (omega arith), decimal-fits 9 number (omega arith))
+
+-- an access, by a task and a variable of at most nine digits
+pub access-line-fits : (number task variable : ℕ) (verdict : List ℕ) (partner : ℕ)
+    → task < 10 ^ 9 → variable < 10 ^ 9 → length verdict ≤ 5 → length (accessLine number task variable verdict partner) ≤ 64
+access-line-fits number task variable verdict partner h g w =
+    omega (arith, length-access-line number task variable verdict partner, decimal-fits 8 task h, decimal-fits 8 variable g)
+
+-- so 64 bytes are room for one
+pub access-room : (at number task variable : ℕ) (verdict : List ℕ) (partner : ℕ) {room : ℕ} → at + 64 ≤ room → task < 10 ^ 9 → variable < 10 ^ 9 → length verdict ≤ 5
+    → at + length (accessLine number task variable verdict partner) ≤ room
+access-room at number task variable verdict partner h t v w = omega (arith, access-line-fits number task variable verdict partner t v w)
+
+-- a line of the report, whatever the answer. With tasks and variables of ten digits an access would take 66 bytes; a line of the text form says at most five.
+pub report-line-fits : (line : ℕ) (r : Record) (a : Answer) → line < 2 ^ 64 → refusalNumber a < 2 ^ 32 → r .task < 10 ^ 9 → r .on < 10 ^ 9
+    → length (reportLine line r a) ≤ 64
+report-line-fits line r (Refused number) h n t v = refused-line-fits line number h n
+report-line-fits line r (Accepted number) h n t v = omega arith
+report-line-fits line r (Clear number) h n t v = access-line-fits (number .0) (r .task) (r .on) (bytes "clear") 0 t v (omega arith)
+report-line-fits line r (Race number partner) h n t v = access-line-fits (number .0) (r .task) (r .on) (bytes "race") (partner .0) t v (omega arith)
+report-line-fits line r (Doubt number partner) h n t v = access-line-fits (number .0) (r .task) (r .on) (bytes "doubt") (partner .0) t v (omega arith)

@@ -1,0 +1,252 @@
+-- Numbers in base ten, read from digits and printed. Assumes nothing.
+use mathlib.Core.Path.{_≡_, refl, sym, ap, ap₂, _∙_}
+use mathlib.Core.Bool.{Bool, true, false, cond, not, _&&_, _||_}
+use mathlib.Core.List.{List, [], _∷_}
+use Prim.Native.Nat.{ℕ, zero, suc, _+_, _*_, _-_, _/_, _%_, _^_, _≤_, _<_}
+use native.Mathlib.Nat.{pow-suc, pow-le-pow-right, one-le-pow, div-one, div-div-eq-div-mul, div-eq-of-lt, div-lt-iff-lt-mul}
+use native.Mathlib.Numerals.{add-one}
+use native.Mathlib.Omega.{arith}
+use lib.Dec.{leb, ltb, eqb}
+use lib.ListN.{length, getD, drop, drop-of-length-le}
+use lib.Seq.{drop-cons}
+use borrow.Author.Tests.{leb-true, leb-false, eqb-true, le-leb, lt-leb, lt-ltb, le-ltb, eq-eqb, ne-eqb, eqb-false, not-true}
+use Rattle.report.specs.declared.decimal.Number.{Number}
+use Rattle.report.specs.LineForm.{digits, isDigit, isPlain, digitsFrom, decimalOf, digitsOf, width, numeral}
+use Rattle.report.proofs.Bytes.{and-true}
+
+-- Digits
+
+pub record Digit (b : ℕ) : Type 0 where
+  pub low : 48 ≤ b
+  pub high : b ≤ 57
+
+pub a-digit : (b : ℕ) → isDigit b ≡ true → Digit b
+a-digit b e = let (f, g) = and-true (leb 48 b) (leb b 57) e in record { low = leb-true 48 b f; high = leb-true b 57 g }
+
+-- one more digit makes a number below the next power of ten
+pub digit-fits : (v b i : ℕ) → v < 10 ^ i → Digit b → v * 10 + (b - 48) < 10 ^ (i + 1)
+digit-fits v b i h d = rw (add-one i, pow-suc 10 i) (omega arith)
+
+pub power-fits : (i : ℕ) → i ≤ digits → 10 ^ i ≤ 10 ^ digits
+power-fits i h = pow-le-pow-right {n = 10} (omega arith) h
+
+-- Reading from place i on
+
+module _ (v : ℕ) (s : List ℕ) (i : ℕ) where
+  pub read-digit : i < length s → isDigit (getD s i 0) ≡ true → digitsFrom v (drop i s) ≡ digitsFrom (v * 10 + (getD s i 0 - 48)) (drop (i + 1) s)
+  unfolding digitsFrom
+  read-digit h e = rw (add-one i, drop-cons s i 0 h, e)
+
+  pub read-other : i < length s → isDigit (getD s i 0) ≡ false → digitsFrom v (drop i s) ≡ Number.Nothing
+  unfolding digitsFrom
+  read-other h e = rw (drop-cons s i 0 h, e)
+
+  pub read-all : length s ≤ i → digitsFrom v (drop i s) ≡ Number.Value v
+  unfolding digitsFrom
+  read-all h = rw (drop-of-length-le s h)
+
+-- Plain numbers
+
+pub plain-fits : (s : List ℕ) → isPlain s ≡ true → length s ≤ digits
+unfolding isPlain
+plain-fits s e = picked (eqb (length s) 1) refl e
+  where
+    picked : (t : Bool) → eqb (length s) 1 ≡ t → (t || (ltb 1 (length s) && (leb (length s) digits && not (eqb (getD s 0 0) 48)))) ≡ true → length s ≤ digits
+    picked true f e = omega (arith, eqb-true (length s) 1 f)
+    picked false f e =
+        let (g, h) = and-true (ltb 1 (length s)) (leb (length s) digits && not (eqb (getD s 0 0) 48)) e in
+        leb-true (length s) digits (and-true (leb (length s) digits) (not (eqb (getD s 0 0) 48)) h .0)
+
+module _ (s : List ℕ) where
+  pub plain-none : length s ≡ 0 → isPlain s ≡ false
+  unfolding isPlain
+  plain-none h = rw (ne-eqb (length s) 1 (omega arith), le-ltb 1 (length s) (omega arith))
+
+  pub plain-one : length s ≡ 1 → isPlain s ≡ true
+  unfolding isPlain
+  plain-one h = rw (eq-eqb (length s) 1 h)
+
+  pub plain-long : digits < length s → isPlain s ≡ false
+  unfolding isPlain
+  plain-long h = rw (ne-eqb (length s) 1 (omega arith), lt-ltb 1 (length s) (omega arith), lt-leb (length s) digits h)
+
+  pub plain-some : 1 < length s → length s ≤ digits → isPlain s ≡ not (eqb (getD s 0 0) 48)
+  unfolding isPlain
+  plain-some h k = rw (ne-eqb (length s) 1 (omega arith), lt-ltb 1 (length s) h, le-leb (length s) digits k)
+
+  pub decimal-plain : isPlain s ≡ true → decimalOf s ≡ digitsFrom 0 s
+  unfolding decimalOf
+  decimal-plain e = rw e
+
+  pub decimal-other : isPlain s ≡ false → decimalOf s ≡ Number.Nothing
+  unfolding decimalOf
+  decimal-other e = rw e
+
+-- Division by powers of ten
+
+power-positive : (k : ℕ) → 0 < 10 ^ k
+power-positive k = one-le-pow k 10 (omega arith)
+
+divide-more : (n k : ℕ) → n / 10 ^ suc k ≡ n / 10 ^ k / 10
+divide-more n k = rw (pow-suc 10 k) (sym (div-div-eq-div-mul n (10 ^ k) 10))
+
+none-above : (n k : ℕ) → n / 10 ^ k ≡ 0 → n < 10 ^ k
+none-above n k e = let h : n < 1 * 10 ^ k = div-lt-iff-lt-mul {y = 1} (power-positive k) .0 (omega arith) in omega arith
+
+some-above : (n k : ℕ) → 0 < n / 10 ^ k → 10 ^ k ≤ n
+some-above n k h = picked (leb (10 ^ k) n) refl
+  where
+    picked : (t : Bool) → leb (10 ^ k) n ≡ t → 10 ^ k ≤ n
+    picked true e = leb-true (10 ^ k) n e
+    picked false e = absurd (omega (arith, div-eq-of-lt (leb-false (10 ^ k) n e)))
+
+-- Reading and printing
+
+-- a number that a test lets through
+pub let-through : (t : Bool) (x : Number) (n : ℕ) → cond t x Number.Nothing ≡ Number.Value n → (t ≡ true) × (x ≡ Number.Value n)
+let-through true x n e = (refl, e)
+let-through false x n e = absurd (let z : _≡_ {A = ℕ} 0 1 = cc in omega arith)
+
+-- what was read before the digits is what stands above them
+read-above : (v n : ℕ) (s : List ℕ) → digitsFrom v s ≡ Number.Value n → n / 10 ^ length s ≡ v
+unfolding digitsFrom
+read-above v n [] e = let q : v ≡ n = cc in div-one n ∙ sym q
+read-above v n (b ∷ s) e =
+    let (d, f) = let-through (isDigit b) (digitsFrom (v * 10 + (b - 48)) s) n e in
+    let g = a-digit b d in
+    let h : n / 10 ^ length s ≡ v * 10 + (b - 48) = read-above (v * 10 + (b - 48)) n s f in
+    divide-more n (length s) ∙ rw h (omega arith)
+
+-- what was read is printed again
+read-printed : (v n : ℕ) (s : List ℕ) → digitsFrom v s ≡ Number.Value n → s ≡ digitsOf (length s) n
+unfolding digitsFrom digitsOf
+read-printed v n [] e = refl
+read-printed v n (b ∷ s) e =
+    let (d, f) = let-through (isDigit b) (digitsFrom (v * 10 + (b - 48)) s) n e in
+    let g = a-digit b d in
+    let h : n / 10 ^ length s ≡ v * 10 + (b - 48) = read-above (v * 10 + (b - 48)) n s f in
+    let q : b ≡ 48 + n / 10 ^ length s % 10 = rw h (omega arith) in
+    ap₂ (λ (x : ℕ) (l : List ℕ). x ∷ l) q (read-printed (v * 10 + (b - 48)) n s f)
+
+is-digit : (b : ℕ) → 48 ≤ b → b ≤ 57 → isDigit b ≡ true
+is-digit b h k = rw (le-leb 48 b h, le-leb b 57 k)
+
+-- what was printed is read again, after what stands above it
+printed-read : (v n k : ℕ) → v ≡ n / 10 ^ k → digitsFrom v (digitsOf k n) ≡ Number.Value n
+unfolding digitsFrom digitsOf
+printed-read v n zero e = ap Number.Value (e ∙ div-one n)
+printed-read v n (suc k) e =
+    let q : v * 10 + (48 + n / 10 ^ k % 10 - 48) ≡ n / 10 ^ k = omega (arith, divide-more n k) in
+    rw (is-digit (48 + n / 10 ^ k % 10) (omega arith) (omega arith)) (printed-read (v * 10 + (48 + n / 10 ^ k % 10 - 48)) n k q)
+
+pub printed-long : (k n : ℕ) → length (digitsOf k n) ≡ k
+unfolding digitsOf
+printed-long zero n = refl
+printed-long (suc k) n = ap suc (printed-long k n)
+
+-- How many digits a number has
+
+width-of : (m w n : ℕ) → w ≤ m → (0 < w → 10 ^ w ≤ n) → n < 10 ^ suc w → width m n ≡ suc w
+unfolding width
+width-of zero w n h l u = omega arith
+width-of (suc m) w n h l u = picked (leb (10 ^ suc m) n) refl (eqb w (suc m)) refl (width-of m w n)
+  where
+    picked : (t : Bool) → leb (10 ^ suc m) n ≡ t → (b : Bool) → eqb w (suc m) ≡ b
+        → (w ≤ m → (0 < w → 10 ^ w ≤ n) → n < 10 ^ suc w → width m n ≡ suc w) → cond t (suc (suc m)) (width m n) ≡ suc w
+    picked true e true f ih = omega (arith, eqb-true w (suc m) f)
+    picked true e false f ih =
+        let d : w ≤ m = omega (arith, eqb-false w (suc m) f) in
+        absurd (omega (arith, leb-true (10 ^ suc m) n e, pow-le-pow-right {n = 10} (omega arith) {i = suc w} {j = suc m} (omega arith)))
+    picked false e true f ih =
+        let q : w ≡ suc m = eqb-true w (suc m) f in
+        let g : 10 ^ suc m ≤ n = rw q at (l (omega arith)) in
+        absurd (omega (arith, leb-false (10 ^ suc m) n e))
+    picked false e false f ih = ih (omega (arith, eqb-false w (suc m) f)) l u
+
+width-high : (m n : ℕ) → n < 10 ^ suc m → n < 10 ^ width m n
+unfolding width
+width-high zero n h = h
+width-high (suc m) n h = picked (leb (10 ^ suc m) n) refl (width-high m n)
+  where
+    picked : (t : Bool) → leb (10 ^ suc m) n ≡ t → (n < 10 ^ suc m → n < 10 ^ width m n) → n < 10 ^ cond t (suc (suc m)) (width m n)
+    picked true e ih = h
+    picked false e ih = ih (leb-false (10 ^ suc m) n e)
+
+width-low : (m n k : ℕ) → width m n ≡ suc k → 0 < k → 10 ^ k ≤ n
+unfolding width
+width-low zero n k e h = absurd (omega arith)
+width-low (suc m) n k e h = picked (leb (10 ^ suc m) n) refl e (width-low m n k)
+  where
+    picked : (t : Bool) → leb (10 ^ suc m) n ≡ t → cond t (suc (suc m)) (width m n) ≡ suc k → (width m n ≡ suc k → 0 < k → 10 ^ k ≤ n) → 10 ^ k ≤ n
+    picked true f e ih = let q : k ≡ suc m = omega arith in rw q (leb-true (10 ^ suc m) n f)
+    picked false f e ih = ih e h
+
+pub width-fits : (m n : ℕ) → (0 < width m n) × (width m n ≤ suc m)
+unfolding width
+width-fits zero n = omega arith
+width-fits (suc m) n = picked (leb (10 ^ suc m) n) (width-fits m n)
+  where
+    picked : (t : Bool) → (0 < width m n) × (width m n ≤ suc m) → (0 < cond t (suc (suc m)) (width m n)) × (cond t (suc (suc m)) (width m n) ≤ suc (suc m))
+    picked true h = omega arith
+    picked false h = omega arith
+
+-- Numerals
+
+-- the first digit of a number that fills its digits is no `0`
+first-digit : (n k : ℕ) → 10 ^ k ≤ n → n < 10 ^ suc k → 48 + n / 10 ^ k % 10 ≡ 48 → ⊥
+first-digit n k l h e =
+    let z : n / 10 ^ suc k ≡ 0 = div-eq-of-lt h in
+    let q : n / 10 ^ k ≡ 0 = omega (arith, divide-more n k) in
+    omega (arith, none-above n k q)
+
+printed-plain : (n w : ℕ) → w ≤ digits → 0 < w → n < 10 ^ w → ((k : ℕ) → w ≡ suc k → 0 < k → 10 ^ k ≤ n) → isPlain (digitsOf w n) ≡ true
+unfolding digitsOf
+printed-plain n zero h p u l = absurd (omega arith)
+printed-plain n (suc zero) h p u l = plain-one (digitsOf 1 n) (printed-long 1 n)
+printed-plain n (suc (suc k)) h p u l =
+    let e : length (digitsOf (suc (suc k)) n) ≡ suc (suc k) = printed-long (suc (suc k)) n in
+    plain-some (digitsOf (suc (suc k)) n) (omega arith) (omega arith)
+    ∙ ap not (ne-eqb (48 + n / 10 ^ suc k % 10) 48 (first-digit n (suc k) (l (suc k) refl (omega arith)) u))
+
+-- a numeral is read as its number
+pub numeral-read : (n : ℕ) → n < 10 ^ digits → decimalOf (numeral n) ≡ Number.Value n
+numeral-read n h =
+    let f = width-fits (digits - 1) n in
+    let u : n < 10 ^ width (digits - 1) n = width-high (digits - 1) n h in
+    decimal-plain (numeral n) (printed-plain n (width (digits - 1) n) (f .1) (f .0) u (width-low (digits - 1) n))
+    ∙ printed-read 0 n (width (digits - 1) n) (sym (div-eq-of-lt u))
+
+plain-first : (b : ℕ) (s : List ℕ) → isPlain (b ∷ s) ≡ true → 0 < length s → b ≡ 48 → ⊥
+plain-first b s e h =
+    let f : length (b ∷ s) ≤ digits = plain-fits (b ∷ s) e in
+    eqb-false b 48 (not-true (eqb b 48) (sym (plain-some (b ∷ s) (omega arith) f) ∙ e))
+
+-- so that the number fills its digits
+first-counts : (b : ℕ) (s : List ℕ) (n : ℕ) → isPlain (b ∷ s) ≡ true → digitsFrom 0 (b ∷ s) ≡ Number.Value n → 0 < length s → 10 ^ length s ≤ n
+unfolding digitsFrom
+first-counts b s n p f h =
+    let (d, g) = let-through (isDigit b) (digitsFrom (0 * 10 + (b - 48)) s) n f in
+    let q : n / 10 ^ length s ≡ 0 * 10 + (b - 48) = read-above (0 * 10 + (b - 48)) n s g in
+    some-above n (length s) (omega (arith, a-digit b d, plain-first b s p h))
+
+no-number : (n : ℕ) → decimalOf [] ≡ Number.Value n → ⊥
+unfolding decimalOf isPlain
+no-number n e = let z : _≡_ {A = ℕ} 0 1 = cc in omega arith
+
+-- what is read as a number is its numeral, and the number has at most 5 digits
+pub record Printed (s : List ℕ) (n : ℕ) : Type 0 where
+  pub is : s ≡ numeral n
+  pub short : n < 10 ^ digits
+
+pub read-numeral : (s : List ℕ) (n : ℕ) → decimalOf s ≡ Number.Value n → Printed s n
+unfolding decimalOf
+read-numeral [] n e = absurd (no-number n e)
+read-numeral (b ∷ s) n e =
+    let (p, f) = let-through (isPlain (b ∷ s)) (digitsFrom 0 (b ∷ s)) n e in
+    let k : length (b ∷ s) ≤ digits = plain-fits (b ∷ s) p in
+    let u : n < 10 ^ suc (length s) = none-above n (suc (length s)) (read-above 0 n (b ∷ s) f) in
+    let w : width (digits - 1) n ≡ suc (length s) = width-of (digits - 1) (length s) n (omega arith) (first-counts b s n p f) u in
+    record {
+      is = read-printed 0 n (b ∷ s) f ∙ ap (λ (m : ℕ). digitsOf m n) (sym w);
+      short = omega (arith, pow-le-pow-right {n = 10} (omega arith) {i = suc (length s)} {j = digits} k);
+    }

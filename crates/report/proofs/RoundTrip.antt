@@ -1,0 +1,228 @@
+-- The text of a record is taken, and nothing else is. Assumes nothing.
+use mathlib.Core.Path.{_≡_, refl, sym, ap, ap₂, subst, _∙_}
+use mathlib.Core.Bool.{Bool, true, false, cond}
+use mathlib.Core.List.{List, [], _∷_, _++_}
+use Prim.Native.Nat.{ℕ, zero, suc, _+_, _-_, _/_, _%_, _^_, _≤_, _<_}
+use native.Mathlib.Omega.{arith}
+use lib.Dec.{ltb, eqb}
+use lib.ListN.{length, getD, drop, length-append}
+use borrow.Author.Tests.{ltb-true, eqb-true, eqb-false, ne-eqb}
+use Rattle.checker.specs.declared.record.Record.{Record}
+use Rattle.checker.specs.Recording.{lossMark}
+use Rattle.report.specs.declared.decimal.Number.{Number}
+use Rattle.report.specs.declared.parsing.Parsed.{Parsed}
+use Rattle.report.specs.Bytes.{indexOf, upTo, after, startsWith, isWord}
+use Rattle.report.specs.LineForm.{digits, decimalOf, words, opName, taskName, onName, tasksName, space, placeOf, kindOf, fieldOf, actBy, markBy}
+use Rattle.report.specs.LineForm.{actOf, markOf, restOf, parseOf, digitsOf, width, numeral, wordOf, textOf, Sayable, TextTaken, OnlyText, OnlySayable, LongRefused}
+use Rattle.report.proofs.Bytes.{Without, without-cons, without-append, before-seam, after-seam, rejoined, word-split, word-starts, word-dropped, is-the-word}
+use Rattle.report.proofs.Numerals.{let-through, numeral-read, read-numeral, width-fits, printed-long}
+use Rattle.report.proofs.LineForm.{rest-act}
+
+-- What is taken
+
+-- a field is its name and a numeral
+record Field (name s : List ℕ) (n : ℕ) : Type 0 where
+  is : s ≡ name ++ numeral n
+  short : n < 10 ^ digits
+
+field-is : (name s : List ℕ) (n : ℕ) → fieldOf name s ≡ Number.Value n → Field name s n
+unfolding fieldOf
+field-is name s n e =
+    let (f, g) = let-through (startsWith name s) (decimalOf (drop (length name) s)) n e in
+    let p = read-numeral (drop (length name) s) n g in
+    record { is = word-split name s f ∙ ap (λ (l : List ℕ). name ++ l) (p .is); short = p .short }
+
+word-at : (ws : List (List ℕ)) (s : List ℕ) → placeOf ws s < length ws → s ≡ getD ws (placeOf ws s) []
+unfolding placeOf
+word-at [] s h = absurd (omega arith)
+word-at (w ∷ ws) s h = picked (isWord w s) refl h (word-at ws s)
+  where
+    picked : (t : Bool) → isWord w s ≡ t → cond t zero (suc (placeOf ws s)) < suc (length ws)
+        → (placeOf ws s < length ws → s ≡ getD ws (placeOf ws s) []) → s ≡ getD (w ∷ ws) (cond t zero (suc (placeOf ws s))) []
+    picked true e h ih = is-the-word w s e
+    picked false e h ih = ih (omega arith)
+
+-- a first word that names a kind is `op=` and the kind's word
+op-is : (s : List ℕ) → kindOf s ≤ lossMark → s ≡ opName ++ wordOf (kindOf s)
+unfolding kindOf
+op-is s h = picked (startsWith opName s) refl h
+  where
+    picked : (t : Bool) → startsWith opName s ≡ t → cond t (placeOf words (drop 3 s)) 9 ≤ lossMark
+        → s ≡ opName ++ wordOf (cond t (placeOf words (drop 3 s)) 9)
+    picked true e h = word-split opName s e ∙ ap (λ (l : List ℕ). opName ++ l) (word-at words (drop 3 s) (omega arith))
+    picked false e h = absurd (omega arith)
+
+act-text : (k t n : ℕ) → k < lossMark
+    → textOf (record { kind = k; task = t; on = n }) ≡ (opName ++ wordOf k) ++ (space ∷ ((taskName ++ numeral t) ++ (space ∷ (onName ++ numeral n))))
+unfolding textOf
+act-text k t n h = rw (ne-eqb k lossMark (omega arith))
+
+mark-text : (t n : ℕ) → textOf (record { kind = lossMark; task = t; on = n }) ≡ (opName ++ wordOf lossMark) ++ (space ∷ (tasksName ++ numeral n))
+unfolding textOf
+mark-text t n = refl
+
+-- the line of an act, from its three words
+act-joined : (s : List ℕ) (k t n : ℕ) → k < lossMark → upTo space s ≡ opName ++ wordOf k → upTo space (after space s) ≡ taskName ++ numeral t
+    → after space (after space s) ≡ onName ++ numeral n → s ≡ textOf (record { kind = k; task = t; on = n })
+act-joined s k t n h e f g =
+    let a = after space s in
+    let x : 0 < length (after space a) = rw g (omega arith) in
+    let p : a ≡ (taskName ++ numeral t) ++ (space ∷ (onName ++ numeral n)) = rejoined space a x ∙ ap₂ (λ (l : List ℕ) (m : List ℕ). l ++ (space ∷ m)) f g in
+    let y : 0 < length a = rw p (omega arith) in
+    rejoined space s y ∙ ap₂ (λ (l : List ℕ) (m : List ℕ). l ++ (space ∷ m)) e p ∙ sym (act-text k t n h)
+
+mark-joined : (s : List ℕ) (t n : ℕ) → upTo space s ≡ opName ++ wordOf lossMark → after space s ≡ tasksName ++ numeral n
+    → s ≡ textOf (record { kind = lossMark; task = t; on = n })
+mark-joined s t n e f =
+    let y : 0 < length (after space s) = rw f (omega arith) in
+    rejoined space s y ∙ ap₂ (λ (l : List ℕ) (m : List ℕ). l ++ (space ∷ m)) e f ∙ sym (mark-text t n)
+
+-- what a line that is taken is
+record Said (s : List ℕ) (r : Record) : Type 0 where
+  is : s ≡ textOf r
+  can : Sayable r
+
+act-said : (s : List ℕ) (k : ℕ) → k ≡ kindOf (upTo space s) → k < lossMark → (x y : Number) → fieldOf taskName (upTo space (after space s)) ≡ x
+    → fieldOf onName (after space (after space s)) ≡ y → (r : Record) → actBy k x y ≡ Parsed.Record r → Said s r
+act-said s k q h (Number.Value t) (Number.Value n) f g r e =
+    let same : record { kind = k; task = t; on = n } ≡ r = cc in
+    let w : upTo space s ≡ opName ++ wordOf k = rw q (op-is (upTo space s) (omega arith)) in
+    let a = field-is taskName (upTo space (after space s)) t f in
+    let b = field-is onName (after space (after space s)) n g in
+    record {
+      is = act-joined s k t n h w (a .is) (b .is) ∙ ap textOf same;
+      can = subst Sayable same (record { kind-known = omega arith; task-short = a .short; on-short = b .short; mark-alone = λ z. absurd (omega arith) });
+    }
+act-said s k q h (Number.Value t) Number.Nothing f g r e = absurd (let z : _≡_ {A = ℕ} 0 1 = cc in omega arith)
+act-said s k q h Number.Nothing y f g r e = absurd (let z : _≡_ {A = ℕ} 0 1 = cc in omega arith)
+
+mark-said : (s : List ℕ) → kindOf (upTo space s) ≡ lossMark → (x : Number) → fieldOf tasksName (after space s) ≡ x
+    → (r : Record) → markBy x ≡ Parsed.Record r → Said s r
+mark-said s q (Number.Value n) f r e =
+    let same : record { kind = lossMark; task = 0; on = n } ≡ r = cc in
+    let w : upTo space s ≡ opName ++ wordOf lossMark = op-is (upTo space s) (omega arith) ∙ ap (λ (k : ℕ). opName ++ wordOf k) q in
+    let b = field-is tasksName (after space s) n f in
+    record {
+      is = mark-joined s 0 n w (b .is) ∙ ap textOf same;
+      can = subst Sayable same (record { kind-known = omega arith; task-short = omega arith; on-short = b .short; mark-alone = λ z. refl });
+    }
+mark-said s q Number.Nothing f r e = absurd (let z : _≡_ {A = ℕ} 0 1 = cc in omega arith)
+
+said : (s : List ℕ) (r : Record) → parseOf s ≡ Parsed.Record r → Said s r
+unfolding parseOf actOf markOf
+said s r e = picked (ltb (kindOf (upTo space s)) lossMark) refl (eqb (kindOf (upTo space s)) lossMark) refl e
+  where
+    picked : (t : Bool) → ltb (kindOf (upTo space s)) lossMark ≡ t → (b : Bool) → eqb (kindOf (upTo space s)) lossMark ≡ b
+        → cond t (actOf (kindOf (upTo space s)) (after space s)) (cond b (markOf (after space s)) Parsed.Nothing) ≡ Parsed.Record r → Said s r
+    picked true f b g e = act-said s (kindOf (upTo space s)) refl (ltb-true (kindOf (upTo space s)) lossMark f)
+        (fieldOf taskName (upTo space (after space s))) (fieldOf onName (after space (after space s))) refl refl r e
+    picked false f true g e = mark-said s (eqb-true (kindOf (upTo space s)) lossMark g) (fieldOf tasksName (after space s)) refl r e
+    picked false f false g e = absurd (let z : _≡_ {A = ℕ} 0 1 = cc in omega arith)
+
+pub only-text : OnlyText
+only-text s r e = said s r e .is
+
+pub only-sayable : OnlySayable
+only-sayable s r e = said s r e .can
+
+-- Kinds and their words
+
+each-kind : (P : ℕ → Type 0) → P 0 → P 1 → P 2 → P 3 → P 4 → P 5 → P 6 → P 7 → P 8 → (k : ℕ) → k ≤ lossMark → P k
+each-kind P a b c d e f g h i zero l = a
+each-kind P a b c d e f g h i (suc zero) l = b
+each-kind P a b c d e f g h i (suc (suc zero)) l = c
+each-kind P a b c d e f g h i (suc (suc (suc zero))) l = d
+each-kind P a b c d e f g h i (suc (suc (suc (suc zero)))) l = e
+each-kind P a b c d e f g h i (suc (suc (suc (suc (suc zero))))) l = f
+each-kind P a b c d e f g h i (suc (suc (suc (suc (suc (suc zero)))))) l = g
+each-kind P a b c d e f g h i (suc (suc (suc (suc (suc (suc (suc zero))))))) l = h
+each-kind P a b c d e f g h i (suc (suc (suc (suc (suc (suc (suc (suc zero)))))))) l = i
+each-kind P a b c d e f g h i (suc (suc (suc (suc (suc (suc (suc (suc (suc k))))))))) l = absurd (omega arith)
+
+op-kind : (k : ℕ) → k ≤ lossMark → kindOf (opName ++ wordOf k) ≡ k
+unfolding kindOf placeOf isWord startsWith
+op-kind = each-kind (λ k. kindOf (opName ++ wordOf k) ≡ k) refl refl refl refl refl refl refl refl refl
+
+op-whole : (k : ℕ) → k ≤ lossMark → Without space (opName ++ wordOf k)
+unfolding indexOf
+op-whole = each-kind (λ k. Without space (opName ++ wordOf k)) refl refl refl refl refl refl refl refl refl
+
+word-short : (k : ℕ) → k ≤ lossMark → length (wordOf k) ≤ 5
+word-short = each-kind (λ k. length (wordOf k) ≤ 5) (omega arith) (omega arith) (omega arith) (omega arith) (omega arith) (omega arith) (omega arith) (omega arith) (omega arith)
+
+-- No line is long
+
+numeral-short : (n : ℕ) → length (numeral n) ≤ digits
+numeral-short n = omega (arith, printed-long (width (digits - 1) n) n, width-fits (digits - 1) n)
+
+text-short : (r : Record) → Sayable r → length (textOf r) ≤ 28
+unfolding textOf
+text-short r h = picked (eqb (r .kind) lossMark)
+  where
+    picked : (t : Bool)
+        → length (opName ++ (wordOf (r .kind) ++ (space ∷ cond t (tasksName ++ numeral (r .on)) (taskName ++ (numeral (r .task) ++ (space ∷ (onName ++ numeral (r .on)))))))) ≤ 28
+    picked true = simp length-append (omega (arith, word-short (r .kind) (h .kind-known), numeral-short (r .on)))
+    picked false = simp length-append (omega (arith, word-short (r .kind) (h .kind-known), numeral-short (r .on), numeral-short (r .task)))
+
+pub long-refused : LongRefused
+long-refused s h = picked (parseOf s) refl
+  where
+    picked : (p : Parsed) → parseOf s ≡ p → parseOf s ≡ Parsed.Nothing
+    picked (Parsed.Record r) e = absurd (omega (arith, ap length (only-text s r e), text-short r (only-sayable s r e)))
+    picked Parsed.Nothing e = e
+
+-- The text of a record is taken
+
+field-read : (name : List ℕ) (n : ℕ) → n < 10 ^ digits → fieldOf name (name ++ numeral n) ≡ Number.Value n
+unfolding fieldOf
+field-read name n h = rw (word-starts name (numeral n), word-dropped name (numeral n)) (numeral-read n h)
+
+digits-whole : (k n : ℕ) → Without space (digitsOf k n)
+unfolding digitsOf indexOf
+digits-whole zero n = refl
+digits-whole (suc k) n = without-cons space (48 + n / 10 ^ k % 10) (digitsOf k n) (omega arith) (digits-whole k n)
+
+task-whole : (n : ℕ) → Without space (taskName ++ numeral n)
+unfolding indexOf
+task-whole n = without-append space taskName (numeral n) refl (digits-whole (width (digits - 1) n) n)
+
+parse-words : (w s : List ℕ) → Without space w → parseOf (w ++ (space ∷ s)) ≡ restOf (kindOf w) s
+unfolding parseOf
+parse-words w s h = ap₂ (λ (x : List ℕ) (y : List ℕ). restOf (kindOf x) y) (before-seam space w s h) (after-seam space w s h)
+
+act-words : (k : ℕ) (w s : List ℕ) → Without space w → actOf k (w ++ (space ∷ s)) ≡ actBy k (fieldOf taskName w) (fieldOf onName s)
+unfolding actOf
+act-words k w s h = ap₂ (λ (x : List ℕ) (y : List ℕ). actBy k (fieldOf taskName x) (fieldOf onName y)) (before-seam space w s h) (after-seam space w s h)
+
+act-taken : (k t n : ℕ) → k < lossMark → t < 10 ^ digits → n < 10 ^ digits
+    → parseOf (textOf (record { kind = k; task = t; on = n })) ≡ Parsed.Record (record { kind = k; task = t; on = n })
+act-taken k t n h f g =
+    let rest = (taskName ++ numeral t) ++ (space ∷ (onName ++ numeral n)) in
+    let l : k ≤ lossMark = omega arith in
+    ap parseOf (act-text k t n h)
+    ∙ parse-words (opName ++ wordOf k) rest (op-whole k l)
+    ∙ ap (λ (j : ℕ). restOf j rest) (op-kind k l)
+    ∙ rest-act k rest h
+    ∙ act-words k (taskName ++ numeral t) (onName ++ numeral n) (task-whole t)
+    ∙ ap₂ (actBy k) (field-read taskName t f) (field-read onName n g)
+
+mark-taken : (n : ℕ) → n < 10 ^ digits
+    → parseOf (textOf (record { kind = lossMark; task = 0; on = n })) ≡ Parsed.Record (record { kind = lossMark; task = 0; on = n })
+unfolding markOf
+mark-taken n h =
+    let rest = tasksName ++ numeral n in
+    ap parseOf (mark-text 0 n)
+    ∙ parse-words (opName ++ wordOf lossMark) rest (op-whole lossMark (omega arith))
+    ∙ ap (λ (j : ℕ). restOf j rest) (op-kind lossMark (omega arith))
+    ∙ ap markBy (field-read tasksName n h)
+
+pub text-taken : TextTaken
+text-taken r h = picked (eqb (r .kind) lossMark) refl
+  where
+    picked : (t : Bool) → eqb (r .kind) lossMark ≡ t → parseOf (textOf r) ≡ Parsed.Record r
+    picked true e =
+        let k : r .kind ≡ lossMark = eqb-true (r .kind) lossMark e in
+        let z : r .task ≡ 0 = h .mark-alone k in
+        let q : record { kind = lossMark; task = 0; on = r .on } ≡ r = λ i. record { kind = sym k i; task = sym z i; on = r .on } in
+        subst (λ (x : Record). parseOf (textOf x) ≡ Parsed.Record x) q (mark-taken (r .on) (h .on-short))
+    picked false e = act-taken (r .kind) (r .task) (r .on) (omega (arith, eqb-false (r .kind) lossMark e, h .kind-known)) (h .task-short) (h .on-short)

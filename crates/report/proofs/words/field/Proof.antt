@@ -1,0 +1,32 @@
+-- `report::words::field`: what follows the name is read. Assumes nothing.
+use mathlib.Core.Path.{sym, ap, _∙_}
+use Prim.Native.Nat.{_≤_}
+use lib.ListN.{length}
+use borrow.Author.Needs.{needs}
+use Rattle.report.specs.LineForm.{decimalOf}
+use Rattle.report.proofs.Bytes.{word-fits}
+use Rattle.report.proofs.LineForm.{named, unnamed, part-from}
+use Rattle.report.proofs.words.field.Statement.{statement}
+use Rattle.report.proofs.words.field.Tie as tie
+
+-- the name is no longer than the part
+within : (c : tie.Then1) → let a = c .before .before .before .before .args in length (a .name .now) ≤ length (a .s .now)
+within c = word-fits _ _ (sym (c .before .starts-with .ensures) ∙ c .if1 .taken)
+
+sub-decimal : tie.Need-sub-decimal
+sub-decimal c = within c
+
+part-decimal-start : tie.Need-part-decimal-start
+part-decimal-start c = within c
+
+returns : tie.Need-returns
+returns c =
+    let a = c .before .before .before .before .before .before .args in
+    c .decimal .ensures ∙ ap decimalOf (part-from (a .s .now) (length (a .name .now)))
+    ∙ sym (named _ _ (sym (c .before .before .before .starts-with .ensures) ∙ c .before .before .if1 .taken))
+
+returns-2 : tie.Need-returns-2
+returns-2 c = sym (unnamed _ _ (sym (c .before .starts-with .ensures) ∙ c .if1 .left))
+
+pub field-spec : {M : Type 1} → statement M
+field-spec = tie.close (tie.spec (λ c κs. search needs) sub-decimal part-decimal-start (λ c. search needs) (λ c κs. search needs) returns returns-2)

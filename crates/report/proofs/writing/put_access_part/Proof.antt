@@ -1,0 +1,51 @@
+-- The words and numbers of an access, one after the other; each has room, since all together have.
+use native.Mathlib.Omega.{arith}
+use borrow.Author.Needs.{needs}
+use Rattle.report.specs.Printing.{fiveDigits}
+use Rattle.report.specs.ReportLines.{accessPart}
+use Rattle.report.proofs.Wrote.{_then_}
+use Rattle.report.proofs.Lengths.{length-access-part}
+use Rattle.report.proofs.writing.put_access_part.Statement.{statement}
+use Rattle.report.proofs.writing.put_access_part.Tie as tie
+
+put-bytes-requires : tie.Need-put-bytes-requires
+unfolding fiveDigits
+put-bytes-requires c κs = let a = c .before .before .before .args in omega (arith, length-access-part (a .number) (a .task) (a .variable))
+
+put-five-requires : tie.Need-put-five-requires
+unfolding fiveDigits
+put-five-requires c κs = let a = c .before .before .before .before .before .before .before .args in omega (arith, length-access-part (a .number) (a .task) (a .variable))
+
+put-bytes-requires-2 : tie.Need-put-bytes-requires-2
+unfolding fiveDigits
+put-bytes-requires-2 c κs = let a = c .before .before .before .before .before .before .before .before .before .before .before .before .args in omega (arith, length-access-part (a .number) (a .task) (a .variable))
+
+put-decimal-requires : tie.Need-put-decimal-requires
+unfolding fiveDigits
+put-decimal-requires c κs = let a = c .before .before .before .before .before .before .before .before .before .before .before .before .before .before .before .before .args in omega (arith, length-access-part (a .number) (a .task) (a .variable))
+
+put-bytes-requires-3 : tie.Need-put-bytes-requires-3
+unfolding fiveDigits
+put-bytes-requires-3 c κs = let a = c .before .before .before .before .before .before .before .before .before .before .before .before .before .before .before .before .before .before .before .before .before .args in omega (arith, length-access-part (a .number) (a .task) (a .variable))
+
+put-decimal-requires-2 : tie.Need-put-decimal-requires-2
+unfolding fiveDigits
+put-decimal-requires-2 c κs = let a = c .before .before .before .before .before .before .before .before .before .before .before .before .before .before .before .before .before .before .before .before .before .before .before .before .before .args in omega (arith, length-access-part (a .number) (a .task) (a .variable))
+
+returns : tie.Need-returns
+unfolding accessPart
+returns c =
+    let f = c .before .before in
+    let e = f .before .before .before .before in
+    let d = e .before .before .before .before .before in
+    let b = d .before .before .before .before in
+    let a = b .before .before .before .before .before in
+    let z = a .before .before .before .before in
+    z .put-bytes .ensures then a .put-five .ensures then b .put-bytes2 .ensures then d .put-decimal .ensures
+    then e .put-bytes3 .ensures then f .put-decimal2 .ensures
+
+pub put-access-part-spec : {M : Type 1} → statement M
+put-access-part-spec =
+    tie.close (tie.spec
+    (λ c. search needs) put-bytes-requires put-five-requires (λ c. search needs) put-bytes-requires-2
+    put-decimal-requires (λ c. search needs) put-bytes-requires-3 put-decimal-requires-2 (λ c. search needs) returns)

@@ -1,0 +1,166 @@
+-- The form of a line ("Text and report"): what it says as a record, and the text of a record.
+use mathlib.Core.Path.{_≡_}
+use Prim.Native.Nat.{ℕ, zero, suc, _+_, _*_, _-_, _/_, _%_, _^_, _≤_, _<_}
+use mathlib.Core.Bool.{Bool, cond, not, _&&_, _||_}
+use mathlib.Core.List.{List, [], _∷_, _++_}
+use lib.ListN.{length, getD, drop}
+use lib.Dec.{leb, ltb, eqb}
+use Rattle.checker.specs.declared.record.Record.{Record}
+use Rattle.checker.specs.Recording.{lossMark}
+use Rattle.report.specs.declared.decimal.Number.{Number}
+use Rattle.report.specs.declared.parsing.Parsed.{Parsed}
+use Rattle.report.specs.Bytes.{upTo, after, startsWith, isWord}
+
+-- Numbers
+
+-- "1 to 5 digits"
+abbrev pub digits : ℕ
+digits = 5
+
+-- `0` to `9`
+abbrev pub isDigit : ℕ → Bool
+isDigit b = leb 48 b && leb b 57
+
+-- "1 to 5 digits and no needless leading zero": one byte, or up to five of which the first is no `0`
+unfoldable pub isPlain : List ℕ → Bool
+isPlain s = eqb (length s) 1 || (ltb 1 (length s) && (leb (length s) digits && not (eqb (getD s 0 0) 48)))
+
+-- the number that is read from digits after the number v; nothing where a byte is no digit
+unfoldable pub digitsFrom : ℕ → List ℕ → Number
+digitsFrom v [] = Number.Value v
+digitsFrom v (b ∷ s) = cond (isDigit b) (digitsFrom (v * 10 + (b - 48)) s) Number.Nothing
+
+-- the number that a text says
+unfoldable pub decimalOf : List ℕ → Number
+decimalOf s = cond (isPlain s) (digitsFrom 0 s) Number.Nothing
+
+-- Words
+
+-- the nine words by their kind numbers
+abbrev pub words : List (List ℕ)
+words =
+    (114 ∷ 101 ∷ 97 ∷ 100 ∷ [])  -- read
+    ∷ (119 ∷ 114 ∷ 105 ∷ 116 ∷ 101 ∷ [])  -- write
+    ∷ (116 ∷ 97 ∷ 107 ∷ 101 ∷ [])  -- take
+    ∷ (103 ∷ 105 ∷ 118 ∷ 101 ∷ [])  -- give
+    ∷ (108 ∷ 111 ∷ 111 ∷ 107 ∷ [])  -- look
+    ∷ (115 ∷ 101 ∷ 116 ∷ [])  -- set
+    ∷ (115 ∷ 116 ∷ 97 ∷ 114 ∷ 116 ∷ [])  -- start
+    ∷ (106 ∷ 111 ∷ 105 ∷ 110 ∷ [])  -- join
+    ∷ (108 ∷ 111 ∷ 115 ∷ 116 ∷ [])  -- lost
+    ∷ []
+
+-- `op=`
+abbrev pub opName : List ℕ
+opName = 111 ∷ 112 ∷ 61 ∷ []
+
+-- `task=`
+abbrev pub taskName : List ℕ
+taskName = 116 ∷ 97 ∷ 115 ∷ 107 ∷ 61 ∷ []
+
+-- `on=`
+abbrev pub onName : List ℕ
+onName = 111 ∷ 110 ∷ 61 ∷ []
+
+-- `tasks=`
+abbrev pub tasksName : List ℕ
+tasksName = 116 ∷ 97 ∷ 115 ∷ 107 ∷ 115 ∷ 61 ∷ []
+
+-- a space
+abbrev pub space : ℕ
+space = 32
+
+-- the place of a word among some, or their count where it is none of them
+unfoldable pub placeOf : List (List ℕ) → List ℕ → ℕ
+placeOf [] s = zero
+placeOf (w ∷ ws) s = cond (isWord w s) zero (suc (placeOf ws s))
+
+-- the kind that `op=W` names; 9 where it names none
+unfoldable pub kindOf : List ℕ → ℕ
+kindOf s = cond (startsWith opName s) (placeOf words (drop (length opName) s)) (length words)
+
+-- the number of a field `name=N`
+unfoldable pub fieldOf : List ℕ → List ℕ → Number
+fieldOf name s = cond (startsWith name s) (decimalOf (drop (length name) s)) Number.Nothing
+
+-- Lines
+
+-- the record of an act, from its kind and what its two fields say
+abbrev pub actBy : ℕ → Number → Number → Parsed
+actBy k (Number.Value t) (Number.Value n) = Parsed.Record (record { kind = k; task = t; on = n })
+actBy k (Number.Value t) Number.Nothing = Parsed.Nothing
+actBy k Number.Nothing n = Parsed.Nothing
+
+-- the record of a loss mark, from what its field says
+abbrev pub markBy : Number → Parsed
+markBy (Number.Value m) = Parsed.Record (record { kind = lossMark; task = 0; on = m })
+markBy Number.Nothing = Parsed.Nothing
+
+-- what follows the op of an act: `task=T on=N`
+unfoldable pub actOf : ℕ → List ℕ → Parsed
+actOf k s = actBy k (fieldOf taskName (upTo space s)) (fieldOf onName (after space s))
+
+-- what follows the op of a loss mark: `tasks=M`
+unfoldable pub markOf : List ℕ → Parsed
+markOf s = markBy (fieldOf tasksName s)
+
+-- what follows an op of kind k
+abbrev pub restOf : ℕ → List ℕ → Parsed
+restOf k s = cond (ltb k lossMark) (actOf k s) (cond (eqb k lossMark) (markOf s) Parsed.Nothing)
+
+-- the record that a line says, if it is of the text form
+unfoldable pub parseOf : List ℕ → Parsed
+parseOf s = restOf (kindOf (upTo space s)) (after space s)
+
+-- The text of a record
+
+-- the last k digits of n
+unfoldable pub digitsOf : ℕ → ℕ → List ℕ
+digitsOf zero n = []
+digitsOf (suc k) n = (48 + n / 10 ^ k % 10) ∷ digitsOf k n
+
+-- how many digits n has without leading zeros, suc m at most
+unfoldable pub width : ℕ → ℕ → ℕ
+width zero n = 1
+width (suc m) n = cond (leb (10 ^ suc m) n) (suc (suc m)) (width m n)
+
+-- a number of at most 5 digits, without leading zeros
+abbrev pub numeral : ℕ → List ℕ
+numeral n = digitsOf (width (digits - 1) n) n
+
+-- the word of a kind
+abbrev pub wordOf : ℕ → List ℕ
+wordOf k = getD words k []
+
+-- the text of a record, without its LF: `op=W task=T on=N`, or `op=lost tasks=M`
+unfoldable pub textOf : Record → List ℕ
+textOf r =
+    opName ++ (wordOf (r .kind) ++ (space ∷
+    cond (eqb (r .kind) lossMark)
+    (tasksName ++ numeral (r .on))
+    (taskName ++ (numeral (r .task) ++ (space ∷ (onName ++ numeral (r .on)))))))
+
+-- a record that a line can say: one of the nine kinds, numbers of at most 5 digits, and no task in a loss mark
+pub record Sayable (r : Record) : Type 0 where
+  pub kind-known : r .kind ≤ lossMark
+  pub task-short : r .task < 10 ^ digits
+  pub on-short : r .on < 10 ^ digits
+  pub mark-alone : r .kind ≡ lossMark → r .task ≡ 0
+
+-- What is claimed of the form
+
+-- the text of a record is taken, as that record
+abbrev pub TextTaken : Type 0
+TextTaken = (r : Record) → Sayable r → parseOf (textOf r) ≡ Parsed.Record r
+
+-- nothing else is: what is taken is the text of the record
+abbrev pub OnlyText : Type 0
+OnlyText = (s : List ℕ) (r : Record) → parseOf s ≡ Parsed.Record r → s ≡ textOf r
+
+-- and of a record that a line can say
+abbrev pub OnlySayable : Type 0
+OnlySayable = (s : List ℕ) (r : Record) → parseOf s ≡ Parsed.Record r → Sayable r
+
+-- no line of more than 64 bytes is
+abbrev pub LongRefused : Type 0
+LongRefused = (s : List ℕ) → 64 < length s → parseOf s ≡ Parsed.Nothing

@@ -1,0 +1,24 @@
+-- The lines of a text ("Text and report").
+use Prim.Native.Nat.{ℕ}
+use mathlib.Core.Bool.{cond}
+use mathlib.Core.List.{List, [], _∷_}
+use lib.Dec.{eqb}
+use Rattle.report.specs.Bytes.{indexOf}
+
+-- LF, which ends a line
+abbrev pub lf : ℕ
+lf = 10
+
+-- the lines of a text that begins with a byte other than LF, from the lines of what follows the byte
+abbrev pub begunBy : ℕ → List (List ℕ) → List (List ℕ)
+begunBy b [] = (b ∷ []) ∷ []
+begunBy b (l ∷ ls) = (b ∷ l) ∷ ls
+
+-- the lines of a text, without their LFs: "ended by LF; a non-empty rest without LF is a line too"
+unfoldable pub linesOf : List ℕ → List (List ℕ)
+linesOf [] = []
+linesOf (b ∷ s) = cond (eqb b lf) ([] ∷ linesOf s) (begunBy b (linesOf s))
+
+-- where the first line ends: the index of the first LF, or the text's length
+abbrev pub lineEnd : List ℕ → ℕ
+lineEnd s = indexOf lf s

@@ -1,0 +1,47 @@
+-- The report of a text: its lines, numbered from 1, fed from a fresh state, each with what the report has for it. And what the C entry
+-- does with the memory that it is lent.
+use Prim.Native.Nat.{ℕ, zero, suc, _+_, _/_, _^_, _-_}
+use mathlib.Core.Bool.{Bool, true, false, cond}
+use mathlib.Core.List.{List, [], _∷_, _++_}
+use lib.Dec.{ltb}
+use lib.ListN.{length}
+use lib.Seq.{sets}
+use Rattle.checker.specs.declared.record.Record.{Record}
+use Rattle.checker.specs.declared.state.State.{State}
+use Rattle.checker.specs.declared.answer.Answer.the-variants.{Refused}
+use Rattle.checker.specs.Step.{stepOf, freshState}
+use Rattle.report.specs.declared.parsing.Parsed.{Parsed}
+use Rattle.report.specs.Lines.{linesOf}
+use Rattle.report.specs.LineForm.{parseOf}
+use Rattle.report.specs.ReportLines.{reportLine, refusedLine}
+
+-- what the report has for a line: "A line that yields no record is refused with 1"
+abbrev pub saidFor : ℕ → State → Parsed → List ℕ
+saidFor n s Parsed.Nothing = refusedLine n 1
+saidFor n s (Parsed.Record r) = reportLine n r ((stepOf s r) .answer)
+
+-- the state after a line
+abbrev pub stateAfter : State → Parsed → State
+stateAfter s Parsed.Nothing = s
+stateAfter s (Parsed.Record r) = (stepOf s r) .state
+
+-- the report of lines, the first having number n, fed to a state
+unfoldable pub reportFrom : ℕ → State → List (List ℕ) → List ℕ
+reportFrom n s [] = []
+reportFrom n s (l ∷ ls) = saidFor n s (parseOf l) ++ reportFrom (suc n) (stateAfter s (parseOf l)) ls
+
+-- the report of a text
+unfoldable pub reportOf : List ℕ → List ℕ
+reportOf text = reportFrom 1 freshState (linesOf text)
+
+-- row 11: report memory of this size has under 64 bytes for each line
+abbrev pub tooSmall : List ℕ → ℕ → Bool
+tooSmall text size = ltb (size / 64) (length (linesOf text))
+
+-- the count of bytes written, or 64 one-bits
+abbrev pub countOf : List ℕ → List ℕ → ℕ
+countOf text memory = cond (tooSmall text (length memory)) (2 ^ 64 - 1) (length (reportOf text))
+
+-- the memory after: untouched, or the report from its start on and the bytes after it as they were
+abbrev pub memoryOf : List ℕ → List ℕ → List ℕ
+memoryOf text memory = cond (tooSmall text (length memory)) memory (sets memory 0 (reportOf text))

@@ -1,0 +1,29 @@
+-- The lines of the report ("Text and report").
+use Prim.Native.Nat.{ℕ}
+use mathlib.Core.List.{List, [], _++_}
+use Rattle.report.specs.Printing.{bytes, decimal, fiveDigits}
+use Rattle.checker.specs.declared.record.Record.{Record}
+use Rattle.checker.specs.declared.answer.Answer.{Answer}
+use Rattle.checker.specs.declared.answer.Answer.the-variants.{Refused, Accepted, Clear, Race, Doubt}
+
+-- which access it is: "rec=00002 task=0 var=5", by its record number, task and variable
+unfoldable pub accessPart : ℕ → ℕ → ℕ → List ℕ
+accessPart number task variable =
+    bytes "rec=" ++ fiveDigits number ++ bytes " task=" ++ decimal task ++ bytes " var=" ++ decimal variable
+
+-- an accepted access: "rec=00002 task=0 var=5 verdict=clear with=00000", with the verdict's word and the partner's record number
+unfoldable pub accessLine : ℕ → ℕ → ℕ → List ℕ → ℕ → List ℕ
+accessLine number task variable verdict partner =
+    accessPart number task variable ++ bytes " verdict=" ++ verdict ++ bytes " with=" ++ fiveDigits partner ++ bytes "\n"
+
+-- a refused line: "line=10 refused=6", by its line number and the refusal's number; one that yields no record is refused with 1
+unfoldable pub refusedLine : ℕ → ℕ → List ℕ
+refusedLine line number = bytes "line=" ++ decimal line ++ bytes " refused=" ++ decimal number ++ bytes "\n"
+
+-- what the report has for a line: its line number, the record that it said, and what feeding that answered
+abbrev pub reportLine : ℕ → Record → Answer → List ℕ
+reportLine line r (Refused number) = refusedLine line number
+reportLine line r (Accepted number) = []
+reportLine line r (Clear number) = accessLine (number .0) (r .task) (r .on) (bytes "clear") 0
+reportLine line r (Race number partner) = accessLine (number .0) (r .task) (r .on) (bytes "race") (partner .0)
+reportLine line r (Doubt number partner) = accessLine (number .0) (r .task) (r .on) (bytes "doubt") (partner .0)

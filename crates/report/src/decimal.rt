@@ -1,0 +1,63 @@
+// Numbers in base ten: 1 to 5 digits and no needless leading zero.
+ghost use mathlib.Core.Path.{_≡_};
+ghost use Prim.Native.Nat.{_≤_};
+ghost use lib.ListN.{length};
+ghost use Rattle.report.specs.LineForm.{isDigit, isPlain, digits, digitsFrom, decimalOf};
+
+// What a part of a line says as a number.
+pub enum Number {
+    Value(u32),
+    Nothing,
+}
+
+const DIGITS: usize = 5;
+
+fn is_digit(b: u8) -> bool
+    ensures { λ r. ⌜ r ≡ isDigit b ⌝ }
+{
+    if b < b'0' { false } else { b <= b'9' }
+}
+
+// 1 to 5 bytes, of which the first is `0` only where it is alone.
+fn is_plain(s: &[u8]) -> bool
+    ensures { λ r. ⌜ r ≡ isPlain (now (s .entry)) ⌝ }
+{
+    if s.len() == 0 {
+        return false;
+    }
+    if s.len() == 1 {
+        return true;
+    }
+    if DIGITS < s.len() {
+        return false;
+    }
+    s[0] != b'0'
+}
+
+// The number that is read from digits.
+fn read_digits(s: &[u8]) -> Number
+    requires { ⌜ length (now s) ≤ digits ⌝ }
+    ensures { λ r. ⌜ r ≡ digitsFrom 0 (now (s .entry)) ⌝ }
+{
+    let mut v: u32 = 0;
+    let mut i = 0;
+    while i < s.len() {
+        let b = s[i];
+        if !is_digit(b) {
+            return Number::Nothing;
+        }
+        v = v * 10 + (b - b'0') as u32;
+        i += 1;
+    }
+    Number::Value(v)
+}
+
+// What a part of a line says as a decimal.
+pub(crate) fn decimal(s: &[u8]) -> Number
+    ensures { λ r. ⌜ r ≡ decimalOf (now (s .entry)) ⌝ }
+{
+    if is_plain(s) {
+        return read_digits(s);
+    }
+    Number::Nothing
+}

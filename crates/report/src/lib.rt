@@ -1,0 +1,12 @@
+// The text layer above the order checker: lines in, report lines out. It relies on the checker's promises only.
+mod decimal;
+mod entry;
+mod parsing;
+mod scan;
+mod words;
+mod writing;
+
+pub use decimal::Number;
+pub use entry::order_report;
+pub use parsing::Parsed;
+pub use parsing::parse_line;

@@ -1,0 +1,73 @@
+// A line as a record: `op=W task=T on=N`, or `op=lost tasks=M`.
+use crate::decimal::Number;
+use crate::scan::place_of;
+use crate::words::field;
+use crate::words::kind;
+use checker::Record;
+ghost use mathlib.Core.Path.{_≡_};
+ghost use Prim.Native.Nat.{ℕ, suc, _≤_, _<_};
+ghost use lib.ListN.{length, drop};
+ghost use Rattle.report.specs.LineForm.{actOf, markOf, parseOf};
+
+// What a line says.
+pub enum Parsed {
+    Record(Record),
+    Nothing,
+}
+
+const LOST: u8 = 8;
+
+const SPACE: u8 = 32;
+
+// The place after a space; the end where there is none.
+fn past(s: &[u8], at: usize) -> usize
+    requires { ⌜ at ≤ length (now s) ⌝ }
+    ensures { λ r. ⌜ (drop r (now (s .entry)) ≡ drop (suc at) (now (s .entry))) × (r ≤ length (now (s .entry))) ⌝ }
+{
+    if at < s.len() { at + 1 } else { at }
+}
+
+// What follows the op of an act: `task=T on=N`.
+fn act(kind: u8, s: &[u8]) -> Parsed
+    ensures { λ r. ⌜ r ≡ actOf kind (now (s .entry)) ⌝ }
+{
+    let e = place_of(s, 0, SPACE);
+    let Number::Value(task) = field(b"task=", &s[..e]) else {
+        return Parsed::Nothing;
+    };
+    let p = past(s, e);
+    let Number::Value(on) = field(b"on=", &s[p..]) else {
+        return Parsed::Nothing;
+    };
+    Parsed::Record(Record { kind, task, on })
+}
+
+// What follows `op=lost`: `tasks=M`.
+fn mark(s: &[u8]) -> Parsed
+    ensures { λ r. ⌜ r ≡ markOf (now (s .entry)) ⌝ }
+{
+    let Number::Value(on) = field(b"tasks=", s) else {
+        return Parsed::Nothing;
+    };
+    Parsed::Record(Record {
+        kind: LOST,
+        task: 0,
+        on,
+    })
+}
+
+// The record that a line says, if it is of the text form.
+pub fn parse_line(line: &[u8]) -> Parsed
+    ensures { λ r. ⌜ r ≡ parseOf (now (line .entry)) ⌝ }
+{
+    let e = place_of(line, 0, SPACE);
+    let k = kind(&line[..e]);
+    let p = past(line, e);
+    if k < LOST {
+        return act(k, &line[p..]);
+    }
+    if k == LOST {
+        return mark(&line[p..]);
+    }
+    Parsed::Nothing
+}

@@ -1,0 +1,44 @@
+// Where a byte stands, and the lines of a text: each is ended by LF, and a non-empty rest without LF is a line too.
+ghost use mathlib.Core.Path.{_≡_};
+ghost use Prim.Native.Nat.{_+_, _≤_};
+ghost use lib.ListN.{length, drop};
+ghost use Rattle.report.specs.Bytes.{indexOf};
+ghost use Rattle.report.specs.Lines.{lineEnd, linesOf};
+
+const LF: u8 = 10;
+
+// Where the first b stands, from a place on; the length where there is none.
+pub(crate) fn place_of(text: &[u8], from: usize, b: u8) -> usize
+    requires { ⌜ from ≤ length (now text) ⌝ }
+    ensures { λ r. ⌜ (r ≡ from + indexOf b (drop from (now (text .entry)))) × (r ≤ length (now (text .entry))) ⌝ }
+{
+    let mut i = from;
+    while i < text.len() {
+        if text[i] == b {
+            return i;
+        }
+        i += 1;
+    }
+    i
+}
+
+// Where the line that begins at a place ends: its LF, or the end of the text.
+pub(crate) fn line_end(text: &[u8], from: usize) -> usize
+    requires { ⌜ from ≤ length (now text) ⌝ }
+    ensures { λ r. ⌜ (r ≡ from + lineEnd (drop from (now (text .entry)))) × (r ≤ length (now (text .entry))) ⌝ }
+{
+    place_of(text, from, LF)
+}
+
+// How many lines a text has.
+pub(crate) fn line_count(text: &[u8]) -> usize
+    ensures { λ r. ⌜ r ≡ length (linesOf (now (text .entry))) ⌝ }
+{
+    let mut n = 0;
+    let mut at = 0;
+    while at < text.len() {
+        at = line_end(text, at) + 1;
+        n += 1;
+    }
+    n
+}

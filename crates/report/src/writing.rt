@@ -1,0 +1,123 @@
+// Report lines, written into lent memory. Each function writes at a place and returns the place after what it wrote.
+use checker::Answer;
+use checker::Record;
+ghost use Prim.Native.Nat.{_+_, _<_, _≤_, _^_};
+ghost use mathlib.Core.List.{[], _∷_};
+ghost use lib.ListN.{length};
+ghost use Rattle.report.specs.Printing.{lastDigit, decimal, fiveDigits};
+ghost use Rattle.report.specs.ReportLines.{accessPart, accessLine, refusedLine, reportLine};
+ghost use Rattle.report.specs.Wrote.{Wrote};
+
+// The bytes as they are.
+fn put_bytes(out: &mut [u8], at: usize, bytes: &[u8]) -> usize
+    requires { ⌜ at + length (now bytes) ≤ length (now out) ⌝ }
+    ensures { λ r. ⌜ Wrote (now (out .entry)) at (now (bytes .entry)) (now (out .exit)) r ⌝ }
+{
+    let mut i = 0;
+    while i < bytes.len() {
+        out[at + i] = bytes[i];
+        i += 1;
+    }
+    at + i
+}
+
+// The last digit of a number.
+fn put_digit(out: &mut [u8], at: usize, n: u64) -> usize
+    requires { ⌜ at < length (now out) ⌝ }
+    ensures { λ r. ⌜ Wrote (now (out .entry)) at (lastDigit n ∷ []) (now (out .exit)) r ⌝ }
+{
+    out[at] = (n % 10) as u8 + 48;
+    at + 1
+}
+
+// A number without leading zeros: the digits of its tenth, if it has one, and the last.
+fn put_decimal(out: &mut [u8], at: usize, n: u64) -> usize
+    requires { ⌜ at + length (decimal n) ≤ length (now out) ⌝ }
+    ensures { λ r. ⌜ Wrote (now (out .entry)) at (decimal n) (now (out .exit)) r ⌝ }
+{
+    if n < 10 {
+        return put_digit(out, at, n);
+    }
+    let last = put_decimal(out, at, n / 10);
+    put_digit(out, last, n)
+}
+
+// The last five digits of a number, leading zeros included.
+fn put_five(out: &mut [u8], at: usize, n: u32) -> usize
+    requires { ⌜ at + 5 ≤ length (now out) ⌝ }
+    ensures { λ r. ⌜ Wrote (now (out .entry)) at (fiveDigits n) (now (out .exit)) r ⌝ }
+{
+    let n = n as u64;
+    let second = put_digit(out, at, n / 10_000);
+    let third = put_digit(out, second, n / 1000);
+    let fourth = put_digit(out, third, n / 100);
+    let fifth = put_digit(out, fourth, n / 10);
+    put_digit(out, fifth, n)
+}
+
+// The first part of an access's line, up to its variable.
+fn put_access_part(out: &mut [u8], at: usize, number: u32, task: u32, variable: u32) -> usize
+    requires { ⌜ at + length (accessPart number task variable) ≤ length (now out) ⌝ }
+    ensures { λ r. ⌜ Wrote (now (out .entry)) at (accessPart number task variable) (now (out .exit)) r ⌝ }
+{
+    let a = put_bytes(out, at, b"rec=");
+    let b = put_five(out, a, number);
+    let c = put_bytes(out, b, b" task=");
+    let d = put_decimal(out, c, task as u64);
+    let e = put_bytes(out, d, b" var=");
+    put_decimal(out, e, variable as u64)
+}
+
+// The line of an accepted access, by its record number, the verdict's word and the partner's record number.
+fn put_access_line(
+    out: &mut [u8],
+    at: usize,
+    number: u32,
+    r: Record,
+    verdict: &[u8],
+    partner: u32,
+) -> usize
+    requires { ⌜ at + length (accessLine number (r .task) (r .on) (now verdict) partner) ≤ length (now out) ⌝ }
+    ensures { λ to. ⌜ Wrote (now (out .entry)) at (accessLine number (r .task) (r .on) (now (verdict .entry)) partner) (now (out .exit)) to ⌝ }
+{
+    let a = put_access_part(out, at, number, r.task, r.on);
+    let b = put_bytes(out, a, b" verdict=");
+    let c = put_bytes(out, b, verdict);
+    let d = put_bytes(out, c, b" with=");
+    let e = put_five(out, d, partner);
+    put_bytes(out, e, b"\n")
+}
+
+// The line of a refused line, by its line number and the refusal's number.
+pub(crate) fn put_refused(out: &mut [u8], at: usize, line: u64, number: u32) -> usize
+    requires { ⌜ at + 64 ≤ length (now out) ⌝ }
+    ensures { λ r. ⌜ Wrote (now (out .entry)) at (refusedLine line number) (now (out .exit)) r × (r ≤ at + 64) ⌝ }
+{
+    let a = put_bytes(out, at, b"line=");
+    let b = put_decimal(out, a, line);
+    let c = put_bytes(out, b, b" refused=");
+    let d = put_decimal(out, c, number as u64);
+    put_bytes(out, d, b"\n")
+}
+
+// What the report has for a line that said the record r and got the answer a.
+// 64 bytes are room enough where task and variable have at most nine digits; in the text form they have five.
+pub(crate) fn put_answer(out: &mut [u8], at: usize, line: u64, r: Record, a: Answer) -> usize
+    requires { ⌜ (at + 64 ≤ length (now out)) × (r .task < 10 ^ 9) × (r .on < 10 ^ 9) ⌝ }
+    ensures { λ to. ⌜ Wrote (now (out .entry)) at (reportLine line r a) (now (out .exit)) to × (to ≤ at + 64) ⌝ }
+{
+    match a {
+        Answer::Refused(number) => put_refused(out, at, line, number),
+        Answer::Accepted(_) => at,
+        Answer::Clear(number) => put_access_line(out, at, number.0, r, b"clear", 0),
+        Answer::Race(number, partner) => put_access_line(out, at, number.0, r, b"race", partner.0),
+        Answer::Doubt(number, partner) => put_access_line(
+            out,
+            at,
+            number.0,
+            r,
+            b"doubt",
+            partner.0,
+        ),
+    }
+}
