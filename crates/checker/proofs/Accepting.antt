@@ -17,7 +17,9 @@ use Rattle.checker.specs.declared.state.Stepped.{Stepped}
 use Rattle.checker.specs.Recording.{seriesOf}
 use Rattle.checker.specs.Acceptance.{Fitting}
 use Rattle.checker.specs.Control.{liveIn, unseenIn, countIn, refusalIn}
-use Rattle.checker.specs.Step.{clockStepBy, setStepBy, stepBy, masksOfClocks, masksOfSets, sameMasks, accepted, stepOf}
+use Rattle.checker.specs.declared.masks.Masks.{Masks}
+use Rattle.checker.specs.Reckonings.{masksBy}
+use Rattle.checker.specs.Step.{masksUnless, clockStepBy, setStepBy, stepBy, masksOfClocks, masksOfSets, sameMasks, accepted, stepOf}
 use Rattle.checker.proofs.Acceptance.{Passed, passed}
 
 -- an accepted record's numbers are in their ranges, and there is room for it
@@ -55,3 +57,8 @@ pub step-accepted : (s : State) (r : Record) (n : ℕ) → n ≡ refusalIn (s .c
     accepted s r ≡ stepOf s r
 unfolding stepOf
 step-accepted s r n e z q = rw (← e, z, q)
+
+-- no masks for a record that would be refused
+pub refused-masks : (n : ℕ) (m : Masks) → ¬ (n ≡ 0) → masksBy 0 0 ≡ masksUnless n m
+refused-masks zero m h = absurd (h refl)
+refused-masks (suc n) m h = refl

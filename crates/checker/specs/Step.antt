@@ -18,7 +18,7 @@ use Rattle.checker.specs.declared.state.SetStepped.{SetStepped}
 use Rattle.checker.specs.declared.masks.Masks.{Masks}
 use Rattle.checker.specs.Control.{countIn, refusalIn, controlAfter}
 use Rattle.checker.specs.History.{accesses, latestNumber, lastAfter}
-use Rattle.checker.specs.Reckonings.{clocksArrived, clocksFull, setsArrived, setsFull, clockMasks, setMasks, lowestTask}
+use Rattle.checker.specs.Reckonings.{clocksArrived, clocksFull, setsArrived, setsFull, masksBy, clockMasks, setMasks, lowestTask}
 
 abbrev pub recordNumber : ℕ → RecordNumber
 recordNumber n = record { 0 = n }
@@ -126,6 +126,11 @@ stepBy (suc n) s r = record { state = s; answer = Refused (suc n) }
 
 unfoldable pub stepOf : State → Record → Stepped
 stepOf s r = stepBy (refusalIn (s .control) r) s r
+
+-- the masks that a record is asked for, by the refusal that it would get: none where it would be refused
+abbrev pub masksUnless : ℕ → Masks → Masks
+masksUnless zero masks = masks
+masksUnless (suc n) masks = masksBy 0 0
 
 -- Fresh states: task 0 is live, and nothing else is known
 

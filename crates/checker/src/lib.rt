@@ -1,6 +1,7 @@
 // The order checker below the text layer.
 // What is meant by order, completions and verdicts stands in specs/, and what is known of them in proofs/.
 mod answer;
+mod asking;
 mod clocks;
 mod control;
 mod history;
@@ -17,6 +18,8 @@ mod state;
 mod stepping;
 
 pub use answer::Answer;
+pub use asking::apart_by_clocks;
+pub use asking::apart_by_sets;
 pub use masks::Masks;
 pub use numbers::Flag;
 pub use numbers::RecordNumber;

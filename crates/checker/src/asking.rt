@@ -1,0 +1,51 @@
+// Which tasks' latest conflicting access has no path to an access, asked without feeding it: a mask for the fullest filling and one for
+// the recording as it arrived. Empty for a record that is no access or would be refused.
+use crate::clocks::clock_masks;
+use crate::masks::Masks;
+use crate::record::Record;
+use crate::refusals::refusal;
+use crate::sets::set_masks;
+ghost use mathlib.Core.Path.{_≡_};
+ghost use Rattle.checker.specs.Control.{refusalIn};
+ghost use Rattle.checker.specs.Reckonings.{clockMasks, setMasks};
+ghost use Rattle.checker.specs.Step.{masksUnless};
+
+// By the clocks.
+pub fn apart_by_clocks(
+    control: &[u32; 17],
+    last: &[u32; 2048],
+    clocks: &[u32; 1536],
+    fullclocks: &[u32; 1536],
+    r: Record,
+) -> Masks
+    ensures { λ m. ⌜ m ≡ masksUnless (refusalIn (now (control .entry)) r) (clockMasks (now (clocks .entry)) (now (fullclocks .entry)) (now (last .entry)) (r .kind) (r .task) (r .on)) ⌝ }
+{
+    let refused = refusal(control, r);
+    if refused != 0 {
+        return Masks {
+            full: 0,
+            arrived: 0,
+        };
+    }
+    clock_masks(clocks, fullclocks, last, r.kind, r.task, r.on)
+}
+
+// By the sets.
+pub fn apart_by_sets(
+    control: &[u32; 17],
+    last: &[u32; 2048],
+    sets: &[u8; 196608],
+    fullsets: &[u8; 196608],
+    r: Record,
+) -> Masks
+    ensures { λ m. ⌜ m ≡ masksUnless (refusalIn (now (control .entry)) r) (setMasks (now (sets .entry)) (now (fullsets .entry)) (now (last .entry)) (r .kind) (r .task) (r .on)) ⌝ }
+{
+    let refused = refusal(control, r);
+    if refused != 0 {
+        return Masks {
+            full: 0,
+            arrived: 0,
+        };
+    }
+    set_masks(sets, fullsets, last, r.kind, r.task, r.on)
+}
