@@ -69,6 +69,11 @@ index-seam b (x ∷ w) s h = let (f, g) = first-not (eqb x b) (indexOf b w) (len
 pub without-cons : (b x : ℕ) (s : List ℕ) → (x ≡ b → ⊥) → Without b s → Without b (x ∷ s)
 without-cons b x s d h = index-later b s d ∙ ap suc h
 
+-- the first byte is not b, and none after it
+pub without-head : (b x : ℕ) (s : List ℕ) → Without b (x ∷ s) → (x ≡ b → ⊥) × Without b s
+unfolding indexOf
+without-head b x s h = let (f, g) = first-not (eqb x b) (indexOf b s) (length s) h in (eqb-false x b f, g)
+
 take-seam : (w s : List ℕ) → take (length w) (w ++ s) ≡ w
 take-seam [] s = refl
 take-seam (x ∷ w) s = ap (λ (l : List ℕ). x ∷ l) (take-seam w s)

@@ -1,0 +1,65 @@
+-- The report of a text that comes in pieces: what is kept between them, what each byte adds to the report, and the law that the cut does
+-- not matter.
+use mathlib.Core.Path.{_≡_}
+use Prim.Native.Nat.{ℕ, zero, suc}
+use mathlib.Core.Bool.{cond}
+use mathlib.Core.List.{List, [], _∷_, _++_}
+use lib.Dec.{eqb}
+use lib.ListN.{length, take}
+use Rattle.checker.specs.declared.state.State.{State}
+use Rattle.checker.specs.Step.{freshState}
+use Rattle.report.specs.Lines.{lf}
+use Rattle.report.specs.LineForm.{parseOf}
+use Rattle.report.specs.Report.{saidFor, stateAfter, reportOf}
+
+-- what is kept between pieces: the running state, how many lines are answered, and what is held of the line that has begun
+pub record Kept : Type 0 where
+  pub state : State
+  pub lines : ℕ
+  pub held : List ℕ
+
+-- before the first piece
+abbrev pub freshKept : Kept
+freshKept = record { state = freshState; lines = 0; held = [] }
+
+-- so many bytes of a line are held at most: a line of more than 64 is refused, whatever else it says (`LongRefused`)
+abbrev pub heldMost : ℕ
+heldMost = 65
+
+-- what the report has at a byte: LF ends the line that has begun, and it is answered
+unfoldable pub saidAt : Kept → ℕ → List ℕ
+saidAt k b = cond (eqb b lf) (saidFor (suc (k .lines)) (k .state) (parseOf (k .held))) []
+
+-- what is kept after a byte
+unfoldable pub afterByte : Kept → ℕ → Kept
+afterByte k b =
+    cond (eqb b lf)
+    (record { state = stateAfter (k .state) (parseOf (k .held)); lines = suc (k .lines); held = [] })
+    (record { state = k .state; lines = k .lines; held = take heldMost (k .held ++ (b ∷ [])) })
+
+-- what the report has for a piece, and what is kept after it
+unfoldable pub saidIn : Kept → List ℕ → List ℕ
+saidIn k [] = []
+saidIn k (b ∷ s) = saidAt k b ++ saidIn (afterByte k b) s
+
+unfoldable pub afterPiece : Kept → List ℕ → Kept
+afterPiece k [] = k
+afterPiece k (b ∷ s) = afterPiece (afterByte k b) s
+
+-- what the report has at the text's end: "a non-empty rest without LF is a line too", as if LF ended it
+abbrev pub saidAtEnd : Kept → List ℕ
+saidAtEnd k = cond (eqb (length (k .held)) 0) [] (saidAt k lf)
+
+-- what the report has for pieces and for the text's end after them
+unfoldable pub saidInAll : Kept → List (List ℕ) → List ℕ
+saidInAll k [] = saidAtEnd k
+saidInAll k (p ∷ ps) = saidIn k p ++ saidInAll (afterPiece k p) ps
+
+-- the text that was cut into pieces
+unfoldable pub joined : List (List ℕ) → List ℕ
+joined [] = []
+joined (p ∷ ps) = p ++ joined ps
+
+-- however a text is cut, what is said for its pieces makes its report
+abbrev pub AnyCut : Type 0
+AnyCut = (pieces : List (List ℕ)) → saidInAll freshKept pieces ≡ reportOf (joined pieces)
