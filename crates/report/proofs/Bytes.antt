@@ -7,7 +7,7 @@ use native.Mathlib.Nat.{add-zero}
 use native.Mathlib.Numerals.{add-one}
 use native.Mathlib.Omega.{arith}
 use lib.Dec.{eqb}
-use lib.ListN.{length, getD, take, drop, drop-of-length-le, length-append}
+use lib.ListN.{length, getD, take, drop, drop-of-length-le, length-append, length-drop}
 use lib.Seq.{drop-cons}
 use borrow.Author.Tests.{eq-eqb, ne-eqb, eqb-true, eqb-false}
 use Rattle.report.specs.Bytes.{indexOf, upTo, after, startsWith, isWord}
@@ -106,17 +106,21 @@ before-without b (x ∷ s) = picked (eqb x b) refl (before-without b s)
     picked true e ih = refl
     picked false e ih = without-cons b x (upTo b s) (eqb-false x b e) ih
 
--- where something stands after the first b, the list is what stands before it, b and that
-pub rejoined : (b : ℕ) (s : List ℕ) → 0 < length (after b s) → s ≡ upTo b s ++ (b ∷ after b s)
+-- where there is a b, the list is what stands before it, b and what stands after
+pub split-first : (b : ℕ) (s : List ℕ) → indexOf b s < length s → s ≡ upTo b s ++ (b ∷ after b s)
 unfolding indexOf
-rejoined b [] h = absurd (omega arith)
-rejoined b (x ∷ s) h = picked (eqb x b) refl h (rejoined b s)
+split-first b [] h = absurd (omega arith)
+split-first b (x ∷ s) h = picked (eqb x b) refl h (split-first b s)
   where
-    picked : (t : Bool) → eqb x b ≡ t → 0 < length (drop (suc (cond t zero (suc (indexOf b s)))) (x ∷ s))
-        → (0 < length (after b s) → s ≡ upTo b s ++ (b ∷ after b s))
+    picked : (t : Bool) → eqb x b ≡ t → cond t zero (suc (indexOf b s)) < suc (length s)
+        → (indexOf b s < length s → s ≡ upTo b s ++ (b ∷ after b s))
         → x ∷ s ≡ take (cond t zero (suc (indexOf b s))) (x ∷ s) ++ (b ∷ drop (suc (cond t zero (suc (indexOf b s)))) (x ∷ s))
     picked true e h ih = ap (λ (y : ℕ). y ∷ s) (eqb-true x b e)
-    picked false e h ih = ap (λ (l : List ℕ). x ∷ l) (ih h)
+    picked false e h ih = ap (λ (l : List ℕ). x ∷ l) (ih (omega arith))
+
+-- so where something stands after it
+pub rejoined : (b : ℕ) (s : List ℕ) → 0 < length (after b s) → s ≡ upTo b s ++ (b ∷ after b s)
+rejoined b s h = split-first b s (omega (arith, length-drop (suc (indexOf b s)) s))
 
 -- Words
 

@@ -9,3 +9,4 @@ pub mod Lengths
 pub mod ReportExamples
 pub mod Reporting
 pub mod Pieces
+pub mod Held

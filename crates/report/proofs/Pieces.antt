@@ -13,7 +13,7 @@ use Rattle.report.specs.declared.parsing.Parsed.{Parsed}
 use Rattle.report.specs.Lines.{lf, linesOf}
 use Rattle.report.specs.LineForm.{parseOf}
 use Rattle.report.specs.Report.{saidFor, stateAfter, reportFrom, reportOf}
-use Rattle.report.specs.Pieces.{Kept, freshKept, heldMost, saidAt, afterByte, saidIn, afterPiece, saidAtEnd, saidInAll, joined, AnyCut}
+use Rattle.report.specs.Pieces.{Kept, kept, freshKept, heldMost, saidAt, afterByte, saidIn, afterPiece, saidAtEnd, saidInAll, joined, AnyCut}
 use Rattle.report.proofs.Bytes.{Without, index-none, without-append, without-cons, without-head}
 use Rattle.report.proofs.Lines.{no-lines, line-first, line-last}
 use Rattle.report.proofs.RoundTrip.{long-refused}
@@ -22,7 +22,7 @@ use Rattle.report.proofs.RoundTrip.{long-refused}
 
 -- what is kept where a line has begun with h
 abbrev pub keptWith : State → ℕ → List ℕ → Kept
-keptWith s n h = record { state = s; lines = n; held = take heldMost h }
+keptWith s n h = kept s n (take heldMost h)
 
 -- cutting before a list is added or after makes no difference
 pub take-again : (n : ℕ) (a b : List ℕ) → take n (take n a ++ b) ≡ take n (a ++ b)

@@ -1,13 +1,14 @@
 -- The report of a text that comes in pieces: what is kept between them, what each byte adds to the report, and the law that the cut does
 -- not matter.
 use mathlib.Core.Path.{_≡_}
-use Prim.Native.Nat.{ℕ, zero, suc}
+use Prim.Native.Nat.{ℕ, zero, suc, _+_}
 use mathlib.Core.Bool.{cond}
 use mathlib.Core.List.{List, [], _∷_, _++_}
 use lib.Dec.{eqb}
 use lib.ListN.{length, take}
 use Rattle.checker.specs.declared.state.State.{State}
 use Rattle.checker.specs.Step.{freshState}
+use Rattle.report.specs.declared.streaming.Progress.{Progress}
 use Rattle.report.specs.Lines.{lf}
 use Rattle.report.specs.LineForm.{parseOf}
 use Rattle.report.specs.Report.{saidFor, stateAfter, reportOf}
@@ -18,9 +19,12 @@ pub record Kept : Type 0 where
   pub lines : ℕ
   pub held : List ℕ
 
+abbrev pub kept : State → ℕ → List ℕ → Kept
+kept s n h = record { state = s; lines = n; held = h }
+
 -- before the first piece
 abbrev pub freshKept : Kept
-freshKept = record { state = freshState; lines = 0; held = [] }
+freshKept = kept freshState 0 []
 
 -- so many bytes of a line are held at most: a line of more than 64 is refused, whatever else it says (`LongRefused`)
 abbrev pub heldMost : ℕ
@@ -63,3 +67,14 @@ joined (p ∷ ps) = p ++ joined ps
 -- however a text is cut, what is said for its pieces makes its report
 abbrev pub AnyCut : Type 0
 AnyCut = (pieces : List (List ℕ)) → saidInAll freshKept pieces ≡ reportOf (joined pieces)
+
+-- As memory
+
+-- what is kept, from the progress and the memory that holds the line that has begun
+abbrev pub keptOf : State → Progress → List ℕ → Kept
+keptOf s begun memory = kept s (begun .lines) (take (begun .held) memory)
+
+-- the progress after a piece, the report having come to a place before it
+abbrev pub progressAfter : Kept → ℕ → List ℕ → Progress
+progressAfter k at piece =
+    record { lines = (afterPiece k piece) .lines; held = length ((afterPiece k piece) .held); at = at + length (saidIn k piece) }

@@ -1,12 +1,9 @@
 // The C entry: a text and report memory in, the count of bytes written out.
 
-use crate::parsing::Parsed;
-use crate::parsing::parse_line;
+use crate::answering::put_line;
 use crate::scan::line_count;
-use crate::scan::line_end;
-use crate::writing::put_answer;
-use crate::writing::put_refused;
-use checker::step_in_place;
+use crate::streaming::Progress;
+use crate::streaming::put_piece;
 ghost use mathlib.Core.Path.{_≡_};
 ghost use Prim.Native.Nat.{_<_, _≤_, _+_, _*_};
 ghost use lib.ListN.{length};
@@ -16,35 +13,7 @@ ghost use Rattle.report.specs.LineForm.{parseOf};
 ghost use Rattle.report.specs.Wrote.{Wrote};
 ghost use Rattle.report.specs.Report.{saidFor, stateAfter, reportOf, countOf, memoryOf};
 
-// Feeds one line and writes what the report has for it.
-fn put_line(
-    out: &mut [u8],
-    at: usize,
-    number: u64,
-    line: &[u8],
-    control: &mut [u32; 17],
-    last: &mut [u32; 2048],
-    clocks: &mut [u32; 1536],
-    fullclocks: &mut [u32; 1536],
-    sets: &mut [u8; 196608],
-    fullsets: &mut [u8; 196608],
-) -> usize
-    requires { ⌜ at + 64 ≤ length (now out) ⌝ }
-    ensures wrote { λ to. ⌜ (to ≤ at + 64) × Wrote (now (out .entry)) at
-        (saidFor number (stateOf (now (control .entry)) (now (last .entry)) (now (clocks .entry)) (now (fullclocks .entry)) (now (sets .entry)) (now (fullsets .entry))) (parseOf (now (line .entry))))
-        (now (out .exit)) to ⌝ }
-    ensures fed { λ _. ⌜ stateOf (now (control .exit)) (now (last .exit)) (now (clocks .exit)) (now (fullclocks .exit)) (now (sets .exit)) (now (fullsets .exit))
-        ≡ stateAfter (stateOf (now (control .entry)) (now (last .entry)) (now (clocks .entry)) (now (fullclocks .entry)) (now (sets .entry)) (now (fullsets .entry))) (parseOf (now (line .entry))) ⌝ }
-{
-    let parsed = parse_line(line);
-    let Parsed::Record(r) = parsed else {
-        return put_refused(out, at, number, 1);
-    };
-    let answer = step_in_place(control, last, clocks, fullclocks, sets, fullsets, r);
-    put_answer(out, at, number, r, answer)
-}
-
-// Writes the report of a text, from its start on. The running state is held here and lent to each line.
+// Writes the report of a text, from its start on: the whole text is one piece, and a rest without LF is a line too.
 fn write_report(text: &[u8], report: &mut [u8]) -> usize
     requires { ⌜ 64 * length (linesOf (now text)) ≤ length (now report) ⌝ }
     ensures { λ r. ⌜ Wrote (now (report .entry)) 0 (reportOf (now (text .entry))) (now (report .exit)) r ⌝ }
@@ -56,27 +25,40 @@ fn write_report(text: &[u8], report: &mut [u8]) -> usize
     let mut fullclocks = [0u32; 1536];
     let mut sets = [0u8; 196608];
     let mut fullsets = [0u8; 196608];
-    let mut at: usize = 0;
-    let mut p: usize = 0;
-    let mut number: u64 = 0;
-    while p < text.len() {
-        let e = line_end(text, p);
-        number += 1;
-        at = put_line(
-            report,
-            at,
-            number,
-            &text[p..e],
-            &mut control,
-            &mut last,
-            &mut clocks,
-            &mut fullclocks,
-            &mut sets,
-            &mut fullsets,
-        );
-        p = e + 1;
+    let mut held = [0u8; 65];
+    let none = Progress {
+        lines: 0,
+        held: 0,
+        at: 0,
+    };
+    let r = put_piece(
+        report,
+        text,
+        &mut held,
+        none,
+        &mut control,
+        &mut last,
+        &mut clocks,
+        &mut fullclocks,
+        &mut sets,
+        &mut fullsets,
+    );
+    let n = r.held;
+    if n == 0 {
+        return r.at;
     }
-    at
+    put_line(
+        report,
+        r.at,
+        r.lines + 1,
+        &held[..n],
+        &mut control,
+        &mut last,
+        &mut clocks,
+        &mut fullclocks,
+        &mut sets,
+        &mut fullsets,
+    )
 }
 
 // Row 11's answer: 64 one-bits.

@@ -1,8 +1,10 @@
 // The text layer above the order checker: lines in, report lines out. It relies on the checker's promises only.
+mod answering;
 mod decimal;
 mod entry;
 mod parsing;
 mod scan;
+mod streaming;
 mod words;
 mod writing;
 
@@ -10,3 +12,4 @@ pub use decimal::Number;
 pub use entry::order_report;
 pub use parsing::Parsed;
 pub use parsing::parse_line;
+pub use streaming::Progress;

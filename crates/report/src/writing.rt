@@ -9,7 +9,7 @@ ghost use Rattle.report.specs.ReportLines.{accessPart, accessLine, refus
 ghost use Rattle.report.specs.Wrote.{Wrote};
 
 // The bytes as they are.
-fn put_bytes(out: &mut [u8], at: usize, bytes: &[u8]) -> usize
+pub(crate) fn put_bytes(out: &mut [u8], at: usize, bytes: &[u8]) -> usize
     requires { ⌜ at + length (now bytes) ≤ length (now out) ⌝ }
     ensures { λ r. ⌜ Wrote (now (out .entry)) at (now (bytes .entry)) (now (out .exit)) r ⌝ }
 {

@@ -1,38 +1,52 @@
-use mathlib.Core.Path.{_∙_, refl}
-use Rattle.report.proofs.Wrote.{as-long}
--- The loop over the lines: what is written and what is left make the report.
-use mathlib.Core.Path.{_≡_}
-use Prim.Native.Nat.{_≤_, _+_, _-_}
+-- The whole text is one piece; what is held at its end is a line.
+use mathlib.Core.Path.{_≡_, refl, sym, ap, _∙_}
+use mathlib.Core.List.{List}
+use Prim.Native.Nat.{ℕ, _≤_, _<_, _+_}
 use native.Mathlib.Omega.{arith}
-use lib.ListN.{length}
-use Rattle.checker.specs.Step.{stateOf, freshState}
-use Rattle.report.proofs.Reporting.{Left, left-start, left-room, left-next, left-end}
+use native.Mathlib.Nat.{zero-add}
+use lib.ListN.{length, take}
+use lib.Seq.{sets, length-sets}
+use Rattle.checker.specs.Step.{freshState}
+use Rattle.report.specs.declared.streaming.Progress.{Progress}
+use Rattle.report.specs.Wrote.{Wrote}
+use Rattle.report.specs.Pieces.{freshKept, saidIn, afterPiece}
+use Rattle.report.proofs.Held.{counted, lines-after, held-within, held-stands, ended, ended-by}
 use borrow.Author.Needs.{needs}
 use Rattle.report.proofs.entry.write_report.Statement.{statement}
 use Rattle.report.proofs.entry.write_report.Tie as tie
 
-abbrev Inv-loop : tie.InvT-loop
-Inv-loop text report₀ control₀ last₀ clocks₀ fullclocks₀ sets₀ fullsets₀ at₀ p₀ number₀ report control last clocks fullclocks sets fullsets at p number = (number ≤ p) × (p ≤ length text + 1) × (length report ≡ length report₀) × Left text report₀ report at p number (stateOf control last clocks fullclocks sets fullsets)
-
-abbrev μ-loop : tie.MeasureT-loop
-μ-loop text report₀ control₀ last₀ clocks₀ fullclocks₀ sets₀ fullsets₀ at₀ p₀ number₀ report control last clocks fullclocks sets fullsets at p number = length text + 1 - p
-
-loop-holds : tie.Need-loop-holds Inv-loop μ-loop
+returns : tie.Need-returns
 unfolding freshState
-loop-holds c = (search needs, search needs, refl, left-start _ _ (c .before .before .pre))
+returns c = ended _ (record { place = ap (λ (x : Progress). x .at) (c .before .before .before .before .put-piece .ensures .0 .0); memory = c .before .before .before .before .put-piece .ensures .0 .1 }) (sym (ap (λ (x : Progress). x .held) (c .before .before .before .before .put-piece .ensures .0 .0)) ∙ c .if1 .taken)
 
-put-line-requires : tie.Need-put-line-requires Inv-loop μ-loop
-put-line-requires c κs = left-room (c .before .before .before .before .before .before .before .before .before .before .loop .inv .3) (c .before .before .before .before .before .before .before .before .before .loop-test .taken) (c .before .before .before .before .before .before .before .before .line-end .ensures .0)
+add-put-line : tie.Need-add-put-line
+add-put-line c = let l = lines-after _ _ _ (c .before .before .before .before .before .before .put-piece .ensures .0 .0) in let z : length (c .before .before .before .before .before .before .before .before .before .before .before .before .before .before .before .before .before .args .text .now) + 1 < 18_446_744_073_709_551_616 = search needs in omega (arith, l, z)
 
-loop-again : tie.Need-loop-again Inv-loop μ-loop
-loop-again c = (omega (arith, c .before .before .before .before .before .before .before .before .before .before .before .before .before .loop .inv .0, c .before .before .before .before .before .before .before .before .before .before .before .line-end .ensures .0), omega (arith, c .before .before .before .before .before .before .before .before .before .before .before .line-end .ensures .1), as-long (c .before .before .put-line .ensures .0 .1) ∙ c .before .before .before .before .before .before .before .before .before .before .before .before .before .loop .inv .2, left-next (c .before .before .before .before .before .before .before .before .before .before .before .before .before .loop .inv .3) (c .before .before .before .before .before .before .before .before .before .before .before .before .loop-test .taken) (c .before .before .before .before .before .before .before .before .before .before .before .line-end .ensures .0) (c .before .before .put-line .ensures .0 .1) (c .before .before .put-line .ensures .0 .0) (c .before .before .put-line .ensures .1))
+array-share-prefix-held : tie.Need-array-share-prefix-held
+array-share-prefix-held c = held-within _ _ _ (c .before .before .before .before .before .before .put-piece .ensures .0 .0) _ (c .before .before .before .before .before .before .put-piece .ensures .1 .0 .1) (omega arith) (omega arith)
 
-returns : tie.Need-returns Inv-loop μ-loop
-returns c = left-end (c .before .loop .inv .3) (c .loop-test .left)
+slice-aggregate-put-line : tie.Need-slice-aggregate-put-line
+slice-aggregate-put-line c = counted _ _ (held-within _ _ _ (c .before .before .before .before .before .before .before .put-piece .ensures .0 .0) _ (c .before .before .before .before .before .before .before .put-piece .ensures .1 .0 .1) (omega arith) (omega arith))
+
+put-line-requires : tie.Need-put-line-requires
+put-line-requires c κs = c .before .before .before .before .before .before .before .before .before .before .before .before .before .put-piece .ensures .1 .1 refl (omega (arith, c .before .before .before .before .before .before .before .before .before .if1 .left))
+
+returns-2 : tie.Need-returns-2
+unfolding freshState
+returns-2 c = ended-by _ (record { place = ap (λ (x : Progress). x .at) (c .before .before .before .before .before .before .before .before .before .before .before .before .before .before .before .before .put-piece .ensures .0 .0); memory = c .before .before .before .before .before .before .before .before .before .before .before .before .before .before .before .before .put-piece .ensures .0 .1 }) (λ z. c .before .before .before .before .before .before .before .before .before .before .before .before .if1 .left (ap (λ (x : Progress). x .held) (c .before .before .before .before .before .before .before .before .before .before .before .before .before .before .before .before .put-piece .ensures .0 .0) ∙ z)) (ap (λ (x : Progress). x .lines) (c .before .before .before .before .before .before .before .before .before .before .before .before .before .before .before .before .put-piece .ensures .0 .0)) (c .before .before .before .before .before .before .before .before .before .before .before .before .before .before .before .before .put-piece .ensures .1 .0 .0) (held-stands _ _ _ (c .before .before .before .before .before .before .before .before .before .before .before .before .before .before .before .before .put-piece .ensures .0 .0) _ (c .before .before .before .before .before .before .before .before .before .before .before .before .before .before .before .before .put-piece .ensures .1 .0 .1) (omega arith) (omega arith)) (c .before .before .put-line .ensures .0 .1)
 
 pub write-report-spec : {M : Type 1} → statement M
 write-report-spec =
-    tie.close (tie.spec
-    Inv-loop μ-loop (λ c. search needs) loop-holds (λ c κs. search needs) (λ c. search needs) (λ c. search needs)
-    (λ c. search needs) (λ c. search needs) put-line-requires (λ c. search needs) (λ c. search needs) loop-again
-    (λ c. search needs) returns)
+    tie.close
+    (tie.spec
+    (λ c. search needs)
+    (λ c. search needs)
+    (λ c κs. search needs)
+    (λ c. search needs)
+    returns
+    add-put-line
+    array-share-prefix-held
+    slice-aggregate-put-line
+    put-line-requires
+    (λ c. search needs)
+    returns-2)

@@ -4,8 +4,8 @@ use native.Mathlib.Omega.{arith}
 use Rattle.checker.specs.declared.state.Stepped.{Stepped}
 use Rattle.report.proofs.RoundTrip.{only-sayable}
 use borrow.Author.Needs.{needs}
-use Rattle.report.proofs.entry.put_line.Statement.{statement}
-use Rattle.report.proofs.entry.put_line.Tie as tie
+use Rattle.report.proofs.answering.put_line.Statement.{statement}
+use Rattle.report.proofs.answering.put_line.Tie as tie
 
 returns : tie.Need-returns
 returns c = let e = sym (c .before .before .before .before .before .before .parse-line .ensures) ∙ c .before .before .before .before .enum-told .given .1 in ((c .before .before .put-refused .ensures .1, rw e (c .before .before .put-refused .ensures .0)), rw e)

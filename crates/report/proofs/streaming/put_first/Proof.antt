@@ -1,0 +1,43 @@
+-- What is held and the rest are put together in memory of their own, and answered as a line.
+use mathlib.Core.Path.{sym}
+use native.Mathlib.Omega.{arith}
+use lib.ListN.{take, length-take}
+use mathlib.Core.List.{_++_}
+use Rattle.report.proofs.Wrote.{as-long}
+use Rattle.report.proofs.Held.{counted, held-fits, still-fits, line-joined}
+use borrow.Author.Needs.{needs}
+use Rattle.report.proofs.streaming.put_first.Statement.{statement}
+use Rattle.report.proofs.streaming.put_first.Tie as tie
+
+slice-aggregate-put-bytes-2 : tie.Need-slice-aggregate-put-bytes-2
+slice-aggregate-put-bytes-2 c = counted _ _ (omega (arith, c .before .before .before .before .before .pre .1, c .before .before .before .before .before .pre .2))
+
+put-bytes-requires : tie.Need-put-bytes-requires
+put-bytes-requires c κs = let l = length-take (c .before .before .before .before .before .args .n) (c .before .before .before .before .before .args .held .now) in omega (arith, l, c .before .before .before .before .before .pre .1)
+
+hold-requires : tie.Need-hold-requires
+hold-requires c κs = let l = length-take (c .before .before .before .before .before .before .before .before .args .n) (c .before .before .before .before .before .before .before .before .args .held .now) in (omega (arith, l, c .before .before .before .before .before .before .before .before .pre .1, c .before .before .put-bytes .ensures .place), omega (arith, as-long (c .before .before .put-bytes .ensures)))
+
+array-share-prefix-line : tie.Need-array-share-prefix-line
+array-share-prefix-line c = held-fits (c .before .before .before .before .before .put-bytes .last .0) (take (c .before .before .before .before .before .put-bytes .result) (c .before .before .before .before .before .put-bytes .last .0) ++ c .before .before .before .before .before .before .before .before .before .before .before .args .s .now) (c .before .before .hold .ensures .0) (c .before .before .hold .ensures .1) (still-fits (c .before .before .before .before .before .put-bytes .ensures) (omega arith))
+
+slice-aggregate-put-line : tie.Need-slice-aggregate-put-line
+slice-aggregate-put-line c = counted _ _ (held-fits (c .before .before .before .before .before .before .put-bytes .last .0) (take (c .before .before .before .before .before .before .put-bytes .result) (c .before .before .before .before .before .before .put-bytes .last .0) ++ c .before .before .before .before .before .before .before .before .before .before .before .before .args .s .now) (c .before .before .before .hold .ensures .0) (c .before .before .before .hold .ensures .1) (still-fits (c .before .before .before .before .before .before .put-bytes .ensures) (omega arith)))
+
+returns : tie.Need-returns
+returns c = let l = line-joined _ _ _ (c .before .before .before .before .before .before .before .before .before .before .before .before .before .before .before .before .before .before .before .before .before .pre .1) (c .before .before .before .before .before .before .before .before .before .before .before .before .before .before .before .before .before .before .before .before .before .pre .2) (omega arith) (c .before .before .before .before .before .before .before .before .before .before .before .before .before .before .before .put-bytes .ensures) (c .before .before .before .before .before .before .before .before .before .before .before .before .hold .ensures .0) (c .before .before .before .before .before .before .before .before .before .before .before .before .hold .ensures .1) in ((c .before .before .put-line .ensures .0 .0, rw (sym l) (c .before .before .put-line .ensures .0 .1)), rw (sym l) (c .before .before .put-line .ensures .1))
+
+pub put-first-spec : {M : Type 1} → statement M
+put-first-spec =
+    tie.close
+    (tie.spec
+    (λ c. search needs)
+    slice-aggregate-put-bytes-2
+    put-bytes-requires
+    (λ c. search needs)
+    hold-requires
+    array-share-prefix-line
+    slice-aggregate-put-line
+    (λ c κs. search needs)
+    (λ c. search needs)
+    returns)

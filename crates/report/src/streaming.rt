@@ -1,0 +1,148 @@
+// A text that comes in pieces: each is answered as far as its lines have ended, and what is left of a line is held for the next.
+use crate::answering::put_line;
+use crate::answering::put_lines;
+use crate::scan::line_end;
+use crate::writing::put_bytes;
+ghost use mathlib.Core.Path.{_≡_};
+ghost use mathlib.Core.List.{_++_};
+ghost use Prim.Native.Nat.{_<_, _≤_, _+_, _*_, _^_, min};
+ghost use lib.ListN.{length, take};
+ghost use lib.Seq.{sets as written};
+ghost use Rattle.checker.specs.Step.{stateOf};
+ghost use Rattle.report.specs.Lines.{linesOf};
+ghost use Rattle.report.specs.LineForm.{parseOf};
+ghost use Rattle.report.specs.Wrote.{Wrote};
+ghost use Rattle.report.specs.Report.{saidFor, stateAfter};
+ghost use Rattle.report.specs.Pieces.{heldMost, keptOf, progressAfter, saidIn, afterPiece};
+
+// How far a text is answered: the lines so far, how many bytes are held of the line that has begun, and the next place in the report.
+pub struct Progress {
+    pub lines: u64,
+    pub held: usize,
+    pub at: usize,
+}
+
+// So many bytes of a line are held at most: a line of more than 64 is refused, whatever else it says.
+const HELD_MOST: usize = 65;
+
+fn least(a: usize, b: usize) -> usize
+    ensures { λ r. ⌜ (r ≡ min a b) × (r ≤ b) ⌝ }
+{
+    if a < b { a } else { b }
+}
+
+// Holds a part of a line after the n bytes that are held, as far as there is room.
+fn hold(held: &mut [u8], n: usize, s: &[u8]) -> usize
+    requires { ⌜ (n ≤ heldMost) × (heldMost ≤ length (now held)) ⌝ }
+    ensures { λ r. ⌜ (r ≡ length (take heldMost (take n (now (held .entry)) ++ now (s .entry))))
+        × (now (held .exit) ≡ written (now (held .entry)) 0 (take heldMost (take n (now (held .entry)) ++ now (s .entry)))) ⌝ }
+{
+    let m = least(HELD_MOST - n, s.len());
+    put_bytes(held, n, &s[..m])
+}
+
+// Answers the line of which n bytes are held and s is the rest.
+fn put_first(
+    out: &mut [u8],
+    at: usize,
+    number: u64,
+    held: &[u8],
+    n: usize,
+    s: &[u8],
+    control: &mut [u32; 17],
+    last: &mut [u32; 2048],
+    clocks: &mut [u32; 1536],
+    fullclocks: &mut [u32; 1536],
+    sets: &mut [u8; 196608],
+    fullsets: &mut [u8; 196608],
+) -> usize
+    requires { ⌜ (at + 64 ≤ length (now out)) × (n ≤ heldMost) × (heldMost ≤ length (now held)) ⌝ }
+    ensures wrote { λ to. ⌜ (to ≤ at + 64) × Wrote (now (out .entry)) at
+        (saidFor number (stateOf (now (control .entry)) (now (last .entry)) (now (clocks .entry)) (now (fullclocks .entry)) (now (sets .entry)) (now (fullsets .entry))) (parseOf (take n (now (held .entry)) ++ now (s .entry))))
+        (now (out .exit)) to ⌝ }
+    ensures fed { λ _. ⌜ stateOf (now (control .exit)) (now (last .exit)) (now (clocks .exit)) (now (fullclocks .exit)) (now (sets .exit)) (now (fullsets .exit))
+        ≡ stateAfter (stateOf (now (control .entry)) (now (last .entry)) (now (clocks .entry)) (now (fullclocks .entry)) (now (sets .entry)) (now (fullsets .entry))) (parseOf (take n (now (held .entry)) ++ now (s .entry))) ⌝ }
+{
+    let mut line = [0u8; 65];
+    let begun = put_bytes(&mut line, 0, &held[..n]);
+    let end = hold(&mut line, begun, s);
+    put_line(
+        out,
+        at,
+        number,
+        &line[..end],
+        control,
+        last,
+        clocks,
+        fullclocks,
+        sets,
+        fullsets,
+    )
+}
+
+// Answers the lines that end in a piece, and holds what is left.
+pub(crate) fn put_piece(
+    out: &mut [u8],
+    piece: &[u8],
+    held: &mut [u8],
+    begun: Progress,
+    control: &mut [u32; 17],
+    last: &mut [u32; 2048],
+    clocks: &mut [u32; 1536],
+    fullclocks: &mut [u32; 1536],
+    sets: &mut [u8; 196608],
+    fullsets: &mut [u8; 196608],
+) -> Progress
+    requires { ⌜ (begun .at + 64 * length (linesOf (now piece)) ≤ length (now out)) × (begun .held ≤ heldMost) × (heldMost ≤ length (now held))
+        × (begun .lines + length (now piece) < 2 ^ 64) ⌝ }
+    ensures said { λ r. ⌜ (r ≡ progressAfter (keptOf (stateOf (now (control .entry)) (now (last .entry)) (now (clocks .entry)) (now (fullclocks .entry)) (now (sets .entry)) (now (fullsets .entry))) begun (now (held .entry))) (begun .at) (now (piece .entry)))
+        × (now (out .exit) ≡ written (now (out .entry)) (begun .at) (saidIn (keptOf (stateOf (now (control .entry)) (now (last .entry)) (now (clocks .entry)) (now (fullclocks .entry)) (now (sets .entry)) (now (fullsets .entry))) begun (now (held .entry))) (now (piece .entry)))) ⌝ }
+    ensures keeps { λ _. ⌜ (stateOf (now (control .exit)) (now (last .exit)) (now (clocks .exit)) (now (fullclocks .exit)) (now (sets .exit)) (now (fullsets .exit)) ≡ (afterPiece (keptOf (stateOf (now (control .entry)) (now (last .entry)) (now (clocks .entry)) (now (fullclocks .entry)) (now (sets .entry)) (now (fullsets .entry))) begun (now (held .entry))) (now (piece .entry))) .state)
+        × (now (held .exit) ≡ written (now (held .entry)) 0 ((afterPiece (keptOf (stateOf (now (control .entry)) (now (last .entry)) (now (clocks .entry)) (now (fullclocks .entry)) (now (sets .entry)) (now (fullsets .entry))) begun (now (held .entry))) (now (piece .entry))) .held)) ⌝ }
+    ensures room { λ r. ⌜ (begun .held ≡ 0 → 0 < r .held → r .at + 64 ≤ length (now (out .exit))) ⌝ }
+{
+    let e = line_end(piece, 0);
+    if e == piece.len() {
+        let n = hold(held, begun.held, piece);
+        return Progress {
+            lines: begun.lines,
+            held: n,
+            at: begun.at,
+        };
+    }
+    let number = begun.lines + 1;
+    let at = put_first(
+        out,
+        begun.at,
+        number,
+        held,
+        begun.held,
+        &piece[..e],
+        control,
+        last,
+        clocks,
+        fullclocks,
+        sets,
+        fullsets,
+    );
+    let answered = put_lines(
+        out,
+        at,
+        number,
+        piece,
+        e + 1,
+        control,
+        last,
+        clocks,
+        fullclocks,
+        sets,
+        fullsets,
+    );
+    let from = answered.from;
+    let n = hold(held, 0, &piece[from..]);
+    Progress {
+        lines: answered.lines,
+        held: n,
+        at: answered.at,
+    }
+}
