@@ -1,7 +1,7 @@
 -- The memory that holds the line that has begun, and what a piece makes of it. Assumes nothing.
 use mathlib.Core.Path.{_≡_, refl, sym, _∙_, ap, ap₂, subst}
 use mathlib.Core.List.{List, [], _∷_, _++_, append-nil}
-use Prim.Native.Nat.{ℕ, zero, suc, _+_, _-_, _*_, _≤_, _<_, min}
+use Prim.Native.Nat.{ℕ, zero, suc, _+_, _-_, _*_, _/_, _^_, _≤_, _<_, min}
 use native.Mathlib.Omega.{arith}
 use native.Mathlib.Nat.{zero-add}
 use lib.ListN.{length, take, drop, length-append, length-take, length-drop, take-append-drop}
@@ -16,10 +16,10 @@ use Rattle.report.specs.Lines.{lf, linesOf, lineEnd}
 use Rattle.report.specs.LineForm.{parseOf}
 use Rattle.report.specs.Wrote.{Wrote}
 use Rattle.report.specs.Report.{saidFor, stateAfter, reportOf}
-use Rattle.report.specs.Pieces.{Kept, kept, freshKept, heldMost, saidAt, afterByte, saidIn, afterPiece, saidAtEnd, saidInAll, joined, progressAfter}
-use Rattle.report.proofs.Bytes.{Without}
+use Rattle.report.specs.Pieces.{Kept, kept, freshKept, heldMost, saidAt, afterByte, saidIn, afterPiece, saidAtEnd, saidInAll, joined, progressAfter, fits}
+use Rattle.report.proofs.Bytes.{Without, and-true}
 use Rattle.report.proofs.Wrote.{sets-append, _then_, front, as-long}
-use Rattle.report.proofs.Lines.{lines-of}
+use Rattle.report.proofs.Lines.{lines-of, lines-fit}
 use Rattle.report.proofs.Pieces.{keptWith, parse-held, rest-held, line-said, line-after, any-cut}
 use Rattle.report.proofs.Reporting.{from-place, line-without}
 
@@ -223,3 +223,22 @@ module _ (text : List ℕ) {report report′ : List ℕ} {at : ℕ} (w : Wrote r
   unfolding saidAt
   ended-by {n = n} d e f g v =
       rw (whole-text text, ne-eqb (length ((afterPiece freshKept text) .held)) 0 d, ← e, ← f, ← g) (w then rw (add-one n) at v)
+
+-- Room
+
+-- so many more lines can be counted in 64 bits, where so many are counted
+in-64 : (lines more : ℕ) → lines < 2 ^ 64 → more ≤ 2 ^ 64 - 1 - lines → lines + more < 2 ^ 64
+in-64 lines more b h = omega arith
+
+-- where a piece fits, its lines do, and so does what is held
+pub room-enough : (out piece held : List ℕ) (begun : Progress) → begun .lines < 2 ^ 64 → fits (length out) (length piece) (length held) begun ≡ true
+    → (begun .at + 64 * length (linesOf piece) ≤ length out) × (begun .held ≤ heldMost) × (heldMost ≤ length held) × (begun .lines + length piece < 2 ^ 64)
+room-enough out piece held begun w e =
+    let (a, r) = and-true (leb (begun .at) (length out)) _ e in
+    let (b, r₁) = and-true (leb (length piece) ((length out - begun .at) / 64)) _ r in
+    let (c, r₂) = and-true (leb heldMost (length held)) _ r₁ in
+    let (d, f) = and-true (leb (begun .held) heldMost) _ r₂ in
+    let h = leb-true (begun .at) (length out) a in
+    let k = leb-true (length piece) ((length out - begun .at) / 64) b in
+    let l = leb-true (length piece) (2 ^ 64 - 1 - begun .lines) f in
+    (omega (arith, lines-fit piece, h, k), leb-true (begun .held) heldMost d, leb-true heldMost (length held) c, in-64 (begun .lines) (length piece) w l)

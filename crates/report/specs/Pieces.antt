@@ -1,10 +1,10 @@
 -- The report of a text that comes in pieces: what is kept between them, what each byte adds to the report, and the law that the cut does
 -- not matter.
 use mathlib.Core.Path.{_≡_}
-use Prim.Native.Nat.{ℕ, zero, suc, _+_}
-use mathlib.Core.Bool.{cond}
+use Prim.Native.Nat.{ℕ, zero, suc, _+_, _-_, _/_, _^_}
+use mathlib.Core.Bool.{Bool, cond, _&&_}
 use mathlib.Core.List.{List, [], _∷_, _++_}
-use lib.Dec.{eqb}
+use lib.Dec.{eqb, leb}
 use lib.ListN.{length, take}
 use Rattle.checker.specs.declared.state.State.{State}
 use Rattle.checker.specs.Step.{freshState}
@@ -78,3 +78,14 @@ keptOf s begun memory = kept s (begun .lines) (take (begun .held) memory)
 abbrev pub progressAfter : Kept → ℕ → List ℕ → Progress
 progressAfter k at piece =
     record { lines = (afterPiece k piece) .lines; held = length ((afterPiece k piece) .held); at = at + length (saidIn k piece) }
+
+-- a piece of so many bytes is taken in: from `at` on there are 64 bytes of report memory for each of them, since so many lines may end in it;
+-- 65 bytes of a line can be held, and no more are; and the lines can be counted in 64 bits
+abbrev pub fits : ℕ → ℕ → ℕ → Progress → Bool
+fits out piece held begun =
+    leb (begun .at) out
+    && (leb piece ((out - begun .at) / 64) && (leb heldMost held && (leb (begun .held) heldMost && leb piece (2 ^ 64 - 1 - begun .lines))))
+
+-- the answer to a piece that is not: 64 one-bits, as for row 11
+abbrev pub refused : Progress → Progress
+refused begun = record { lines = begun .lines; held = begun .held; at = 2 ^ 64 - 1 }

@@ -13,3 +13,4 @@ pub use entry::order_report;
 pub use parsing::Parsed;
 pub use parsing::parse_line;
 pub use streaming::Progress;
+pub use streaming::report_piece;

@@ -4,6 +4,7 @@ use crate::answering::put_lines;
 use crate::scan::line_end;
 use crate::writing::put_bytes;
 ghost use mathlib.Core.Path.{_≡_};
+ghost use mathlib.Core.Bool.{cond};
 ghost use mathlib.Core.List.{_++_};
 ghost use Prim.Native.Nat.{_<_, _≤_, _+_, _*_, _^_, min};
 ghost use lib.ListN.{length, take};
@@ -13,7 +14,7 @@ ghost use Rattle.report.specs.Lines.{linesOf};
 ghost use Rattle.report.specs.LineForm.{parseOf};
 ghost use Rattle.report.specs.Wrote.{Wrote};
 ghost use Rattle.report.specs.Report.{saidFor, stateAfter};
-ghost use Rattle.report.specs.Pieces.{heldMost, keptOf, progressAfter, saidIn, afterPiece};
+ghost use Rattle.report.specs.Pieces.{heldMost, keptOf, fits, refused, progressAfter, saidIn, afterPiece};
 
 // How far a text is answered: the lines so far, how many bytes are held of the line that has begun, and the next place in the report.
 pub struct Progress {
@@ -145,4 +146,68 @@ pub(crate) fn put_piece(
         held: n,
         at: answered.at,
     }
+}
+
+// What `at` is where a piece was not taken in: 64 one-bits.
+const REFUSED: usize = 18_446_744_073_709_551_615;
+
+// A piece of so many bytes can be answered into memory of these sizes.
+fn has_room(out: usize, piece: usize, held: usize, begun: Progress) -> bool
+    ensures { λ r. ⌜ r ≡ fits out piece held begun ⌝ }
+{
+    if out < begun.at {
+        return false;
+    }
+    if (out - begun.at) / 64 < piece {
+        return false;
+    }
+    if held < HELD_MOST {
+        return false;
+    }
+    if HELD_MOST < begun.held {
+        return false;
+    }
+    piece as u64 <= u64::MAX - begun.lines
+}
+
+// The report of a text that comes in pieces, into lent memory: answers the lines that end in a piece, the first of them going on from
+// what is held, and holds what is left. The text begins with progress 0, 0, 0 and fresh tables; a rest without LF at its end is answered by
+// one piece more, of LF alone. Where the memory has under 64 bytes for each byte of the piece, or cannot hold 65 bytes of a line, or the
+// lines could outgrow 64 bits, nothing is changed, and `at` is 64 one-bits.
+pub fn report_piece(
+    out: &mut [u8],
+    piece: &[u8],
+    held: &mut [u8],
+    begun: Progress,
+    control: &mut [u32; 17],
+    last: &mut [u32; 2048],
+    clocks: &mut [u32; 1536],
+    fullclocks: &mut [u32; 1536],
+    sets: &mut [u8; 196608],
+    fullsets: &mut [u8; 196608],
+) -> Progress
+    ensures said { λ r. ⌜ (r ≡ cond (fits (length (now (out .entry))) (length (now (piece .entry))) (length (now (held .entry))) begun) (progressAfter (keptOf (stateOf (now (control .entry)) (now (last .entry)) (now (clocks .entry)) (now (fullclocks .entry)) (now (sets .entry)) (now (fullsets .entry))) begun (now (held .entry))) (begun .at) (now (piece .entry))) (refused begun))
+        × (now (out .exit) ≡ cond (fits (length (now (out .entry))) (length (now (piece .entry))) (length (now (held .entry))) begun) (written (now (out .entry)) (begun .at) (saidIn (keptOf (stateOf (now (control .entry)) (now (last .entry)) (now (clocks .entry)) (now (fullclocks .entry)) (now (sets .entry)) (now (fullsets .entry))) begun (now (held .entry))) (now (piece .entry)))) (now (out .entry))) ⌝ }
+    ensures keeps { λ _. ⌜ (stateOf (now (control .exit)) (now (last .exit)) (now (clocks .exit)) (now (fullclocks .exit)) (now (sets .exit)) (now (fullsets .exit)) ≡ cond (fits (length (now (out .entry))) (length (now (piece .entry))) (length (now (held .entry))) begun) ((afterPiece (keptOf (stateOf (now (control .entry)) (now (last .entry)) (now (clocks .entry)) (now (fullclocks .entry)) (now (sets .entry)) (now (fullsets .entry))) begun (now (held .entry))) (now (piece .entry))) .state) (stateOf (now (control .entry)) (now (last .entry)) (now (clocks .entry)) (now (fullclocks .entry)) (now (sets .entry)) (now (fullsets .entry))))
+        × (now (held .exit) ≡ cond (fits (length (now (out .entry))) (length (now (piece .entry))) (length (now (held .entry))) begun) (written (now (held .entry)) 0 ((afterPiece (keptOf (stateOf (now (control .entry)) (now (last .entry)) (now (clocks .entry)) (now (fullclocks .entry)) (now (sets .entry)) (now (fullsets .entry))) begun (now (held .entry))) (now (piece .entry))) .held)) (now (held .entry))) ⌝ }
+{
+    if !has_room(out.len(), piece.len(), held.len(), begun) {
+        return Progress {
+            lines: begun.lines,
+            held: begun.held,
+            at: REFUSED,
+        };
+    }
+    put_piece(
+        out,
+        piece,
+        held,
+        begun,
+        control,
+        last,
+        clocks,
+        fullclocks,
+        sets,
+        fullsets,
+    )
 }

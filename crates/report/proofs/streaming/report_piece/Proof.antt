@@ -1,0 +1,25 @@
+-- Refused where there is no room; else the piece is answered.
+use mathlib.Core.Path.{_≡_, sym, _∙_}
+use Prim.Native.Nat.{_≤_}
+use native.Mathlib.Omega.{arith}
+use lib.ListN.{length}
+use Rattle.report.proofs.Lines.{lines-fit}
+use Rattle.report.proofs.Held.{room-enough}
+use borrow.Author.Tests.{not-true, not-false}
+use borrow.Author.Needs.{needs}
+use Rattle.report.proofs.streaming.report_piece.Statement.{statement}
+use Rattle.report.proofs.streaming.report_piece.Tie as tie
+
+returns : tie.Need-returns
+returns c = let e = sym (c .before .has-room .ensures) ∙ not-true _ (c .if1 .taken) in ((rw e, rw e), (rw e, rw e))
+
+put-piece-requires : tie.Need-put-piece-requires
+put-piece-requires c κs = room-enough (c .before .before .before .before .before .before .before .before .before .before .before .before .before .args .out .now) (c .before .before .before .before .before .before .before .before .before .before .before .before .before .args .piece .now) (c .before .before .before .before .before .before .before .before .before .before .before .before .before .args .held .now) (c .before .before .before .before .before .before .before .before .before .before .before .before .before .args .begun) (search needs) (sym (c .before .before .before .before .before .before .before .before .before .has-room .ensures) ∙ not-false _ (c .before .before .before .before .before .before .before .before .if1 .left))
+
+returns-2 : tie.Need-returns-2
+returns-2 c = let e = sym (c .before .before .before .before .before .before .before .before .before .before .before .before .before .before .has-room .ensures) ∙ not-false _ (c .before .before .before .before .before .before .before .before .before .before .before .before .before .if1 .left) in let p = c .before .before .before .before .put-piece .ensures in ((rw e (p .0 .0), rw e (p .0 .1)), (rw e (p .1 .0 .0), rw e (p .1 .0 .1)))
+
+pub report-piece-spec : {M : Type 1} → statement M
+report-piece-spec =
+    tie.close
+    (tie.spec (λ c κs. search needs) returns put-piece-requires (λ c. search needs) (λ c. search needs) returns-2)
