@@ -143,15 +143,15 @@ fn past_the_limit(tally: &mut Tally, order: Option<&str>) {
     tally.check(orderly(&text, &report) && !orderly(&text, cut) && !orderly(&text, &report.repeat(2)), || "orderly() itself".to_string());
 }
 
-pub fn run(tally: &mut Tally, order: Option<&str>, done: impl Fn(&str)) {
+pub fn run(tally: &mut Tally, order: Option<&str>) {
     random_texts(tally);
-    done("random texts");
+    tally.part("random texts");
     spoilt_texts(tally);
-    done("spoilt texts");
+    tally.part("spoilt texts");
     every_length(tally);
-    done("every length of report memory");
+    tally.part("every length of report memory");
     large_texts(tally, order);
-    done("large texts");
+    tally.part("large texts");
     past_the_limit(tally, order);
-    done("past the limit");
+    tally.part("past the limit");
 }

@@ -107,7 +107,7 @@ fn run_one(tally: &mut Tally, random: &mut Random, name: &str, shape: &Shape, or
 
 /// Every other recording of the numbered ones, by its own seed.
 fn run_generated(first: u64, order: Option<&str>) -> Tally {
-    let mut tally = Tally::default();
+    let mut tally = Tally::new();
     for seed in (first..RECORDINGS).step_by(THREADS as usize) {
         let mut random = Random::new(seed);
         let shape = shape(&mut random);
@@ -122,7 +122,7 @@ fn run_generated(first: u64, order: Option<&str>) -> Tally {
 
 /// A few that are long, and a few with much lost, which take the search some seconds.
 fn run_long(first: u64) -> Tally {
-    let mut tally = Tally::default();
+    let mut tally = Tally::new();
     let base = |length, tasks| Shape { length, tasks, variables: 3, objects: 4, marks: 0, named: 0, idle: 30, stray: 2, damage: 2 };
     let shapes = [
         base(3_000, 4),
@@ -162,19 +162,18 @@ fn run_coverage(tally: &mut Tally) {
 fn main() {
     let order = std::env::args().nth(1);
     let order = order.as_deref();
-    let began = std::time::Instant::now();
-    let mut tally = Tally::default();
-    let done = |what: &str| println!("{what}: at {:.1} s", began.elapsed().as_secs_f32());
+    let mut tally = Tally::new();
     run_examples(&mut tally, order);
-    done("examples");
+    tally.part("examples");
     run_full(&mut tally, order);
-    done("row 5");
+    tally.part("row 5");
     on_threads(&mut tally, |first| run_generated(first, order));
-    done("generated recordings");
+    tally.part("generated recordings");
     on_threads(&mut tally, run_long);
-    done("long recordings");
-    bad::run(&mut tally, order, done);
+    tally.part("long recordings");
+    bad::run(&mut tally, order);
     run_coverage(&mut tally);
+    tally.part("coverage");
     println!("recordings for the program: {}", tally.seen.get("recordings for the program").unwrap_or(&0));
     println!("outside: {} passed, {} failed", tally.passed, tally.failed);
     std::process::exit((tally.failed != 0) as i32);
