@@ -8,16 +8,25 @@ use crate::{entry, tally::Tally};
 const SAMPLE: &str = "op=start task=0 on=1\nop=write task=0 on=5\nop=lost tasks=3\nop=read task=1 on=5\n\nop=join task=0 on=1";
 const MEGABYTE: usize = 1 << 20;
 
-/// The entry's report of a text is that of the plain path search.
-fn compare(tally: &mut Tally, text: &[u8]) {
-    tally.expect("bad text", text, &oracle::report_of(text), entry::report(text, 0));
+/// One text in so many is given to the program too.
+const SHARE: usize = 30;
+
+/// The report of a text is that of the plain path search.
+fn compare(tally: &mut Tally, order: Option<&str>, text: &[u8]) {
+    let expected = oracle::report_of(text);
+    tally.expect("entry, bad text", text, &expected, entry::report(text, 0));
+    if let Some(order) = order.filter(|_| tally.passed % SHARE == 0) {
+        let cuts = program::WAYS[tally.passed / SHARE % program::WAYS.len()];
+        tally.expect(&format!("program, bad text, cut {cuts:?}"), text, &expected, program::report(order, text, cuts));
+    }
 }
 
-fn random_texts(tally: &mut Tally) {
-    let pieces: Vec<&[u8]> = ["op=", "read", "write", "lost", " task=", " tasks=", " on=", "0", "1", "5", "16", "65535", "\n", "\r\n", " ", "\0"]
-        .iter()
-        .map(|piece| piece.as_bytes())
-        .collect();
+fn random_texts(tally: &mut Tally, order: Option<&str>) {
+    let pieces: Vec<&[u8]> =
+        ["op=", "read", "write", "lost", " task=", " tasks=", " on=", "0", "1", "5", "16", "65535", "\n", "\r\n", " ", "\0"]
+            .iter()
+            .map(|piece| piece.as_bytes())
+            .collect();
     for seed in 0..3_000 {
         let mut random = Random::new(seed);
         let mut text = Vec::new();
@@ -29,20 +38,20 @@ fn random_texts(tally: &mut Tally) {
                 _ => text.extend(random.pick(&pieces)),
             }
         }
-        compare(tally, &text);
+        compare(tally, order, &text);
     }
 }
 
 /// The sample cut at each place from either side, and with each byte spoilt, left out or doubled.
-fn spoilt_texts(tally: &mut Tally) {
+fn spoilt_texts(tally: &mut Tally, order: Option<&str>) {
     let sample = SAMPLE.as_bytes();
     for at in 0..sample.len() {
-        compare(tally, &sample[..at]);
-        compare(tally, &sample[at..]);
-        compare(tally, &[&sample[..at], &sample[at + 1..]].concat());
+        compare(tally, order, &sample[..at]);
+        compare(tally, order, &sample[at..]);
+        compare(tally, order, &[&sample[..at], &sample[at + 1..]].concat());
         for byte in [b'\n', b'\r', b' ', b'=', b'0', b'9', b'a', 0, 0x7f, 0x80, 0xff, sample[at]] {
-            compare(tally, &[&sample[..at], &[byte], &sample[at + 1..]].concat());
-            compare(tally, &[&sample[..at], &[byte], &sample[at..]].concat());
+            compare(tally, order, &[&sample[..at], &[byte], &sample[at + 1..]].concat());
+            compare(tally, order, &[&sample[..at], &[byte], &sample[at..]].concat());
         }
     }
 }
@@ -144,9 +153,9 @@ fn past_the_limit(tally: &mut Tally, order: Option<&str>) {
 }
 
 pub fn run(tally: &mut Tally, order: Option<&str>) {
-    random_texts(tally);
+    random_texts(tally, order);
     tally.part("random texts");
-    spoilt_texts(tally);
+    spoilt_texts(tally, order);
     tally.part("spoilt texts");
     every_length(tally);
     tally.part("every length of report memory");

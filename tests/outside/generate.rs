@@ -59,7 +59,7 @@ pub fn shape(random: &mut Random) -> Shape {
         tasks: if many { 16 } else { 2 + random.below(4) },
         variables: random.pick(&[1, 1, 2, 3, 64]),
         objects: random.pick(&[1, 1, 2, 3, 32]),
-        marks: random.pick(&[0, 3, 8, 20]),
+        marks: random.pick(&[0, 3, 10, 25]),
         named: random.pick(&[2, 6, 12, 20]),
         idle: random.pick(&[0, 25, 60]),
         stray: random.pick(&[0, 0, 4, 20]),
@@ -74,6 +74,8 @@ struct Maker<'a> {
     acting: Vec<u32>,
     idle: Vec<u32>,
     unseen: Vec<u32>,
+    /// Tasks past the number in use, each good for one detour.
+    couriers: Vec<u32>,
     named: usize,
     text: Vec<u8>,
 }
@@ -84,7 +86,8 @@ pub fn recording(random: &mut Random, shape: &Shape) -> Vec<u8> {
     for i in (1..unseen.len()).rev() {
         unseen.swap(i, random.below(i + 1));
     }
-    let mut maker = Maker { random, shape, acting: vec![0], idle: vec![], unseen, named: shape.named, text: vec![] };
+    let couriers = (shape.tasks as u32..16).collect();
+    let mut maker = Maker { random, shape, acting: vec![0], idle: vec![], unseen, couriers, named: shape.named, text: vec![] };
     if maker.random.percent(70) {
         for _ in 0..1 + maker.random.below(shape.tasks) {
             maker.start();
@@ -111,7 +114,8 @@ impl Maker<'_> {
             match self.random.below(100) {
                 0..=4 => self.start(),
                 5..=8 => self.join(),
-                9..=24 => self.hand_over(),
+                9..=11 => self.detour(),
+                12..=24 => self.hand_over(),
                 25..=59 => self.exchange(),
                 _ => self.access(),
             }
@@ -191,6 +195,21 @@ impl Maker<'_> {
             1 => {}
             _ => self.act(into, to, on),
         }
+        self.access_by(to);
+    }
+
+    /// One task starts a courier and another joins it, which is a path only if the courier acts.
+    fn detour(&mut self) {
+        let Some(courier) = self.couriers.pop().or_else(|| self.unseen.pop()) else { return };
+        let (from, to) = (self.actor(), self.actor());
+        self.access_by(from);
+        self.act("start", from, courier as usize);
+        match self.random.below(3) {
+            0 => self.mark_of(1 << courier),
+            1 => self.access_by(courier),
+            _ => {}
+        }
+        self.act("join", to, courier as usize);
         self.access_by(to);
     }
 

@@ -1,5 +1,6 @@
 //! Tests from outside: the C entry and the program `order` against the plain path search, byte for byte, and bad input at scale.
-//! `outside [PROGRAM]`; without a program only the C entry is held to it.
+//! `outside [PROGRAM]` runs them; without a program only the C entry is tested.
+//! `outside --report` prints what the plain path search says of the recording on standard input.
 
 mod bad;
 mod entry;
@@ -11,7 +12,8 @@ mod tally;
 
 use generate::{filling, recording, shape, Random, Shape};
 use oracle::{Fate, Verdict};
-use program::Cuts;
+use program::{Cuts, WAYS};
+use std::io::Read;
 use tally::Tally;
 
 const RECORDINGS: u64 = 6_000;
@@ -19,9 +21,6 @@ const COMPLETIONS: usize = 5;
 /// One recording in so many is given to the program too.
 const SHARE: u64 = 12;
 const THREADS: u64 = 2;
-
-/// Every way to feed the program; each starts it once.
-const WAYS: [Cuts; 6] = [Cuts::Nowhere, Cuts::Every(1), Cuts::BeforeLf, Cuts::AfterLf, Cuts::MidLine, Cuts::Anywhere(1)];
 
 fn run_examples(tally: &mut Tally, order: Option<&str>) {
     for (at, example) in examples::examples().iter().enumerate() {
@@ -160,8 +159,17 @@ fn run_coverage(tally: &mut Tally) {
 }
 
 fn main() {
-    let order = std::env::args().nth(1);
-    let order = order.as_deref();
+    let word = std::env::args().nth(1);
+    if word.as_deref() == Some("--report") {
+        let mut text = Vec::new();
+        std::io::stdin().read_to_end(&mut text).expect("standard input can be read");
+        print!("{}", oracle::report_of(&text));
+        return;
+    }
+    run_all(word.as_deref());
+}
+
+fn run_all(order: Option<&str>) {
     let mut tally = Tally::new();
     run_examples(&mut tally, order);
     tally.part("examples");

@@ -26,7 +26,9 @@ pub enum Cuts {
     Anywhere(u64),
 }
 
-pub fn pieces(text: &[u8], cuts: Cuts) -> Vec<&[u8]> {
+pub const WAYS: [Cuts; 6] = [Cuts::Nowhere, Cuts::Every(1), Cuts::BeforeLf, Cuts::AfterLf, Cuts::MidLine, Cuts::Anywhere(1)];
+
+fn pieces(text: &[u8], cuts: Cuts) -> Vec<&[u8]> {
     let mut random = Random::new(if let Cuts::Anywhere(seed) = cuts { seed } else { 0 });
     let cut_after = |at: usize| -> bool {
         match cuts {
