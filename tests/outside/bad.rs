@@ -74,13 +74,12 @@ fn every_length(tally: &mut Tally) {
     }
 }
 
-/// Both get a large text and give this report, the program in pieces about as large as its reads may be.
+/// Both get a large text and answer right, the program in pieces about as large as its reads may be.
 fn large(tally: &mut Tally, order: Option<&str>, name: &str, text: &[u8], right: &dyn Fn(&[u8]) -> bool) {
     tally.check(entry::report(text, 0).is_ok_and(|got| right(&got)), || format!("entry, {name}"));
-    for cuts in [Cuts::Nowhere, Cuts::Every(4_095), Cuts::Every(65_537)] {
-        if let Some(order) = order {
-            tally.check(program::report(order, text, cuts).is_ok_and(|got| right(&got)), || format!("program, {name}, cut {cuts:?}"));
-        }
+    if let Some(order) = order {
+        let cuts = [Cuts::Nowhere, Cuts::Every(4_095), Cuts::Every(65_537)][text.len() % 3];
+        tally.check(program::report(order, text, cuts).is_ok_and(|got| right(&got)), || format!("program, {name}, cut {cuts:?}"));
     }
 }
 

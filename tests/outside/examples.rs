@@ -47,6 +47,7 @@ const SHORT: &[(&str, &str, &str)] = &[
     ("K11 with a take", "start 0 1, write 0 5, lost 1, take 1 9, write 1 5", "2 0 clear 0, 5 1 doubt 2"),
     ("K12", "start 0 1, write 0 5, lost 1, lost 2, write 1 5", "2 0 clear 0, 5 1 doubt 2"),
     ("K12 the other way round", "start 0 1, write 0 5, lost 2, lost 1, write 1 5", "2 0 clear 0, 5 1 race 2"),
+    ("K9 with the tasks exchanged", "start 0 1, write 1 5, lost 3, write 0 5", "2 1 clear 0, 4 0 doubt 2"),
     ("joining a task that never acted", "start 0 2, write 0 5, start 0 1, join 2 1, read 2 5", "2 0 clear 0, 5 2 race 2"),
     ("joining a task that may have acted", "start 0 2, write 0 5, start 0 1, lost 2, join 2 1, read 2 5", "2 0 clear 0, 6 2 doubt 2"),
     (

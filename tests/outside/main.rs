@@ -16,7 +16,7 @@ use program::{Cuts, WAYS};
 use std::io::Read;
 use tally::Tally;
 
-const RECORDINGS: u64 = 6_000;
+const RECORDINGS: u64 = 4_000;
 const COMPLETIONS: usize = 5;
 /// One recording in so many is given to the program too.
 const SHARE: u64 = 12;
@@ -48,6 +48,45 @@ fn run_full(tally: &mut Tally, order: Option<&str>) {
     tally.check(whole(entry::report(&example.text, 0)), || "entry, row 5".to_string());
     if let Some(order) = order {
         tally.check(whole(program::report(order, &example.text, Cuts::Nowhere)), || "program, row 5".to_string());
+    }
+}
+
+/// What may stand between a write by task 0 and a write by task 1, where task 2 may come and go.
+const BETWEEN: [&str; 18] = [
+    "op=write task=0 on=5",
+    "op=write task=1 on=5",
+    "op=take task=0 on=1",
+    "op=take task=1 on=1",
+    "op=give task=0 on=1",
+    "op=give task=1 on=1",
+    "op=look task=0 on=1",
+    "op=look task=1 on=1",
+    "op=set task=0 on=1",
+    "op=set task=1 on=1",
+    "op=start task=0 on=2",
+    "op=join task=1 on=2",
+    "op=take task=2 on=1",
+    "op=set task=2 on=1",
+    "op=lost tasks=1",
+    "op=lost tasks=2",
+    "op=lost tasks=3",
+    "op=lost tasks=4",
+];
+
+/// Every recording with up to three of these records in between, which leaves out no short one.
+fn run_between(tally: &mut Tally) {
+    let mut middles = vec![String::new()];
+    let mut from = 0;
+    for _ in 0..3 {
+        let upto = middles.len();
+        for at in from..upto {
+            middles.extend(BETWEEN.map(|line| format!("{}{line}\n", middles[at])));
+        }
+        from = upto;
+    }
+    for middle in middles {
+        let text = format!("op=start task=0 on=1\nop=write task=0 on=5\n{middle}op=write task=1 on=5\n");
+        tally.expect("entry, in between", text.as_bytes(), &oracle::report_of(text.as_bytes()), entry::report(text.as_bytes(), 0));
     }
 }
 
@@ -154,7 +193,7 @@ fn run_coverage(tally: &mut Tally) {
     for what in rows.into_iter().chain(others) {
         let times = tally.seen.get(&what).copied().unwrap_or(0);
         println!("seen: {what}: {times}");
-        tally.check(times >= 100, || format!("seen too seldom: {what}"));
+        tally.check(times >= 50, || format!("seen too seldom: {what}"));
     }
 }
 
@@ -175,6 +214,8 @@ fn run_all(order: Option<&str>) {
     tally.part("examples");
     run_full(&mut tally, order);
     tally.part("row 5");
+    run_between(&mut tally);
+    tally.part("every short recording between two writes");
     on_threads(&mut tally, |first| run_generated(first, order));
     tally.part("generated recordings");
     on_threads(&mut tally, run_long);
