@@ -1,0 +1,158 @@
+//! Document 01's examples, edges and refusal rows, with reports written by hand.
+
+pub struct Example {
+    pub name: &'static str,
+    pub text: Vec<u8>,
+    pub report: String,
+}
+
+/// Records in short, `write 0 5` for `op=write task=0 on=5` and `lost 3` for `op=lost tasks=3`.
+fn text(records: &str) -> Vec<u8> {
+    let mut out = String::new();
+    for record in records.split(", ").filter(|record| !record.is_empty()) {
+        match record.split(' ').collect::<Vec<_>>()[..] {
+            ["lost", mask] => out += &format!("op=lost tasks={mask}\n"),
+            [op, task, on] => out += &format!("op={op} task={task} on={on}\n"),
+            _ => panic!("not a record: {record}"),
+        }
+    }
+    out.into_bytes()
+}
+
+/// Report lines in short: `3 1 race 2` is record 3, task 1, variable 5, and its partner; `!4 6` is line 4 refused with 6.
+fn report(lines: &str) -> String {
+    let mut out = String::new();
+    for line in lines.split(", ").filter(|line| !line.is_empty()) {
+        match line.split(' ').collect::<Vec<_>>()[..] {
+            [rec, task, verdict, with] => out += &format!("rec={rec:0>5} task={task} var=5 verdict={verdict} with={with:0>5}\n"),
+            [number, row] => out += &format!("line={} refused={row}\n", &number[1..]),
+            _ => panic!("not a report line: {line}"),
+        }
+    }
+    out
+}
+
+const SHORT: &[(&str, &str, &str)] = &[
+    ("K1", "", ""),
+    ("K2", "start 0 1, write 0 5, read 1 5", "2 0 clear 0, 3 1 race 2"),
+    ("K3", "write 0 5, start 0 1, read 1 5", "1 0 clear 0, 3 1 clear 0"),
+    ("K4", "start 0 1, write 1 5, join 0 1, write 0 5", "2 1 clear 0, 4 0 clear 0"),
+    ("K5", "start 0 1, read 0 5, read 1 5", "2 0 clear 0, 3 1 clear 0"),
+    ("K6", "start 0 1, write 0 5, look 0 3, set 1 3, write 1 5", "2 0 clear 0, 5 1 race 2"),
+    ("K7", "start 0 1, start 0 2, write 1 5, give 1 4, give 2 4, take 0 4, read 0 5", "3 1 clear 0, 7 0 clear 0"),
+    ("K8", "start 0 1, write 0 5, write 1 5, lost 3", "2 0 clear 0, 3 1 race 2"),
+    ("K9", "start 0 1, write 0 5, lost 3, write 1 5", "2 0 clear 0, 4 1 doubt 2"),
+    ("K10", "start 0 1, write 0 5, lost 2, write 1 5", "2 0 clear 0, 4 1 race 2"),
+    ("K11", "start 0 1, write 0 5, lost 1, write 1 5", "2 0 clear 0, 4 1 race 2"),
+    ("K11 with a take", "start 0 1, write 0 5, lost 1, take 1 9, write 1 5", "2 0 clear 0, 5 1 doubt 2"),
+    ("K12", "start 0 1, write 0 5, lost 1, lost 2, write 1 5", "2 0 clear 0, 5 1 doubt 2"),
+    ("K12 the other way round", "start 0 1, write 0 5, lost 2, lost 1, write 1 5", "2 0 clear 0, 5 1 race 2"),
+    ("K9 with the tasks exchanged", "start 0 1, write 1 5, lost 3, write 0 5", "2 1 clear 0, 4 0 doubt 2"),
+    ("joining a task that never acted", "start 0 2, write 0 5, start 0 1, join 2 1, read 2 5", "2 0 clear 0, 5 2 race 2"),
+    ("joining a task that may have acted", "start 0 2, write 0 5, start 0 1, lost 2, join 2 1, read 2 5", "2 0 clear 0, 6 2 doubt 2"),
+    (
+        "an older unordered access behind an ordered one",
+        "start 0 1, start 0 2, write 1 5, write 2 5, give 2 1, take 0 1, read 0 5",
+        "3 1 clear 0, 4 2 race 3, 7 0 race 3",
+    ),
+    (
+        "a partner is the lowest task's latest access",
+        "start 0 1, start 0 2, write 2 5, write 2 5, write 1 5, write 1 5, read 0 5",
+        "3 2 clear 0, 4 2 clear 0, 5 1 race 4, 6 1 race 4, 7 0 race 6",
+    ),
+    (
+        "a read's partner is a write, a write's may be a read",
+        "start 0 1, write 1 5, read 1 5, read 0 5, write 0 5",
+        "2 1 clear 0, 3 1 clear 0, 4 0 race 2, 5 0 race 3",
+    ),
+    (
+        "a doubtful partner is no partner of a Race",
+        "start 0 1, start 0 2, write 1 5, give 1 0, write 2 5, lost 1, write 0 5",
+        "3 1 clear 0, 5 2 race 3, 7 0 race 5",
+    ),
+    ("row 2", "read 16 1", "!1 2"),
+    ("row 3", "take 0 32", "!1 3"),
+    ("row 4", "lost 0", "!1 4"),
+    ("row 6", "read 1 1", "!1 6"),
+    ("row 7", "start 0 0", "!1 7"),
+    ("row 8", "join 0 0", "!1 8"),
+    ("row 9", "lost 2", "!1 9"),
+    ("row 9 of a join", "join 0 1", "!1 9"),
+    ("the lower row goes first", "read 16 64, take 1 32, start 1 0, join 1 1, start 1 1, join 1 2", "!1 2, !2 3, !3 6, !4 6, !5 6, !6 6"),
+    ("the first past each series", "read 0 64, write 0 64, take 0 32, give 0 32, look 0 32, set 0 32, start 0 16, join 0 16", EIGHT_THREES),
+    ("the last of each series", "take 0 31, give 0 31, look 0 31, set 0 31, start 0 15, lost 32769, join 0 15", ""),
+    ("masks", "lost 65536, lost 65535, lost 99999, lost 1", "!1 4, !2 9, !3 4"),
+    ("a joined task is done", "start 0 1, join 0 1, join 0 1, start 0 1, read 1 5, lost 2, lost 3", "!3 9, !4 7, !5 6, !6 9, !7 9"),
+    ("a refused record changes nothing", "start 1 2, read 2 5, start 0 1, start 0 1, read 1 5, start 1 2", "!1 6, !2 6, !4 7, 2 1 clear 0"),
+];
+
+const EIGHT_THREES: &str = "!1 3, !2 3, !3 3, !4 3, !5 3, !6 3, !7 3, !8 3";
+
+const NOT_OF_THE_FORM: &[&str] = &[
+    "",
+    "op=read task=0",
+    "op=read task=0 on=1 ",
+    " op=read task=0 on=1",
+    "op=read  task=0 on=1",
+    "op=read task=0 on=1\r",
+    "op=read task=0 on=1\0",
+    "op=read\ttask=0 on=1",
+    "op=read task=0 on=",
+    "op=read task= on=1",
+    "op=read task=0 on=01",
+    "op=read task=00 on=1",
+    "op=read task=0 on=000001",
+    "op=read task=0 on=100000",
+    "op=read task=0 on=+1",
+    "op=read task=0 on=-1",
+    "op=read task=0 on=1a",
+    "op=READ task=0 on=1",
+    "op=lend task=0 on=1",
+    "op= task=0 on=1",
+    "op=readtask=0 on=1",
+    "op=read on=1 task=0",
+    "op=read tasks=0 on=1",
+    "op=read tasks=1",
+    "op=lost task=0 on=1",
+    "op=lost tasks=1 on=1",
+    "op=lost tasks=01",
+    "op=lost tasks=",
+    "op=lost",
+    "op=losttasks=1",
+    "read task=0 on=1",
+    "op=read task=0 on=\u{661}",
+];
+
+fn whole() -> Example {
+    let text = "op=start task=0 on=1\nop=write task=0 on=5\nop=give task=0 on=2\nop=write task=0 on=6\nop=lost tasks=2\n\
+                op=read task=1 on=5\nop=read task=1 on=6\nop=take task=1 on=2\nop=write task=1 on=5\nop=read task=2 on=5\n";
+    let report = "rec=00002 task=0 var=5 verdict=clear with=00000\nrec=00004 task=0 var=6 verdict=clear with=00000\n\
+                  rec=00006 task=1 var=5 verdict=doubt with=00002\nrec=00007 task=1 var=6 verdict=race with=00004\n\
+                  rec=00009 task=1 var=5 verdict=clear with=00000\nline=10 refused=6\n";
+    Example { name: "the report example", text: text.into(), report: report.into() }
+}
+
+fn last_variable() -> Example {
+    let report = "rec=00001 task=0 var=63 verdict=clear with=00000\nrec=00003 task=15 var=63 verdict=clear with=00000\n";
+    Example { name: "task 15 and variable 63", text: text("write 0 63, start 0 15, read 15 63"), report: report.into() }
+}
+
+pub fn examples() -> Vec<Example> {
+    let mut list = vec![whole(), last_variable()];
+    list.extend(SHORT.iter().map(|&(name, records, lines)| Example { name, text: text(records), report: report(lines) }));
+    for line in NOT_OF_THE_FORM {
+        list.push(Example { name: line, text: format!("{line}\n").into(), report: report("!1 1") });
+    }
+    list
+}
+
+/// 60,000 records are accepted; then rows 1 to 4 still go before row 5, and row 5 before the others.
+pub fn full() -> Example {
+    let mut lines = "op=read task=0 on=1\n".repeat(60_001);
+    lines += "op=read task=0\nop=read task=16 on=1\nop=read task=0 on=64\nop=lost tasks=0\nop=read task=1 on=1\nop=lost tasks=2\n";
+    let mut report: String = (1..=60_000).map(|rec| format!("rec={rec:05} task=0 var=1 verdict=clear with=00000\n")).collect();
+    for (line, row) in [(60_001, 5), (60_002, 1), (60_003, 2), (60_004, 3), (60_005, 4), (60_006, 5), (60_007, 5)] {
+        report += &format!("line={line} refused={row}\n");
+    }
+    Example { name: "row 5", text: lines.into(), report }
+}

@@ -1,0 +1,378 @@
+//! The plain path search: document 01 read word for word over an explicit list of records. It shares nothing with the checker.
+
+use std::fmt::Write;
+
+pub const TASKS: u32 = 16;
+pub const LIMIT: usize = 60_000;
+
+#[derive(Clone, Copy, PartialEq, Eq, Debug)]
+pub enum Op {
+    Read,
+    Write,
+    Take,
+    Give,
+    Look,
+    Set,
+    Start,
+    Join,
+}
+
+use Op::*;
+
+pub const WORDS: [(&str, Op); 8] =
+    [("read", Read), ("write", Write), ("take", Take), ("give", Give), ("look", Look), ("set", Set), ("start", Start), ("join", Join)];
+
+/// What a task does: the op, the acting task and the number.
+#[derive(Clone, Copy, Debug)]
+pub struct Act {
+    pub op: Op,
+    pub task: u32,
+    pub on: u32,
+}
+
+#[derive(Clone, Copy, Debug)]
+pub enum Record {
+    Act(Act),
+    Lost(u32),
+}
+
+// ---- Text
+
+/// The lines of a text: each ended by LF; a non-empty rest without LF is a line too.
+pub fn lines(text: &[u8]) -> Vec<&[u8]> {
+    let mut parts: Vec<&[u8]> = text.split(|&byte| byte == b'\n').collect();
+    if parts.last() == Some(&&b""[..]) {
+        parts.pop();
+    }
+    parts
+}
+
+/// `op=W task=T on=N` or `op=lost tasks=M`, single spaces; nothing else yields a record.
+pub fn read_line(line: &[u8]) -> Option<Record> {
+    let line = std::str::from_utf8(line).ok()?;
+    let parts: Vec<&str> = line.split(' ').collect();
+    match parts[..] {
+        ["op=lost", tasks] => Some(Record::Lost(number(tasks.strip_prefix("tasks=")?)?)),
+        [op, task, on] => {
+            let word = op.strip_prefix("op=")?;
+            let (_, op) = *WORDS.iter().find(|(known, _)| *known == word)?;
+            let task = number(task.strip_prefix("task=")?)?;
+            let on = number(on.strip_prefix("on=")?)?;
+            Some(Record::Act(Act { op, task, on }))
+        }
+        _ => None,
+    }
+}
+
+/// 1 to 5 digits and no needless leading zero.
+fn number(digits: &str) -> Option<u32> {
+    let right_length = (1..=5).contains(&digits.len());
+    let only_digits = digits.bytes().all(|byte| byte.is_ascii_digit());
+    let needless_zero = digits.len() > 1 && digits.starts_with('0');
+    if right_length && only_digits && !needless_zero {
+        digits.parse().ok()
+    } else {
+        None
+    }
+}
+
+// ---- Refusals
+
+#[derive(Clone, Copy, PartialEq, Eq)]
+enum Life {
+    Unseen,
+    Live,
+    Ended,
+}
+
+/// The accepted records so far and what became of each task.
+struct Accepted {
+    records: Vec<Record>,
+    life: [Life; TASKS as usize],
+}
+
+fn fresh() -> Accepted {
+    let mut life = [Life::Unseen; TASKS as usize];
+    life[0] = Life::Live;
+    Accepted { records: Vec::new(), life }
+}
+
+fn named(mask: u32) -> impl Iterator<Item = u32> {
+    (0..TASKS).filter(move |task| mask >> task & 1 == 1)
+}
+
+/// The highest number of the series that an op's `on` belongs to.
+fn highest(op: Op) -> u32 {
+    match op {
+        Read | Write => 63,
+        Take | Give | Look | Set => 31,
+        Start | Join => 15,
+    }
+}
+
+/// The first of rows 1 to 9 that applies; row 10 is taken never to apply.
+fn refusal(so_far: &Accepted, record: Option<Record>) -> Option<u32> {
+    let live = |task: u32| so_far.life[task as usize] == Life::Live;
+    let full = so_far.records.len() >= LIMIT;
+    match record {
+        None => Some(1),
+        Some(Record::Act(Act { op, task, on })) => {
+            if task > 15 {
+                Some(2)
+            } else if on > highest(op) {
+                Some(3)
+            } else if full {
+                Some(5)
+            } else if !live(task) {
+                Some(6)
+            } else if op == Start && so_far.life[on as usize] != Life::Unseen {
+                Some(7)
+            } else if op == Join && on == task {
+                Some(8)
+            } else if op == Join && !live(on) {
+                Some(9)
+            } else {
+                None
+            }
+        }
+        Some(Record::Lost(mask)) => {
+            if mask == 0 || mask > 65_535 {
+                Some(4)
+            } else if full {
+                Some(5)
+            } else if !named(mask).all(live) {
+                Some(9)
+            } else {
+                None
+            }
+        }
+    }
+}
+
+fn accept(so_far: &mut Accepted, record: Record) {
+    if let Record::Act(Act { op, on, .. }) = record {
+        match op {
+            Start => so_far.life[on as usize] = Life::Live,
+            Join => so_far.life[on as usize] = Life::Ended,
+            _ => {}
+        }
+    }
+    so_far.records.push(record);
+}
+
+/// What became of one line.
+#[derive(Clone, Copy, PartialEq, Eq)]
+pub enum Fate {
+    /// Accepted, with its record number.
+    Accepted(usize),
+    /// Refused, with the row's number.
+    Refused(u32),
+}
+
+pub struct Reading {
+    pub recording: Vec<Record>,
+    pub fates: Vec<Fate>,
+}
+
+/// Feeds each line of a text to a state that starts fresh.
+pub fn read(text: &[u8]) -> Reading {
+    let mut so_far = fresh();
+    let mut fates = Vec::new();
+    for line in lines(text) {
+        let record = read_line(line);
+        fates.push(match (refusal(&so_far, record), record) {
+            (None, Some(record)) => {
+                accept(&mut so_far, record);
+                Fate::Accepted(so_far.records.len())
+            }
+            (row, _) => Fate::Refused(row.unwrap_or(1)),
+        });
+    }
+    Reading { recording: so_far.records, fates }
+}
+
+// ---- Order
+
+/// A step from an event to a later one: the five rules.
+pub fn step(i: &Act, j: &Act) -> bool {
+    i.task == j.task
+        || (i.op == Give && j.op == Take && i.on == j.on)
+        || (i.op == Set && j.op == Look && i.on == j.on)
+        || (i.op == Start && i.on == j.task)
+        || (j.op == Join && j.on == i.task)
+}
+
+/// An act of a completion; `rec` is the record number if it arrived, 0 if it was filled in.
+#[derive(Clone, Copy)]
+pub struct Event {
+    pub act: Act,
+    pub rec: usize,
+}
+
+/// A completion: for each mark the list that `fill` makes of its mask; all else as it is.
+pub fn complete(recording: &[Record], mut fill: impl FnMut(u32) -> Vec<Act>) -> Vec<Event> {
+    let mut events = Vec::new();
+    for (at, record) in recording.iter().enumerate() {
+        match record {
+            Record::Act(act) => events.push(Event { act: *act, rec: at + 1 }),
+            Record::Lost(mask) => events.extend(fill(*mask).into_iter().map(|act| Event { act, rec: 0 })),
+        }
+    }
+    events
+}
+
+/// The recording as it arrived: a mark has no step to or from it, so an empty list stands for it.
+pub fn as_arrived(_mask: u32) -> Vec<Act> {
+    Vec::new()
+}
+
+/// The fullest list for a mark: two rounds, lowest task first; each takes and looks at all, then gives and sets all.
+pub fn fullest(mask: u32) -> Vec<Act> {
+    let mut list = Vec::new();
+    for _round in 0..2 {
+        for task in named(mask) {
+            for op in [Take, Look, Give, Set] {
+                list.extend((0..32).map(|on| Act { op, task, on }));
+            }
+        }
+    }
+    list
+}
+
+/// An accepted read or write.
+#[derive(Clone, Copy)]
+pub struct Access {
+    pub rec: usize,
+    pub task: u32,
+    pub var: u32,
+    pub writes: bool,
+}
+
+pub fn accesses(recording: &[Record]) -> Vec<Access> {
+    let mut list = Vec::new();
+    for (at, record) in recording.iter().enumerate() {
+        if let Record::Act(Act { op: op @ (Read | Write), task, on }) = *record {
+            list.push(Access { rec: at + 1, task, var: on, writes: op == Write });
+        }
+    }
+    list
+}
+
+pub fn conflict(a: &Access, b: &Access) -> bool {
+    a.var == b.var && a.task != b.task && (a.writes || b.writes)
+}
+
+/// Which event has a path to which, asked by places in the list of accesses.
+pub struct Paths {
+    /// Where each access stands among the events.
+    places: Vec<usize>,
+    words: usize,
+    /// For each event, a bit for each event that has a path to it.
+    bits: Vec<u64>,
+}
+
+impl Paths {
+    pub fn has(&self, from: usize, to: usize) -> bool {
+        let (from, to) = (self.places[from], self.places[to]);
+        holds(&self.bits[to * self.words..], from)
+    }
+}
+
+fn holds(row: &[u64], at: usize) -> bool {
+    row[at / 64] >> (at % 64) & 1 == 1
+}
+
+/// Closes the step relation: to an event leads each earlier one with a step to it, and all that leads to that one.
+/// Going backwards, one already found brings nothing new.
+pub fn paths(events: &[Event]) -> Paths {
+    let words = events.len().div_ceil(64);
+    let mut bits = vec![0u64; words * events.len()];
+    for j in 0..events.len() {
+        let (before, here) = bits.split_at_mut(j * words);
+        for i in (0..j).rev() {
+            if !holds(here, i) && step(&events[i].act, &events[j].act) {
+                here[i / 64] |= 1 << (i % 64);
+                for (to, from) in here.iter_mut().zip(&before[i * words..][..words]) {
+                    *to |= from;
+                }
+            }
+        }
+    }
+    let places = (0..events.len()).filter(|&at| events[at].rec > 0 && matches!(events[at].act.op, Read | Write)).collect();
+    Paths { places, words, bits }
+}
+
+// ---- Verdicts
+
+#[derive(Clone, Copy, PartialEq, Eq, Debug)]
+pub enum Verdict {
+    Clear,
+    Race,
+    Doubt,
+}
+
+/// Some earlier access of the recording conflicts with this one, and no path leads from that one to it.
+pub fn racy(accesses: &[Access], paths: &Paths, this: usize) -> bool {
+    (0..this).any(|earlier| conflict(&accesses[earlier], &accesses[this]) && !paths.has(earlier, this))
+}
+
+/// Among tasks whose latest conflicting earlier access has no path to this one, the lowest; that access's record number.
+fn partner(accesses: &[Access], paths: &Paths, this: usize) -> usize {
+    for task in 0..TASKS {
+        let latest = (0..this).rev().find(|&earlier| accesses[earlier].task == task && conflict(&accesses[earlier], &accesses[this]));
+        match latest {
+            Some(latest) if !paths.has(latest, this) => return accesses[latest].rec,
+            _ => {}
+        }
+    }
+    panic!("the oracle contradicts itself: a racy access without a partner")
+}
+
+pub struct Judged {
+    pub access: Access,
+    pub verdict: Verdict,
+    pub with: usize,
+}
+
+/// Race: racy even in the fullest completion. Clear: not racy even as it arrived. Doubt: otherwise.
+pub fn judge(recording: &[Record]) -> Vec<Judged> {
+    let accesses = accesses(recording);
+    let arrived = paths(&complete(recording, as_arrived));
+    let full = paths(&complete(recording, fullest));
+    let mut list = Vec::new();
+    for this in 0..accesses.len() {
+        let (verdict, with) = match (racy(&accesses, &full, this), racy(&accesses, &arrived, this)) {
+            (true, true) => (Verdict::Race, partner(&accesses, &full, this)),
+            (false, true) => (Verdict::Doubt, partner(&accesses, &arrived, this)),
+            (false, false) => (Verdict::Clear, 0),
+            (true, false) => panic!("the oracle contradicts itself: racy in the fullest completion alone"),
+        };
+        list.push(Judged { access: accesses[this], verdict, with });
+    }
+    list
+}
+
+// ---- Report
+
+/// One line for an accepted access, one for a refused line, none for other records.
+pub fn report(reading: &Reading, judged: &[Judged]) -> String {
+    let mut out = String::new();
+    for (at, fate) in reading.fates.iter().enumerate() {
+        match *fate {
+            Fate::Refused(row) => writeln!(out, "line={} refused={row}", at + 1).unwrap(),
+            Fate::Accepted(rec) => {
+                if let Ok(found) = judged.binary_search_by_key(&rec, |one| one.access.rec) {
+                    let Judged { access, verdict, with } = &judged[found];
+                    let verdict = format!("{verdict:?}").to_lowercase();
+                    writeln!(out, "rec={rec:05} task={} var={} verdict={verdict} with={with:05}", access.task, access.var).unwrap();
+                }
+            }
+        }
+    }
+    out
+}
+
+pub fn report_of(text: &[u8]) -> String {
+    let reading = read(text);
+    report(&reading, &judge(&reading.recording))
+}

@@ -1,0 +1,120 @@
+//! The program `order`, fed through a pipe in pieces.
+
+use crate::generate::Random;
+use std::io::{Read, Write};
+use std::os::fd::{AsRawFd, RawFd};
+use std::process::{Child, Command, Stdio};
+use std::time::{Duration, Instant};
+
+const PATIENCE: Duration = Duration::from_secs(30);
+const FIONREAD: u64 = 0x541b;
+
+extern "C" {
+    fn ioctl(fd: i32, request: u64, ...) -> i32;
+}
+
+/// Where the text is cut into pieces.
+#[derive(Clone, Copy, Debug)]
+pub enum Cuts {
+    Nowhere,
+    /// Pieces of so many bytes.
+    Every(usize),
+    BeforeLf,
+    AfterLf,
+    MidLine,
+    /// Pieces of some twenty bytes, by this seed.
+    Anywhere(u64),
+}
+
+pub const WAYS: [Cuts; 6] = [Cuts::Nowhere, Cuts::Every(1), Cuts::BeforeLf, Cuts::AfterLf, Cuts::MidLine, Cuts::Anywhere(1)];
+
+fn pieces(text: &[u8], cuts: Cuts) -> Vec<&[u8]> {
+    let mut random = Random::new(if let Cuts::Anywhere(seed) = cuts { seed } else { 0 });
+    let cut_after = |at: usize| -> bool {
+        match cuts {
+            Cuts::Nowhere => false,
+            Cuts::Every(size) => (at + 1) % size == 0,
+            Cuts::BeforeLf => text.get(at + 1) == Some(&b'\n'),
+            Cuts::AfterLf => text[at] == b'\n',
+            Cuts::MidLine => text[at] == b'=' || text[at] == b' ',
+            Cuts::Anywhere(_) => random.percent(5),
+        }
+    };
+    split_after(text, cut_after)
+}
+
+fn split_after(text: &[u8], mut cut_after: impl FnMut(usize) -> bool) -> Vec<&[u8]> {
+    let mut list = Vec::new();
+    let mut from = 0;
+    for at in 0..text.len() {
+        if cut_after(at) || at + 1 == text.len() {
+            list.push(&text[from..=at]);
+            from = at + 1;
+        }
+    }
+    list
+}
+
+/// Waits until the program has taken all that was written, so that no read of it gets two pieces at once.
+fn drained(pipe: RawFd, child: &mut Child, since: Instant) -> Result<(), String> {
+    loop {
+        let mut waiting = 0_i32;
+        // SAFETY: FIONREAD writes one int.
+        if unsafe { ioctl(pipe, FIONREAD, &mut waiting as *mut i32) } != 0 {
+            return Err("FIONREAD is refused".to_string());
+        }
+        if waiting == 0 {
+            return Ok(());
+        }
+        if since.elapsed() > PATIENCE {
+            return Err("the program does not read on".to_string());
+        }
+        if child.try_wait().map_err(|e| e.to_string())?.is_some() {
+            return Err("the program ended before its input".to_string());
+        }
+        std::thread::yield_now();
+    }
+}
+
+fn feed(child: &mut Child, pieces: &[&[u8]], since: Instant) -> Result<(), String> {
+    let mut input = child.stdin.take().unwrap();
+    for piece in pieces {
+        input.write_all(piece).map_err(|e| format!("the program does not take its input: {e}"))?;
+        drained(input.as_raw_fd(), child, since)?;
+    }
+    Ok(())
+}
+
+fn ended(child: &mut Child, since: Instant) -> Result<(), String> {
+    while since.elapsed() < PATIENCE {
+        match child.try_wait().map_err(|e| e.to_string())? {
+            Some(status) if status.success() => return Ok(()),
+            Some(status) => return Err(format!("the program ended with {status}")),
+            None => std::thread::sleep(Duration::from_micros(200)),
+        }
+    }
+    Err("the program does not end".to_string())
+}
+
+/// Runs the program on a text and answers what it wrote to standard output.
+pub fn report(program: &str, text: &[u8], cuts: Cuts) -> Result<Vec<u8>, String> {
+    let since = Instant::now();
+    let mut child = Command::new(program)
+        .stdin(Stdio::piped())
+        .stdout(Stdio::piped())
+        .spawn()
+        .map_err(|e| format!("{program} cannot be started: {e}"))?;
+    let mut output = child.stdout.take().unwrap();
+    let reader = std::thread::spawn(move || {
+        let mut wrote = Vec::new();
+        output.read_to_end(&mut wrote).map(|_| wrote)
+    });
+    let result = feed(&mut child, &pieces(text, cuts), since).and_then(|()| ended(&mut child, since));
+    if result.is_err() {
+        let _ = child.kill();
+        let _ = child.wait();
+    }
+    let wrote = reader.join().unwrap().map_err(|e| e.to_string())?;
+    result.map_err(|why| format!("{why}; it wrote {} bytes", wrote.len()))?;
+    Ok(wrote)
+}
