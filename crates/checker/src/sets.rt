@@ -10,6 +10,7 @@ use crate::masks::Masks;
 use crate::masks::bit_of;
 use crate::numbers::Task;
 use crate::numbers::Variable;
+use crate::refusals::both;
 use crate::rows::heard_by;
 use crate::rows::heard_row;
 use crate::rows::told_by;
@@ -185,13 +186,9 @@ fn apart(cells: &[u8; 196608], last: &[u32; 2048], kind: u8, task: u32, on: u32,
     requires { ⌜ (task < 16) × (on < 64) × (u < 16) ⌝ }
     ensures { λ r. ⌜ r ≡ setApart (now (cells .entry)) (now (last .entry)) kind task on u ⌝ }
 {
-    if u == task {
-        return false;
-    }
-    if latest_number(last, kind, on, u) == 0 {
-        return false;
-    }
-    cells[task as usize * 2048 + latest_slot(last, kind, on, u)] == 0
+    let kept = 0 < latest_number(last, kind, on, u);
+    let heard = cells[task as usize * 2048 + latest_slot(last, kind, on, u)];
+    both(u != task, both(kept, heard == 0))
 }
 
 fn mask(cells: &[u8; 196608], last: &[u32; 2048], kind: u8, task: u32, on: u32) -> u16
