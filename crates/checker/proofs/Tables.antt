@@ -10,7 +10,7 @@ use native.Mathlib.Omega.{arith}
 use lib.ListN.{length, getD, set, length-set, replicate, length-replicate, getD-replicate}
 use lib.Seq.{set-getD, getD-set-same, getD-set-other}
 use Rattle.checker.specs.Turns.{turns}
-use Rattle.checker.specs.Tables.{cell, joinCell, joinRow}
+use Rattle.checker.specs.Tables.{cell, joinCell, joinRow, rowOf, joinWithCell, joinWith}
 use Rattle.checker.proofs.Reflects.{Reflects, right, wrong, equal, at-most}
 
 -- a row knows what it knows
@@ -87,15 +87,16 @@ cell-set-other w b q d v r c m l n = getD-set-other b (q * w + d) (r * w + c) v 
 
 -- Joining a row
 
-module _ {w : ℕ} {b : List ℕ} (s : Sized w b) (to from : ℕ) where
-  -- n turns leave the other rows as they were, and the columns from n on
-  turns-other : (n r c : ℕ) → n ≤ w → c < w → ¬ ((r ≡ to) × (c < n)) → cell w (turns n (joinCell w to from) b) r c ≡ cell w b r c
-  unfolding turns
-  turns-other zero r c h l f = refl
-  turns-other (suc n) r c h l f =
-      cell-set-other w (turns n (joinCell w to from) b) to n _ r c h l (λ x. f (x .0, omega arith))
-      ∙ turns-other n r c (omega arith) l (λ x. f (x .0, omega arith))
+-- n turns leave the other rows as they were, and the columns from n on
+turns-other : (w : ℕ) (b : List ℕ) (to from n r c : ℕ) → n ≤ w → c < w → ¬ ((r ≡ to) × (c < n)) →
+    cell w (turns n (joinCell w to from) b) r c ≡ cell w b r c
+unfolding turns
+turns-other w b to from zero r c h l f = refl
+turns-other w b to from (suc n) r c h l f =
+    cell-set-other w (turns n (joinCell w to from) b) to n _ r c h l (λ x. f (x .0, omega arith))
+    ∙ turns-other w b to from n r c (omega arith) l (λ x. f (x .0, omega arith))
 
+module _ {w : ℕ} {b : List ℕ} (s : Sized w b) (to from : ℕ) where
   -- and below n the joined row has the greater
   turns-same : (n c : ℕ) → to < 96 → n ≤ w → c < n → cell w (turns n (joinCell w to from) b) to c ≡ max (cell w b to c) (cell w b from c)
   unfolding turns
@@ -107,7 +108,7 @@ module _ {w : ℕ} {b : List ℕ} (s : Sized w b) (to from : ℕ) where
 
       -- column n is as it was
       here : (r : ℕ) → cell w past r n ≡ cell w b r n
-      here r = turns-other n r n (omega arith) h (λ x. omega arith)
+      here r = turns-other w b to from n r n (omega arith) h (λ x. omega arith)
 
       decided : {p : Bool} → Reflects (c ≡ n) p → (c < n → cell w past to c ≡ max (cell w b to c) (cell w b from c)) →
           cell w (joinCell w to from n past) to c ≡ max (cell w b to c) (cell w b from c)
@@ -122,7 +123,42 @@ join-cell-same {w} s to from c h l = turns-same s to from w c h (omega arith) l
 pub join-cell-other : {w : ℕ} {b : List ℕ} → Sized w b → (to from r c : ℕ) → c < w → ¬ (r ≡ to) →
     cell w (joinRow w to from b) r c ≡ cell w b r c
 unfolding joinRow
-join-cell-other {w} s to from r c l f = turns-other s to from w r c (omega arith) l (λ x. f (x .0))
+join-cell-other {w} {b} s to from r c l f = turns-other w b to from w r c (omega arith) l (λ x. f (x .0))
+
+-- Joining a copy of a row
+
+-- the first m cells of a row that is filled cell by cell
+filled : (m : ℕ) (f : ℕ → ℕ) (r : List ℕ) (c : ℕ) → c < m → m ≤ length r → getD (turns m (λ k x. set x k (f k)) r) c 0 ≡ f c
+unfolding turns
+filled zero f r c h l = absurd (omega arith)
+filled (suc m) f r c h l = decided (equal c m) (λ k. filled m f r c k (omega arith))
+  where
+    before : List ℕ
+    before = turns m (λ k x. set x k (f k)) r
+
+    same-length : (n : ℕ) → length (turns n (λ k x. set x k (f k)) r) ≡ length r
+    same-length zero = refl
+    same-length (suc n) = length-set (turns n (λ k x. set x k (f k)) r) n (f n) ∙ same-length n
+
+    decided : {p : Bool} → Reflects (c ≡ m) p → (c < m → getD before c 0 ≡ f c) → getD (set before m (f m)) c 0 ≡ f c
+    decided (right e) ih = rw e (getD-set-same before m (f m) 0 (omega (arith, same-length m)))
+    decided (wrong d) ih = getD-set-other before m c (f m) 0 (λ e. d e) ∙ ih (omega arith)
+
+row-cell : (w from : ℕ) (b : List ℕ) (c : ℕ) → c < w → getD (rowOf w from b) c 0 ≡ cell w b from c
+unfolding rowOf
+row-cell w from b c h = filled w (λ k. cell w b from k) (replicate w 0) c h (omega (arith, length-replicate {A = ℕ} w 0))
+
+-- the copy has what the row has, since another row is stored to
+pub join-copy : (w to from : ℕ) (b : List ℕ) → ¬ (to ≡ from) → joinWith w to (rowOf w from b) b ≡ joinRow w to from b
+unfolding joinRow joinWith turns
+join-copy w to from b d = steps w (omega arith)
+  where
+    steps : (n : ℕ) → n ≤ w → turns n (joinWithCell w to (rowOf w from b)) b ≡ turns n (joinCell w to from) b
+    steps zero h = refl
+    steps (suc n) h =
+        let q : getD (rowOf w from b) n 0 ≡ cell w (turns n (joinCell w to from) b) from n =
+        row-cell w from b n h ∙ sym (turns-other w b to from n from n (omega arith) h (λ x. d (sym (x .0)))) in
+        rw (steps n (omega arith), q)
 
 above-max : (i x y : ℕ) → i < max x y → (i < x) ⊎ (i < y)
 above-max i x y g = decided (at-most (suc i) x)

@@ -4,7 +4,7 @@ use Prim.Native.Nat.{ℕ, zero, suc, _+_, _*_, _%_, max}
 use mathlib.Core.Bool.{Bool, true, false, cond, _&&_, _||_, not}
 use mathlib.Core.List.{List}
 use lib.Dec.{ltb, leb, eqb}
-use lib.ListN.{getD, set}
+use lib.ListN.{getD, set, replicate}
 use Rattle.checker.specs.Turns.{turns}
 use Rattle.checker.specs.Recording.{Op, kind}
 use Rattle.checker.specs.Completion.{bit}
@@ -48,6 +48,17 @@ joinCell w to from c b = set b (to * w + c) (max (cell w b to c) (cell w b from 
 
 unfoldable pub joinRow : ℕ → ℕ → ℕ → List ℕ → List ℕ
 joinRow w to from b = turns w (joinCell w to from) b
+
+-- the cells of a row by themselves
+unfoldable pub rowOf : ℕ → ℕ → List ℕ → List ℕ
+rowOf w from b = turns w (λ c row. set row c (cell w b from c)) (replicate w 0)
+
+-- what such a row knows is known to row `to` as well
+abbrev pub joinWithCell : ℕ → ℕ → List ℕ → ℕ → List ℕ → List ℕ
+joinWithCell w to row c b = set b (to * w + c) (max (cell w b to c) (getD row c 0))
+
+unfoldable pub joinWith : ℕ → ℕ → List ℕ → List ℕ → List ℕ
+joinWith w to row b = turns w (joinWithCell w to row) b
 
 -- order over an act of a task: its next act knows what the heard row knows, and passes it on
 unfoldable pub flow : ℕ → ℕ → ℕ → ℕ → List ℕ → List ℕ

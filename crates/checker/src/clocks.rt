@@ -6,6 +6,7 @@ use crate::kinds::LOST;
 use crate::masks::Masks;
 use crate::masks::bit_of;
 use crate::numbers::Task;
+use crate::refusals::both;
 use crate::rows::heard_by;
 use crate::rows::heard_row;
 use crate::rows::told_by;
@@ -115,15 +116,15 @@ pub(crate) fn advance_clocks(
     act(fullclocks, kind, task, on, number);
 }
 
-// Whether task u's latest conflicting access is not known to the acting task.
+// Whether task u's latest conflicting access is not known to the acting task. Nothing foresees which task acts, so no branch is taken on it.
 fn apart(cells: &[u32; 1536], last: &[u32; 2048], kind: u8, task: u32, on: u32, u: u32) -> bool
     requires { ⌜ (task < 16) × (on < 64) × (u < 16) ⌝ }
     ensures { λ r. ⌜ r ≡ clockApart (now (cells .entry)) (now (last .entry)) kind task on u ⌝ }
 {
-    if u == task {
-        return false;
-    }
-    cells[task as usize * 16 + u as usize] < latest_number(last, kind, on, u)
+    both(
+        u != task,
+        cells[task as usize * 16 + u as usize] < latest_number(last, kind, on, u),
+    )
 }
 
 fn mask(cells: &[u32; 1536], last: &[u32; 2048], kind: u8, task: u32, on: u32) -> u16

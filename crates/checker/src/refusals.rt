@@ -38,7 +38,7 @@ fn either(a: bool, b: bool) -> bool
     if a { true } else { b }
 }
 
-fn both(a: bool, b: bool) -> bool
+pub(crate) fn both(a: bool, b: bool) -> bool
     ensures { λ r. ⌜ r ≡ (a && b) ⌝ }
 {
     if a { b } else { false }

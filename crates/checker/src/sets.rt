@@ -10,6 +10,7 @@ use crate::masks::Masks;
 use crate::masks::bit_of;
 use crate::numbers::Task;
 use crate::numbers::Variable;
+use crate::refusals::both;
 use crate::rows::heard_by;
 use crate::rows::heard_row;
 use crate::rows::told_by;
@@ -18,7 +19,7 @@ ghost use mathlib.Core.Path.{_≡_};
 ghost use mathlib.Core.Bool.{false};
 ghost use lib.Dec.{eqb};
 ghost use Prim.Native.Nat.{_<_, max};
-ghost use Rattle.checker.specs.Tables.{joinRow, flow, gather, spread, mix};
+ghost use Rattle.checker.specs.Tables.{rowOf, joinWith, joinRow, flow, gather, spread, mix};
 ghost use Rattle.checker.specs.Reckonings.{clearColumn, setOwn, setAct, setsArrived, setsFull, setApart, setMask, setMasks};
 ghost use Rattle.checker.specs.Acceptance.{Fitting};
 
@@ -43,6 +44,45 @@ fn join_row(cells: &mut [u8; 196608], to: usize, from: usize)
     }
 }
 
+// A row by itself.
+fn row_of(cells: &[u8; 196608], from: usize) -> [u8; 2048]
+    requires { ⌜ from < 96 ⌝ }
+    ensures { λ r. ⌜ r ≡ rowOf 2048 from (now (cells .entry)) ⌝ }
+{
+    let mut row = [0u8; 2048];
+    let mut c = 0;
+    while c < 2048 {
+        row[c] = cells[from * 2048 + c];
+        c += 1;
+    }
+    row
+}
+
+// What a row that stands by itself knows is known to row `to` as well.
+fn join_with(cells: &mut [u8; 196608], to: usize, row: &[u8; 2048])
+    requires { ⌜ to < 96 ⌝ }
+    ensures { λ _. ⌜ now (cells .exit) ≡ joinWith 2048 to (now (row .entry)) (now (cells .entry)) ⌝ }
+{
+    let mut c = 0;
+    while c < 2048 {
+        cells[to * 2048 + c] = greater(cells[to * 2048 + c], row[c]);
+        c += 1;
+    }
+}
+
+// `join_row` by way of a copy. In a loop over rows the compiler cannot tell that the two rows never overlap, and would take them byte by
+// byte; of a copy it can.
+fn join_copied(cells: &mut [u8; 196608], to: usize, from: usize)
+    requires { ⌜ (to < 96) × (from < 96) ⌝ }
+    ensures { λ _. ⌜ now (cells .exit) ≡ joinRow 2048 to from (now (cells .entry)) ⌝ }
+{
+    if to == from {
+        return;
+    }
+    let row = row_of(cells, from);
+    join_with(cells, to, &row);
+}
+
 // Order over an act: the task's next act knows what the heard row knows, and passes it on.
 fn flow(cells: &mut [u8; 196608], heard: usize, told: usize, task: usize)
     requires { ⌜ (heard < 96) × (told < 96) × (task < 16) ⌝ }
@@ -59,7 +99,7 @@ fn gather(cells: &mut [u8; 196608], mask: u32)
 {
     let mut r = 0;
     while r < 96 {
-        join_row(cells, 32, heard_by(mask, r));
+        join_copied(cells, 32, heard_by(mask, r));
         r += 1;
     }
 }
@@ -70,7 +110,7 @@ fn spread(cells: &mut [u8; 196608], mask: u32)
 {
     let mut r = 0;
     while r < 96 {
-        join_row(cells, told_by(mask, r), 32);
+        join_copied(cells, told_by(mask, r), 32);
         r += 1;
     }
 }
@@ -146,13 +186,9 @@ fn apart(cells: &[u8; 196608], last: &[u32; 2048], kind: u8, task: u32, on: u32,
     requires { ⌜ (task < 16) × (on < 64) × (u < 16) ⌝ }
     ensures { λ r. ⌜ r ≡ setApart (now (cells .entry)) (now (last .entry)) kind task on u ⌝ }
 {
-    if u == task {
-        return false;
-    }
-    if latest_number(last, kind, on, u) == 0 {
-        return false;
-    }
-    cells[task as usize * 2048 + latest_slot(last, kind, on, u)] == 0
+    let kept = 0 < latest_number(last, kind, on, u);
+    let heard = cells[task as usize * 2048 + latest_slot(last, kind, on, u)];
+    both(u != task, both(kept, heard == 0))
 }
 
 fn mask(cells: &[u8; 196608], last: &[u32; 2048], kind: u8, task: u32, on: u32) -> u16

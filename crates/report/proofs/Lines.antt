@@ -1,14 +1,16 @@
 -- The lines of a text, one by one and counted. Assumes nothing.
-use mathlib.Core.Path.{_≡_, refl, ap, ap₂, _∙_}
+use mathlib.Core.Path.{_≡_, refl, sym, ap, ap₂, _∙_}
 use mathlib.Core.Bool.{Bool, true, false, cond}
 use mathlib.Core.List.{List, [], _∷_, _++_}
-use Prim.Native.Nat.{ℕ, zero, suc, _+_, _≤_, _<_}
+use Prim.Native.Nat.{ℕ, zero, suc, _+_, _-_, _≤_, _<_}
+use native.Mathlib.Numerals.{add-one}
 use native.Mathlib.Omega.{arith}
 use lib.Dec.{eqb}
-use lib.ListN.{length, take, drop, length-drop, drop-of-length-le}
-use lib.Seq.{drop-drop, take-length}
+use lib.ListN.{length, getD, take, drop, length-take, length-drop, drop-of-length-le}
+use lib.Seq.{drop-drop, drop-cons, take-length}
+use borrow.Author.Tests.{eq-eqb, ne-eqb}
 use Rattle.report.specs.Bytes.{indexOf}
-use Rattle.report.specs.Lines.{lf, begunBy, linesOf, lineEnd}
+use Rattle.report.specs.Lines.{lf, begunBy, linesOf, lineEnd, lfBit, lfCount}
 use Rattle.report.proofs.Bytes.{Without, before-seam, after-seam}
 
 pub no-lines : linesOf [] ≡ []
@@ -68,3 +70,68 @@ lines-fit (b ∷ s) = picked (eqb b lf) (linesOf s) (lines-fit s)
 
 pub none-left : (s : List ℕ) (at : ℕ) → length s ≤ at → length (linesOf (drop at s)) ≡ 0
 none-left s at h = rw (drop-of-length-le s h, no-lines)
+
+-- Lines by their LFs
+
+pub lf-none : lfCount [] ≡ 0
+unfolding lfCount
+lf-none = refl
+
+-- from place i on: the byte there counts, or the list is at its end
+pub lf-at : (s : List ℕ) (i : ℕ) → i < length s → lfCount (drop i s) ≡ lfBit (getD s i 0) + lfCount (drop (i + 1) s)
+unfolding lfCount
+lf-at s i h = rw (add-one i, drop-cons s i 0 h)
+
+pub lf-ended : (s : List ℕ) (i : ℕ) → length s ≤ i → lfCount (drop i s) ≡ 0
+lf-ended s i h = rw (drop-of-length-le s h, lf-none)
+
+lf-parts : (k : ℕ) (s : List ℕ) → lfCount s ≡ lfCount (take k s) + lfCount (drop k s)
+unfolding lfCount
+lf-parts zero s = omega arith
+lf-parts (suc k) [] = refl
+lf-parts (suc k) (b ∷ s) = omega (arith, lf-parts k s)
+
+-- what stands from place i on, cut at place j
+pub lf-cut : (s : List ℕ) (i j : ℕ) → i ≤ j → lfCount (drop i s) ≡ lfCount (take (j - i) (drop i s)) + lfCount (drop j s)
+lf-cut s i j h =
+    let q : i + (j - i) ≡ j = omega arith in
+    lf-parts (j - i) (drop i s)
+    ∙ ap (λ (t : List ℕ). lfCount (take (j - i) (drop i s)) + lfCount t) (drop-drop (j - i) i s ∙ ap (λ (k : ℕ). drop k s) q)
+
+pub cut-fits : (s : List ℕ) (i j : ℕ) → length (take (j - i) (drop i s)) ≤ j - i
+cut-fits s i j = omega (arith, length-take (j - i) (drop i s))
+
+begun-length : (b : ℕ) (ls : List (List ℕ)) → 0 < length ls → length (begunBy b ls) ≡ length ls
+begun-length b [] h = absurd (omega arith)
+begun-length b (l ∷ ls) h = refl
+
+-- one byte more before a text that is not empty is a line more exactly where it is LF
+line-more : (b c : ℕ) (s : List ℕ) → length (linesOf (b ∷ (c ∷ s))) ≡ lfBit b + length (linesOf (c ∷ s))
+unfolding linesOf
+line-more b c s = picked (eqb b lf)
+  where
+    some : 0 < length (linesOf (c ∷ s))
+    some = rw (lines-from c s) (omega arith)
+
+    picked : (t : Bool) → length (cond t ([] ∷ linesOf (c ∷ s)) (begunBy b (linesOf (c ∷ s)))) ≡ cond t 1 0 + length (linesOf (c ∷ s))
+    picked true = omega arith
+    picked false = omega (arith, begun-length b (linesOf (c ∷ s)) some)
+
+-- the last byte is that of what follows the first
+last-later : (b c : ℕ) (s : List ℕ) → getD (b ∷ (c ∷ s)) (length (b ∷ (c ∷ s)) - 1) 0 ≡ getD (c ∷ s) (length (c ∷ s) - 1) 0
+last-later b c s =
+    let q : length (b ∷ (c ∷ s)) - 1 ≡ suc (length (c ∷ s) - 1) = omega arith in
+    ap (λ (k : ℕ). getD (b ∷ (c ∷ s)) k 0) q
+
+-- a text that ends with LF has a line for each, and any other that is not empty has one more
+pub lines-ended : (s : List ℕ) → 0 < length s → getD s (length s - 1) 0 ≡ lf → length (linesOf s) ≡ lfCount s
+unfolding linesOf lfCount
+lines-ended [] h e = absurd (omega arith)
+lines-ended (b ∷ []) h e = rw (eq-eqb b lf e)
+lines-ended (b ∷ (c ∷ s)) h e = line-more b c s ∙ ap (λ (n : ℕ). lfBit b + n) (lines-ended (c ∷ s) (omega arith) (sym (last-later b c s) ∙ e))
+
+pub lines-open : (s : List ℕ) → 0 < length s → (getD s (length s - 1) 0 ≡ lf → ⊥) → length (linesOf s) ≡ lfCount s + 1
+unfolding linesOf lfCount
+lines-open [] h d = absurd (omega arith)
+lines-open (b ∷ []) h d = rw (ne-eqb b lf d)
+lines-open (b ∷ (c ∷ s)) h d = line-more b c s ∙ omega (arith, lines-open (c ∷ s) (omega arith) (λ e. d (last-later b c s ∙ e)))

@@ -1,5 +1,5 @@
 -- The lines of a text ("Text and report").
-use Prim.Native.Nat.{ℕ}
+use Prim.Native.Nat.{ℕ, _+_}
 use mathlib.Core.Bool.{cond}
 use mathlib.Core.List.{List, [], _∷_}
 use lib.Dec.{eqb}
@@ -22,3 +22,11 @@ linesOf (b ∷ s) = cond (eqb b lf) ([] ∷ linesOf s) (begunBy b (linesOf s))
 -- where the first line ends: the index of the first LF, or the text's length
 abbrev pub lineEnd : List ℕ → ℕ
 lineEnd s = indexOf lf s
+
+-- how many LFs a text has
+abbrev pub lfBit : ℕ → ℕ
+lfBit b = cond (eqb b lf) 1 0
+
+unfoldable pub lfCount : List ℕ → ℕ
+lfCount [] = 0
+lfCount (b ∷ s) = lfBit b + lfCount s

@@ -3,9 +3,15 @@ ghost use mathlib.Core.Path.{_≡_};
 ghost use Prim.Native.Nat.{_+_, _≤_};
 ghost use lib.ListN.{length, drop};
 ghost use Rattle.report.specs.Bytes.{indexOf};
-ghost use Rattle.report.specs.Lines.{lineEnd, linesOf};
+ghost use Rattle.report.specs.Lines.{lineEnd, linesOf, lfBit, lfCount};
 
 const LF: u8 = 10;
+
+fn one_if_lf(b: u8) -> u8
+    ensures { λ r. ⌜ (r ≡ lfBit b) × (r ≤ 1) ⌝ }
+{
+    if b == LF { 1 } else { 0 }
+}
 
 // Where the first b stands, from a place on; the length where there is none.
 pub(crate) fn place_of(text: &[u8], from: usize, b: u8) -> usize
@@ -30,15 +36,43 @@ pub(crate) fn line_end(text: &[u8], from: usize) -> usize
     place_of(text, from, LF)
 }
 
-// How many lines a text has.
+// How many LFs a part has. A byte is enough for the count, so that the compiler takes sixteen of them at a time.
+fn lfs_in(part: &[u8]) -> u8
+    requires { ⌜ length (now part) ≤ 64 ⌝ }
+    ensures { λ r. ⌜ (r ≡ lfCount (now (part .entry))) × (r ≤ length (now (part .entry))) ⌝ }
+{
+    let mut n: u8 = 0;
+    let mut i = 0;
+    while i < part.len() {
+        n += one_if_lf(part[i]);
+        i += 1;
+    }
+    n
+}
+
+// How many LFs a text has.
+fn lfs(text: &[u8]) -> usize
+    ensures { λ r. ⌜ r ≡ lfCount (now (text .entry)) ⌝ }
+{
+    let mut n: usize = 0;
+    let mut i: usize = 0;
+    while 64 <= text.len() - i {
+        n += lfs_in(&text[i..i + 64]) as usize;
+        i += 64;
+    }
+    n + lfs_in(&text[i..]) as usize
+}
+
+// How many lines a text has: each LF ends one, and a rest after the last LF is one.
 pub(crate) fn line_count(text: &[u8]) -> usize
     ensures { λ r. ⌜ r ≡ length (linesOf (now (text .entry))) ⌝ }
 {
-    let mut n = 0;
-    let mut at = 0;
-    while at < text.len() {
-        at = line_end(text, at) + 1;
-        n += 1;
+    if text.len() == 0 {
+        return 0;
     }
-    n
+    let n = lfs(text);
+    if text[text.len() - 1] == LF {
+        return n;
+    }
+    n + 1
 }

@@ -17,7 +17,7 @@ loop-holds : tie.Need-loop-holds Inv-loop μ-loop
 loop-holds c = (search needs, no-turn)
 
 loop-again : tie.Need-loop-again Inv-loop μ-loop
-loop-again c = (search needs, one-turn (c .before .before .before .before .loop .inv .1) (rw (← c .before .heard-by .ensures .0) (c .join-row .ensures)))
+loop-again c = (search needs, one-turn (c .before .before .before .before .loop .inv .1) (rw (← c .before .heard-by .ensures .0) (c .join-copied .ensures)))
 
 returns : tie.Need-returns Inv-loop μ-loop
 unfolding gather

@@ -1,35 +1,35 @@
--- `report::scan::line_count`: the lines counted and those that are left are all lines. Assumes nothing.
-use mathlib.Core.Path.{_≡_}
-use Prim.Native.Nat.{_+_, _-_, _≤_}
+-- `report::scan::line_count`: each LF ends a line, and a rest after the last LF is one more. Assumes nothing.
+use mathlib.Core.Path.{_≡_, sym, _∙_}
+use Prim.Native.Nat.{_+_}
 use native.Mathlib.Omega.{arith}
-use lib.ListN.{length, drop}
+use lib.ListN.{length}
 use borrow.Author.Needs.{needs}
 use Rattle.report.specs.Lines.{linesOf}
-use Rattle.report.proofs.Lines.{lines-at, none-left}
+use Rattle.report.proofs.Lines.{lines-fit, lines-ended, lines-open}
 use Rattle.report.proofs.scan.line_count.Statement.{statement}
 use Rattle.report.proofs.scan.line_count.Tie as tie
 
-abbrev Inv-loop : tie.InvT-loop
-Inv-loop text n₀ at₀ n at = (n ≤ at) × (n + length (linesOf (drop at text)) ≡ length (linesOf text))
+returns : tie.Need-returns
+returns c = omega (arith, lines-fit (c .before .before .args .text .now))
 
-abbrev μ-loop : tie.MeasureT-loop
-μ-loop text n₀ at₀ n at = length text - at
+returns-2 : tie.Need-returns-2
+returns-2 c =
+    let n = c .before .before in
+    n .lfs .ensures ∙ sym (lines-ended (n .before .before .before .args .text .now) (omega arith) (c .if2 .taken))
 
-loop-holds : tie.Need-loop-holds Inv-loop μ-loop
-loop-holds c = (search needs, search needs)
+-- the lines are the LFs and one more
+one-more : (c : tie.Else2) → let n = c .before .before in n .lfs .result + 1 ≡ length (linesOf (n .before .before .before .args .text .now))
+one-more c =
+    let n = c .before .before in
+    omega (arith, n .lfs .ensures, lines-open (n .before .before .before .args .text .now) (omega arith) (c .if2 .left))
 
-loop-again : tie.Need-loop-again Inv-loop μ-loop
-loop-again c =
-    let b = c .before .before in (
-      omega (arith, c .line-end .ensures),
-      omega (arith, b .loop .inv .1, lines-at (b .before .before .args .text .now) (b .loop .at) (c .line-end .result) (c .before .loop-test .taken) (c .line-end .ensures .0)),
-    )
+add-result : tie.Need-add-result
+add-result c = omega (arith, one-more c, lines-fit (c .before .before .before .before .before .args .text .now))
 
-returns : tie.Need-returns Inv-loop μ-loop
-returns c = omega (arith, c .before .loop .inv .1, none-left (c .before .before .before .args .text .now) (c .before .loop .at) (c .loop-test .left))
+returns-3 : tie.Need-returns-3
+returns-3 c = one-more c
 
 pub line-count-spec : {M : Type 1} → statement M
 line-count-spec =
     tie.close (tie.spec
-    Inv-loop μ-loop loop-holds (λ c κs. search needs) (λ c. search needs) (λ c. search needs) (λ c. search needs)
-    loop-again returns)
+    returns (λ c κs. search needs) (λ c. search needs) (λ c. search needs) returns-2 add-result returns-3)

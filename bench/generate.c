@@ -1,0 +1,81 @@
+/* Writes a recording to standard output: generate SEED RECORDS TASKS [NOISE]
+ *
+ * The same words give the same bytes. Half of the records are accesses, one in fifty is a loss mark, the rest are hand-overs; tasks are
+ * started early and some are joined late. NOISE lines in 1,000 (none if not given) are bent: wrong numbers, words, bytes or length. */
+#include <stdint.h>
+#include <stdio.h>
+#include <stdlib.h>
+
+static uint64_t seed;
+
+/* splitmix64 */
+static uint64_t draw(void) {
+    uint64_t z = seed += 0x9e3779b97f4a7c15u;
+    z = (z ^ z >> 30) * 0xbf58476d1ce4e5b9u;
+    z = (z ^ z >> 27) * 0x94d049bb133111ebu;
+    return z ^ z >> 31;
+}
+
+static unsigned below(unsigned n) { return (unsigned)(draw() % n); }
+
+static unsigned live[16], lives = 1, started = 1;
+
+static unsigned any_live(void) { return live[below(lives)]; }
+
+static void act(const char *word, unsigned task, unsigned on) { printf("op=%s task=%u on=%u\n", word, task, on); }
+
+static void mark(void) {
+    unsigned mask = 1u << any_live();
+    for (unsigned i = 0; i < lives; i++)
+        if (below(4) == 0) mask |= 1u << live[i];
+    printf("op=lost tasks=%u\n", mask);
+}
+
+static void start(void) {
+    act("start", any_live(), started);
+    live[lives++] = started++;
+}
+
+static void join(void) {
+    unsigned at = 1 + below(lives - 1), ended = live[at];
+    live[at] = live[--lives];
+    act("join", any_live(), ended);
+}
+
+static void hand_over(void) {
+    static const char *const words[] = {"take", "give", "look", "set"};
+    act(words[below(4)], any_live(), below(32));
+}
+
+static void bent(void) {
+    static const char *const lines[] = {
+        "op=read task=16 on=1", "op=write task=0 on=64",     "op=take task=0 on=32",     "op=set task=0 on=99999", "op=lost tasks=0",
+        "op=lost tasks=65536",  "op=lost tasks=65535",       "op=start task=0 on=0",     "op=join task=0 on=0",    "op=join task=0 on=15",
+        "op=start task=0 on=16", "op=read task=00 on=1",     "op=read task=0 on=01",     "op=read task=0 on=",     "op=read task= on=1",
+        "op=read  task=0 on=1", "op=read task=0 on=1 ",      "op=read task=0 on=100000", "",                       "op=",
+        "op=reads task=0 on=1", "op=rea task=0 on=1",        "op=lost task=0 on=1",      "op=read tasks=1",        "op=read task=0 on=1\r",
+        "op=read task=15 on=1", "xp=read task=0 on=1",       "op=write",                 "op=lost tasks=1 ",       "op=give task=0 on=0x1",
+        "op=read task=0 on=-1", "op=look task=99999 on=99999"};
+    if (below(8) == 0) {
+        for (unsigned i = below(90); i > 0; i--) putchar((int)below(256));
+        putchar('\n');
+    } else {
+        puts(lines[below(sizeof lines / sizeof *lines)]);
+    }
+}
+
+int main(int argc, char **argv) {
+    if (argc < 4) return fprintf(stderr, "usage: generate SEED RECORDS TASKS [NOISE]\n"), 2;
+    seed = strtoull(argv[1], 0, 10);
+    unsigned records = (unsigned)atoi(argv[2]), tasks = (unsigned)atoi(argv[3]), noise = argc > 4 ? (unsigned)atoi(argv[4]) : 0;
+    if (tasks < 1 || tasks > 16) return fprintf(stderr, "generate: 1 to 16 tasks\n"), 2;
+    for (unsigned i = 0; i < records; i++) {
+        if (noise && below(1000) < noise) bent();
+        if (started < tasks && below(8) == 0) start();
+        else if (lives > tasks / 2 + 1 && i > records - records / 10 && below(64) == 0) join();
+        else if (below(50) == 0) mark();
+        else if (below(100) < 51) act(below(5) < 3 ? "read" : "write", any_live(), below(64));
+        else hand_over();
+    }
+    return 0;
+}
