@@ -8,3 +8,4 @@ pub mod Digits
 pub mod Lengths
 pub mod ReportExamples
 pub mod Reporting
+pub mod TextDemands

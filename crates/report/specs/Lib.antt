@@ -5,3 +5,4 @@ pub mod Printing
 pub mod Wrote
 pub mod ReportLines
 pub mod Report
+pub mod TextDemands
