@@ -1,10 +1,10 @@
 pub mod Bytes
 pub mod Lines
+pub mod Digits
 pub mod Numerals
 pub mod LineForm
 pub mod RoundTrip
 pub mod Wrote
-pub mod Digits
 pub mod Lengths
 pub mod ReportExamples
 pub mod Reporting

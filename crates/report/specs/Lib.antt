@@ -1,7 +1,7 @@
 pub mod Bytes
 pub mod Lines
-pub mod LineForm
 pub mod Printing
+pub mod LineForm
 pub mod Wrote
 pub mod ReportLines
 pub mod Report
