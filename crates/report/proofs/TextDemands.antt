@@ -1,5 +1,5 @@
 -- Demand 1 for texts, from the definitions. Assumes nothing.
-use mathlib.Core.Path.{_≡_, refl, sym, ap, subst, _∙_}
+use mathlib.Core.Path.{_≡_, refl, sym, ap, ap₂, subst, _∙_}
 use mathlib.Core.Bool.{Bool, true, false, cond}
 use mathlib.Core.List.{List, [], _∷_, _++_}
 use Prim.Native.Nat.{ℕ, zero, suc, _+_, _*_, _/_, _^_, _≤_, _<_, zero-le}
@@ -23,9 +23,9 @@ use Rattle.checker.specs.Feeding.{Says, says-clear, says-race, says-doubt, fedT
 use Rattle.report.specs.declared.parsing.Parsed.{Parsed}
 use Rattle.report.specs.Lines.{linesOf}
 use Rattle.report.specs.LineForm.{parseOf}
-use Rattle.report.specs.ReportLines.{accessLine, reportLine}
+use Rattle.report.specs.ReportLines.{accessLine, refusedLine, reportLine}
 use Rattle.report.specs.Report.{saidFor, stateAfter, reportFrom, reportOf, tooSmall}
-use Rattle.report.specs.TextDemands.{TextForm, rowOf, wordFor, LineGot, no-record, refused, judged, taken, Answered, no-lines, a-line, TextHandled, refused-whole, reported, TextDemand1, Tells, tells-nothing, tells-no-record, tells-answer, TextFed}
+use Rattle.report.specs.TextDemands.{TextForm, rowOf, wordFor, LineGot, no-record, refused, judged, taken, Answered, no-lines, a-line, TextHandled, refused-whole, reported, TextDemand1, OneReport, Tells, tells-nothing, tells-no-record, tells-answer, TextFed}
 use Rattle.report.proofs.Lines.{lines-fit}
 use Rattle.report.proofs.RoundTrip.{text-taken, only-text, only-sayable}
 use Rattle.report.proofs.Lengths.{refused-line-fits, access-line-fits}
@@ -147,6 +147,53 @@ text-demand1 text memory h = decided (tooSmall text (length memory)) refl
         let written : sets memory 0 (reportOf text) ≡ reportOf text ++ drop (length (reportOf text)) memory =
         sets-eq (reportOf text) memory 0 (omega arith) ∙ ap (λ (k : ℕ). reportOf text ++ drop k memory) (zero-add (length (reportOf text))) in
         reported room (text-answered text) fits (rw e) (rw e written)
+
+-- No other report would do
+
+-- a record to which a row applies is refused with that row's number
+row-refuses : (s : State) (r : Record) {k : ℕ} → rowOf s r ≡ k → 1 ≤ k → stepOf s r ≡ record { state = s; answer = Refused k }
+unfolding stepOf
+row-refuses s r {k} z l = decided (refusalIn (s .control) r) refl (sameMasks (masksOfClocks s r) (masksOfSets s r)) refl
+  where
+    decided : (m : ℕ) → refusalIn (s .control) r ≡ m → (b : Bool) → sameMasks (masksOfClocks s r) (masksOfSets s r) ≡ b →
+        stepOf s r ≡ record { state = s; answer = Refused k }
+    decided (suc m) e b q = let y : suc m ≡ k = sym (rw e) ∙ z in rw (e, y)
+    decided zero e true q = absurd (let y : 0 ≡ k = sym (rw (e, q)) ∙ z in omega arith)
+    decided zero e false q = let y : 10 ≡ k = sym (rw (e, q)) ∙ z in rw (e, q, y)
+
+-- what a line got is what the definitions of the report say
+record Fixed (n : ℕ) (s : State) (line : List ℕ) (s′ : State) (said : List ℕ) : Type 0 where
+  state : s′ ≡ stateAfter s (parseOf line)
+  piece : said ≡ saidFor n s (parseOf line)
+
+module _ {n : ℕ} {s : State} {line : List ℕ} where
+  form-fixed : {r : Record} {s′ : State} {said : List ℕ} → TextForm line r → s′ ≡ (stepOf s r) .state → said ≡ reportLine n r ((stepOf s r) .answer) → Fixed n s line s′ said
+  form-fixed {r} f a b =
+      let e : parseOf line ≡ Parsed.Record r = ap parseOf (f .is-text) ∙ text-taken r (f .sayable) in
+      record { state = rw e a; piece = rw e b }
+
+  got-fixed : {s′ : State} {said : List ℕ} → LineGot n s line s′ said → Fixed n s line s′ said
+  got-fixed (no-record f) = by-parse (parseOf line) refl
+    where
+      by-parse : (p : Parsed) → parseOf line ≡ p → Fixed n s line s (refusedLine n 1)
+      by-parse Parsed.Nothing e = record { state = rw e; piece = rw e }
+      by-parse (Parsed.Record r) e = absurd (f r (parsed-form line r e))
+  got-fixed (refused {r = r} f z l h) =
+      let e = row-refuses s r z l in
+      form-fixed f (ap (λ (x : Stepped). x .state) (sym e)) (ap (λ (x : Stepped). reportLine n r (x .answer)) (sym e))
+  got-fixed (judged {r = r} f z a x) = form-fixed f refl (verdict-line n r x)
+  got-fixed (taken {r = r} f z a x) = form-fixed f refl (ap (reportLine n r) (sym x))
+
+answered-fixed : {n : ℕ} {s : State} {lines : List (List ℕ)} {report : List ℕ} → Answered n s lines report → report ≡ reportFrom n s lines
+unfolding reportFrom
+answered-fixed no-lines = refl
+answered-fixed {n} (a-line {lines = lines} g a) =
+    let f = got-fixed g in
+    ap₂ (λ (x : List ℕ) (y : List ℕ). x ++ y) (f .piece) (answered-fixed a ∙ ap (λ (x : State). reportFrom (suc n) x lines) (f .state))
+
+pub one-report : OneReport
+unfolding reportOf
+one-report text report a = answered-fixed a
 
 -- The answers are those of feeding
 

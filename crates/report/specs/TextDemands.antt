@@ -76,6 +76,10 @@ pub data TextHandled (text memory : List ℕ) : Type 0 where
 abbrev pub TextDemand1 : Type 0
 TextDemand1 = (text memory : List ℕ) → length text < 2 ^ 64 → TextHandled text memory
 
+-- and no other report would do: what each line gets is fixed
+abbrev pub OneReport : Type 0
+OneReport = (text report : List ℕ) → Answered 1 freshState (linesOf text) report → report ≡ reportOf text
+
 -- The answers in a report are those of feeding the records that the lines say, from a fresh state: what crates/checker proves of `fed`,
 -- demands 2 and 3 among it, holds of each report
 
