@@ -1,7 +1,7 @@
 -- The history tells each task's latest conflicting access: its number is one more than the place of the task's final access that
 -- conflicts, and 0 where there is none. Assumes nothing.
 use mathlib.Core.Path.{_≡_, refl, sym, _∙_, ap, subst}
-use mathlib.Core.Bool.{Bool, true, false, cond, _&&_, _||_}
+use mathlib.Core.Bool.{Bool, true, false, cond}
 use mathlib.Core.Logic.{_↔_, _⊎_, inl, inr, _≢_}
 use mathlib.Core.List.{List, [], _∷_, _++_}
 use Prim.Native.Nat.{ℕ, zero, suc, _+_, _≤_, _<_}
@@ -71,10 +71,6 @@ kind-write look e = absurd (omega arith)
 kind-write Op.set e = absurd (omega arith)
 kind-write start e = absurd (omega arith)
 kind-write join e = absurd (omega arith)
-
-second : (a : Bool) → T (a || true)
-second true = tt
-second false = tt
 
 module _ {p : Op} {t v u : ℕ} (ap : T (isAccess p)) (hv : v < 64) (hu : u < 16) where
   slot-conflict : u ≢ t → {s : ℕ} {e : Event} → Conflicting p v u s → InSlot s e → ActsIn u e × Conflict e (act p t v)

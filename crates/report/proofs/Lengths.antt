@@ -1,41 +1,25 @@
 -- How long the lines of the report are: none is longer than 64 bytes. Assumes nothing.
-use mathlib.Core.Path.{_≡_, refl}
+use mathlib.Core.Path.{_≡_}
 use mathlib.Core.List.{List}
-use Prim.Native.Nat.{ℕ, zero, suc, _+_, _*_, _/_, _^_, _≤_, _<_}
-use mathlib.Core.Bool.{Bool, true, false}
-use native.Mathlib.Nat.{pow-suc}
+use Prim.Native.Nat.{ℕ, _+_, _^_, _≤_, _<_}
 use native.Mathlib.Omega.{arith}
-use lib.Dec.{ltb}
 use lib.ListN.{length, length-append}
-use borrow.Author.Tests.{ltb-true, ltb-false}
 use Rattle.checker.specs.declared.record.Record.{Record}
 use Rattle.checker.specs.declared.answer.Answer.{Answer}
 use Rattle.checker.specs.declared.answer.Answer.the-variants.{Refused, Accepted, Clear, Race, Doubt}
 use Rattle.checker.specs.Feeding.{refusalNumber}
-use Rattle.report.specs.Printing.{bytes, decimal, fiveDigits}
+use Rattle.report.specs.Printing.{bytes, digitsOf, decimal}
 use Rattle.report.specs.ReportLines.{accessPart, accessLine, refusedLine, reportLine}
-use Rattle.report.proofs.Digits.{length-small, length-more}
-
--- a number below 10 ^ k has at most k digits, for each k from 1 on
-pub decimal-fits : (k n : ℕ) → n < 10 ^ suc k → length (decimal n) ≤ suc k
-decimal-fits zero n h = omega (arith, length-small n h)
-decimal-fits (suc k) n h = go (ltb n 10) refl (decimal-fits k (n / 10))
-  where
-    go : (b : Bool) → ltb n 10 ≡ b → (n / 10 < 10 ^ suc k → length (decimal (n / 10)) ≤ suc k) → length (decimal n) ≤ suc (suc k)
-    go true e less = omega (arith, length-small n (ltb-true n 10 e))
-    go false e less =
-        let p : 10 ^ suc (suc k) ≡ 10 ^ suc k * 10 = pow-suc 10 (suc k) in
-        let l : n / 10 < 10 ^ suc k = omega arith in
-        omega (arith, length-more n (ltb-false n 10 e), less l)
+use Rattle.report.proofs.Digits.{decimal-fits}
 
 -- the lengths of the lines: the words and the numbers of five digits are of fixed length
 pub length-access-part : (number task variable : ℕ) → length (accessPart number task variable) ≡ 20 + length (decimal task) + length (decimal variable)
-unfolding accessPart fiveDigits
+unfolding accessPart digitsOf
 length-access-part number task variable = simp length-append (omega arith)
 
 pub length-access-line : (number task variable : ℕ) (verdict : List ℕ) (partner : ℕ)
     → length (accessLine number task variable verdict partner) ≡ 41 + length (decimal task) + length (decimal variable) + length verdict
-unfolding accessLine fiveDigits
+unfolding accessLine digitsOf
 length-access-line number task variable verdict partner = simp length-append (omega (arith, length-access-part number task variable))
 
 pub length-refused-line : (line number : ℕ) → length (refusedLine line number) ≡ 15 + length (decimal line) + length (decimal number)

@@ -1,12 +1,13 @@
 pub mod Bytes
 pub mod Lines
+pub mod Digits
 pub mod Numerals
 pub mod LineForm
 pub mod RoundTrip
 pub mod Wrote
-pub mod Digits
 pub mod Lengths
 pub mod ReportExamples
 pub mod Reporting
 pub mod Pieces
 pub mod Held
+pub mod TextDemands

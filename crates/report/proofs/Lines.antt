@@ -22,7 +22,7 @@ pub lines-from : (b : ℕ) (s : List ℕ) → linesOf (b ∷ s) ≡ take (lineEn
 unfolding linesOf indexOf
 lines-from b [] = picked (eqb b lf)
   where
-    picked : (t : Bool) → cond t ([] ∷ []) ((b ∷ []) ∷ []) ≡ take (cond t zero 1) (b ∷ []) ∷ linesOf (drop (suc (cond t zero 1)) (b ∷ []))
+    picked : (t : Bool) → cond t ([] ∷ []) (begunBy b []) ≡ take (cond t zero 1) (b ∷ []) ∷ linesOf (drop (suc (cond t zero 1)) (b ∷ []))
     picked true = refl
     picked false = refl
 lines-from b (c ∷ s) = picked (eqb b lf) (lines-from c s)

@@ -2,17 +2,19 @@
 use mathlib.Core.Path.{_≡_, refl, sym, ap, ap₂, _∙_}
 use mathlib.Core.Bool.{Bool, true, false, cond, not, _&&_, _||_}
 use mathlib.Core.List.{List, [], _∷_}
-use Prim.Native.Nat.{ℕ, zero, suc, _+_, _*_, _-_, _/_, _%_, _^_, _≤_, _<_}
-use native.Mathlib.Nat.{pow-suc, pow-le-pow-right, one-le-pow, div-one, div-div-eq-div-mul, div-eq-of-lt, div-lt-iff-lt-mul}
+use Prim.Native.Nat.{ℕ, zero, suc, _+_, _*_, _-_, _/_, _^_, _≤_, _<_}
+use native.Mathlib.Nat.{pow-suc, pow-le-pow-right, div-one, div-eq-of-lt}
 use native.Mathlib.Numerals.{add-one}
 use native.Mathlib.Omega.{arith}
 use lib.Dec.{leb, ltb, eqb}
 use lib.ListN.{length, getD, drop, drop-of-length-le}
 use lib.Seq.{drop-cons}
-use borrow.Author.Tests.{leb-true, leb-false, eqb-true, le-leb, lt-leb, lt-ltb, le-ltb, eq-eqb, ne-eqb, eqb-false, not-true}
+use borrow.Author.Tests.{leb-true, eqb-true, le-leb, lt-leb, lt-ltb, le-ltb, eq-eqb, ne-eqb, eqb-false, not-true}
 use Rattle.report.specs.declared.decimal.Number.{Number}
-use Rattle.report.specs.LineForm.{digits, isDigit, isPlain, digitsFrom, decimalOf, digitsOf, width, numeral}
+use Rattle.report.specs.LineForm.{digits, isDigit, isPlain, digitsFrom, decimalOf}
+use Rattle.report.specs.Printing.{lastDigit, digitsOf, decimal}
 use Rattle.report.proofs.Bytes.{and-true}
+use Rattle.report.proofs.Digits.{divide-more, none-above, some-above, digits-long, fills, width-of}
 
 -- Digits
 
@@ -82,24 +84,6 @@ module _ (s : List ℕ) where
   unfolding decimalOf
   decimal-other e = rw e
 
--- Division by powers of ten
-
-power-positive : (k : ℕ) → 0 < 10 ^ k
-power-positive k = one-le-pow k 10 (omega arith)
-
-divide-more : (n k : ℕ) → n / 10 ^ suc k ≡ n / 10 ^ k / 10
-divide-more n k = rw (pow-suc 10 k) (sym (div-div-eq-div-mul n (10 ^ k) 10))
-
-none-above : (n k : ℕ) → n / 10 ^ k ≡ 0 → n < 10 ^ k
-none-above n k e = let h : n < 1 * 10 ^ k = div-lt-iff-lt-mul {y = 1} (power-positive k) .0 (omega arith) in omega arith
-
-some-above : (n k : ℕ) → 0 < n / 10 ^ k → 10 ^ k ≤ n
-some-above n k h = picked (leb (10 ^ k) n) refl
-  where
-    picked : (t : Bool) → leb (10 ^ k) n ≡ t → 10 ^ k ≤ n
-    picked true e = leb-true (10 ^ k) n e
-    picked false e = absurd (omega (arith, div-eq-of-lt (leb-false (10 ^ k) n e)))
-
 -- Reading and printing
 
 -- a number that a test lets through
@@ -125,7 +109,7 @@ read-printed v n (b ∷ s) e =
     let (d, f) = let-through (isDigit b) (digitsFrom (v * 10 + (b - 48)) s) n e in
     let g = a-digit b d in
     let h : n / 10 ^ length s ≡ v * 10 + (b - 48) = read-above (v * 10 + (b - 48)) n s f in
-    let q : b ≡ 48 + n / 10 ^ length s % 10 = rw h (omega arith) in
+    let q : b ≡ lastDigit (n / 10 ^ length s) = rw h (omega arith) in
     ap₂ (λ (x : ℕ) (l : List ℕ). x ∷ l) q (read-printed (v * 10 + (b - 48)) n s f)
 
 is-digit : (b : ℕ) → 48 ≤ b → b ≤ 57 → isDigit b ≡ true
@@ -136,85 +120,34 @@ printed-read : (v n k : ℕ) → v ≡ n / 10 ^ k → digitsFrom v (digitsOf k n
 unfolding digitsFrom digitsOf
 printed-read v n zero e = ap Number.Value (e ∙ div-one n)
 printed-read v n (suc k) e =
-    let q : v * 10 + (48 + n / 10 ^ k % 10 - 48) ≡ n / 10 ^ k = omega (arith, divide-more n k) in
-    rw (is-digit (48 + n / 10 ^ k % 10) (omega arith) (omega arith)) (printed-read (v * 10 + (48 + n / 10 ^ k % 10 - 48)) n k q)
+    let q : v * 10 + (lastDigit (n / 10 ^ k) - 48) ≡ n / 10 ^ k = omega (arith, divide-more n k) in
+    rw (is-digit (lastDigit (n / 10 ^ k)) (omega arith) (omega arith)) (printed-read (v * 10 + (lastDigit (n / 10 ^ k) - 48)) n k q)
 
-pub printed-long : (k n : ℕ) → length (digitsOf k n) ≡ k
-unfolding digitsOf
-printed-long zero n = refl
-printed-long (suc k) n = ap suc (printed-long k n)
-
--- How many digits a number has
-
-width-of : (m w n : ℕ) → w ≤ m → (0 < w → 10 ^ w ≤ n) → n < 10 ^ suc w → width m n ≡ suc w
-unfolding width
-width-of zero w n h l u = omega arith
-width-of (suc m) w n h l u = picked (leb (10 ^ suc m) n) refl (eqb w (suc m)) refl (width-of m w n)
-  where
-    picked : (t : Bool) → leb (10 ^ suc m) n ≡ t → (b : Bool) → eqb w (suc m) ≡ b
-        → (w ≤ m → (0 < w → 10 ^ w ≤ n) → n < 10 ^ suc w → width m n ≡ suc w) → cond t (suc (suc m)) (width m n) ≡ suc w
-    picked true e true f ih = omega (arith, eqb-true w (suc m) f)
-    picked true e false f ih =
-        let d : w ≤ m = omega (arith, eqb-false w (suc m) f) in
-        absurd (omega (arith, leb-true (10 ^ suc m) n e, pow-le-pow-right {n = 10} (omega arith) {i = suc w} {j = suc m} (omega arith)))
-    picked false e true f ih =
-        let q : w ≡ suc m = eqb-true w (suc m) f in
-        let g : 10 ^ suc m ≤ n = rw q at (l (omega arith)) in
-        absurd (omega (arith, leb-false (10 ^ suc m) n e))
-    picked false e false f ih = ih (omega (arith, eqb-false w (suc m) f)) l u
-
-width-high : (m n : ℕ) → n < 10 ^ suc m → n < 10 ^ width m n
-unfolding width
-width-high zero n h = h
-width-high (suc m) n h = picked (leb (10 ^ suc m) n) refl (width-high m n)
-  where
-    picked : (t : Bool) → leb (10 ^ suc m) n ≡ t → (n < 10 ^ suc m → n < 10 ^ width m n) → n < 10 ^ cond t (suc (suc m)) (width m n)
-    picked true e ih = h
-    picked false e ih = ih (leb-false (10 ^ suc m) n e)
-
-width-low : (m n k : ℕ) → width m n ≡ suc k → 0 < k → 10 ^ k ≤ n
-unfolding width
-width-low zero n k e h = absurd (omega arith)
-width-low (suc m) n k e h = picked (leb (10 ^ suc m) n) refl e (width-low m n k)
-  where
-    picked : (t : Bool) → leb (10 ^ suc m) n ≡ t → cond t (suc (suc m)) (width m n) ≡ suc k → (width m n ≡ suc k → 0 < k → 10 ^ k ≤ n) → 10 ^ k ≤ n
-    picked true f e ih = let q : k ≡ suc m = omega arith in rw q (leb-true (10 ^ suc m) n f)
-    picked false f e ih = ih e h
-
-pub width-fits : (m n : ℕ) → (0 < width m n) × (width m n ≤ suc m)
-unfolding width
-width-fits zero n = omega arith
-width-fits (suc m) n = picked (leb (10 ^ suc m) n) (width-fits m n)
-  where
-    picked : (t : Bool) → (0 < width m n) × (width m n ≤ suc m) → (0 < cond t (suc (suc m)) (width m n)) × (cond t (suc (suc m)) (width m n) ≤ suc (suc m))
-    picked true h = omega arith
-    picked false h = omega arith
-
--- Numerals
+-- Numbers without leading zeros
 
 -- the first digit of a number that fills its digits is no `0`
-first-digit : (n k : ℕ) → 10 ^ k ≤ n → n < 10 ^ suc k → 48 + n / 10 ^ k % 10 ≡ 48 → ⊥
+first-digit : (n k : ℕ) → 10 ^ k ≤ n → n < 10 ^ suc k → lastDigit (n / 10 ^ k) ≡ 48 → ⊥
 first-digit n k l h e =
     let z : n / 10 ^ suc k ≡ 0 = div-eq-of-lt h in
     let q : n / 10 ^ k ≡ 0 = omega (arith, divide-more n k) in
     omega (arith, none-above n k q)
 
-printed-plain : (n w : ℕ) → w ≤ digits → 0 < w → n < 10 ^ w → ((k : ℕ) → w ≡ suc k → 0 < k → 10 ^ k ≤ n) → isPlain (digitsOf w n) ≡ true
+printed-plain : (n w : ℕ) → w < digits → n < 10 ^ suc w → (0 < w → 10 ^ w ≤ n) → isPlain (digitsOf (suc w) n) ≡ true
 unfolding digitsOf
-printed-plain n zero h p u l = absurd (omega arith)
-printed-plain n (suc zero) h p u l = plain-one (digitsOf 1 n) (printed-long 1 n)
-printed-plain n (suc (suc k)) h p u l =
-    let e : length (digitsOf (suc (suc k)) n) ≡ suc (suc k) = printed-long (suc (suc k)) n in
+printed-plain n zero h u l = plain-one (digitsOf 1 n) (digits-long 1 n)
+printed-plain n (suc k) h u l =
+    let e : length (digitsOf (suc (suc k)) n) ≡ suc (suc k) = digits-long (suc (suc k)) n in
     plain-some (digitsOf (suc (suc k)) n) (omega arith) (omega arith)
-    ∙ ap not (ne-eqb (48 + n / 10 ^ suc k % 10) 48 (first-digit n (suc k) (l (suc k) refl (omega arith)) u))
+    ∙ ap not (ne-eqb (lastDigit (n / 10 ^ suc k)) 48 (first-digit n (suc k) (l (omega arith)) u))
 
--- a numeral is read as its number
-pub numeral-read : (n : ℕ) → n < 10 ^ digits → decimalOf (numeral n) ≡ Number.Value n
-numeral-read n h =
-    let f = width-fits (digits - 1) n in
-    let u : n < 10 ^ width (digits - 1) n = width-high (digits - 1) n h in
-    decimal-plain (numeral n) (printed-plain n (width (digits - 1) n) (f .1) (f .0) u (width-low (digits - 1) n))
-    ∙ printed-read 0 n (width (digits - 1) n) (sym (div-eq-of-lt u))
+-- the text of a number is read as that number
+pub decimal-read : (n : ℕ) → n < 10 ^ digits → decimalOf (decimal n) ≡ Number.Value n
+unfolding decimal
+decimal-read n h =
+    let (w, f, g) = fills (digits - 1) n h in
+    ap (λ (k : ℕ). decimalOf (digitsOf k n)) (f .wide)
+    ∙ decimal-plain (digitsOf (suc w) n) (printed-plain n w (omega arith) (f .below) (f .filled))
+    ∙ printed-read 0 n (suc w) (sym (div-eq-of-lt (f .below)))
 
 plain-first : (b : ℕ) (s : List ℕ) → isPlain (b ∷ s) ≡ true → 0 < length s → b ≡ 48 → ⊥
 plain-first b s e h =
@@ -233,20 +166,19 @@ no-number : (n : ℕ) → decimalOf [] ≡ Number.Value n → ⊥
 unfolding decimalOf isPlain
 no-number n e = let z : _≡_ {A = ℕ} 0 1 = cc in omega arith
 
--- what is read as a number is its numeral, and the number has at most 5 digits
+-- what is read as a number is the text of that number, which has at most 5 digits
 pub record Printed (s : List ℕ) (n : ℕ) : Type 0 where
-  pub is : s ≡ numeral n
+  pub is : s ≡ decimal n
   pub short : n < 10 ^ digits
 
-pub read-numeral : (s : List ℕ) (n : ℕ) → decimalOf s ≡ Number.Value n → Printed s n
-unfolding decimalOf
-read-numeral [] n e = absurd (no-number n e)
-read-numeral (b ∷ s) n e =
+pub read-decimal : (s : List ℕ) (n : ℕ) → decimalOf s ≡ Number.Value n → Printed s n
+unfolding decimalOf decimal
+read-decimal [] n e = absurd (no-number n e)
+read-decimal (b ∷ s) n e =
     let (p, f) = let-through (isPlain (b ∷ s)) (digitsFrom 0 (b ∷ s)) n e in
     let k : length (b ∷ s) ≤ digits = plain-fits (b ∷ s) p in
     let u : n < 10 ^ suc (length s) = none-above n (suc (length s)) (read-above 0 n (b ∷ s) f) in
-    let w : width (digits - 1) n ≡ suc (length s) = width-of (digits - 1) (length s) n (omega arith) (first-counts b s n p f) u in
     record {
-      is = read-printed 0 n (b ∷ s) f ∙ ap (λ (m : ℕ). digitsOf m n) (sym w);
+      is = read-printed 0 n (b ∷ s) f ∙ ap (λ (m : ℕ). digitsOf m n) (sym (width-of (length s) n (first-counts b s n p f) u));
       short = omega (arith, pow-le-pow-right {n = 10} (omega arith) {i = suc (length s)} {j = digits} k);
     }

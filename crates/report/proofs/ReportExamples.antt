@@ -3,7 +3,7 @@ use mathlib.Core.Path.{_≡_, refl}
 use Prim.Native.Nat.{ℕ, _^_, _-_}
 use Rattle.checker.specs.declared.record.Record.{Record}
 use Rattle.checker.specs.declared.answer.Answer.the-variants.{Refused, Accepted, Clear, Race, Doubt}
-use Rattle.report.specs.Printing.{bytes, decimal, decimalIn, fiveDigits}
+use Rattle.report.specs.Printing.{bytes, digitsOf, widthIn, width, decimal, fiveDigits}
 use Rattle.report.specs.ReportLines.{accessPart, accessLine, refusedLine, reportLine}
 
 abbrev record-of : ℕ → ℕ → ℕ → Record
@@ -13,25 +13,25 @@ started : reportLine 1 (record-of 6 0 1) (Accepted (record { 0 = 1 })) ≡ bytes
 started = refl
 
 clear : reportLine 2 (record-of 1 0 5) (Clear (record { 0 = 2 })) ≡ bytes "rec=00002 task=0 var=5 verdict=clear with=00000\n"
-unfolding accessPart accessLine decimal decimalIn fiveDigits
+unfolding accessPart accessLine decimal width widthIn digitsOf
 clear = refl
 
 doubt : reportLine 6 (record-of 0 1 5) (Doubt (record { 0 = 6 }) (record { 0 = 2 })) ≡ bytes "rec=00006 task=1 var=5 verdict=doubt with=00002\n"
-unfolding accessPart accessLine decimal decimalIn fiveDigits
+unfolding accessPart accessLine decimal width widthIn digitsOf
 doubt = refl
 
 race : reportLine 7 (record-of 0 1 6) (Race (record { 0 = 7 }) (record { 0 = 4 })) ≡ bytes "rec=00007 task=1 var=6 verdict=race with=00004\n"
-unfolding accessPart accessLine decimal decimalIn fiveDigits
+unfolding accessPart accessLine decimal width widthIn digitsOf
 race = refl
 
 refused : reportLine 10 (record-of 0 2 5) (Refused 6) ≡ bytes "line=10 refused=6\n"
-unfolding refusedLine decimal decimalIn
+unfolding refusedLine decimal width widthIn digitsOf
 refused = refl
 
 longest : decimal (2 ^ 64 - 1) ≡ bytes "18446744073709551615"
-unfolding decimal decimalIn
+unfolding decimal width widthIn digitsOf
 longest = refl
 
 last-record : fiveDigits 60_000 ≡ bytes "60000"
-unfolding fiveDigits
+unfolding digitsOf
 last-record = refl

@@ -2,7 +2,7 @@
 use mathlib.Core.Path.{_≡_, refl, sym, ap, ap₂, subst, _∙_}
 use mathlib.Core.Bool.{Bool, true, false, cond}
 use mathlib.Core.List.{List, [], _∷_, _++_}
-use Prim.Native.Nat.{ℕ, zero, suc, _+_, _-_, _/_, _%_, _^_, _≤_, _<_}
+use Prim.Native.Nat.{ℕ, zero, suc, _+_, _/_, _^_, _≤_, _<_}
 use native.Mathlib.Omega.{arith}
 use lib.Dec.{ltb, eqb}
 use lib.ListN.{length, getD, drop, length-append}
@@ -13,23 +13,25 @@ use Rattle.report.specs.declared.decimal.Number.{Number}
 use Rattle.report.specs.declared.parsing.Parsed.{Parsed}
 use Rattle.report.specs.Bytes.{indexOf, upTo, after, startsWith, isWord}
 use Rattle.report.specs.LineForm.{digits, decimalOf, words, opName, taskName, onName, tasksName, space, placeOf, kindOf, fieldOf, actBy, markBy}
-use Rattle.report.specs.LineForm.{actOf, markOf, restOf, parseOf, digitsOf, width, numeral, wordOf, textOf, Sayable, TextTaken, OnlyText, OnlySayable, LongRefused}
+use Rattle.report.specs.LineForm.{actOf, markOf, restOf, parseOf, wordOf, textOf, Sayable, TextTaken, OnlyText, OnlySayable, LongRefused}
+use Rattle.report.specs.Printing.{lastDigit, digitsOf, width, decimal}
 use Rattle.report.proofs.Bytes.{Without, without-cons, without-append, before-seam, after-seam, rejoined, word-split, word-starts, word-dropped, is-the-word}
-use Rattle.report.proofs.Numerals.{let-through, numeral-read, read-numeral, width-fits, printed-long}
+use Rattle.report.proofs.Digits.{decimal-fits}
+use Rattle.report.proofs.Numerals.{let-through, decimal-read, read-decimal}
 use Rattle.report.proofs.LineForm.{rest-act}
 
 -- What is taken
 
--- a field is its name and a numeral
+-- a field is its name and a number
 record Field (name s : List ℕ) (n : ℕ) : Type 0 where
-  is : s ≡ name ++ numeral n
+  is : s ≡ name ++ decimal n
   short : n < 10 ^ digits
 
 field-is : (name s : List ℕ) (n : ℕ) → fieldOf name s ≡ Number.Value n → Field name s n
 unfolding fieldOf
 field-is name s n e =
     let (f, g) = let-through (startsWith name s) (decimalOf (drop (length name) s)) n e in
-    let p = read-numeral (drop (length name) s) n g in
+    let p = read-decimal (drop (length name) s) n g in
     record { is = word-split name s f ∙ ap (λ (l : List ℕ). name ++ l) (p .is); short = p .short }
 
 word-at : (ws : List (List ℕ)) (s : List ℕ) → placeOf ws s < length ws → s ≡ getD ws (placeOf ws s) []
@@ -53,25 +55,25 @@ op-is s h = picked (startsWith opName s) refl h
     picked false e h = absurd (omega arith)
 
 act-text : (k t n : ℕ) → k < lossMark
-    → textOf (record { kind = k; task = t; on = n }) ≡ (opName ++ wordOf k) ++ (space ∷ ((taskName ++ numeral t) ++ (space ∷ (onName ++ numeral n))))
+    → textOf (record { kind = k; task = t; on = n }) ≡ (opName ++ wordOf k) ++ (space ∷ ((taskName ++ decimal t) ++ (space ∷ (onName ++ decimal n))))
 unfolding textOf
 act-text k t n h = rw (ne-eqb k lossMark (omega arith))
 
-mark-text : (t n : ℕ) → textOf (record { kind = lossMark; task = t; on = n }) ≡ (opName ++ wordOf lossMark) ++ (space ∷ (tasksName ++ numeral n))
+mark-text : (t n : ℕ) → textOf (record { kind = lossMark; task = t; on = n }) ≡ (opName ++ wordOf lossMark) ++ (space ∷ (tasksName ++ decimal n))
 unfolding textOf
 mark-text t n = refl
 
 -- the line of an act, from its three words
-act-joined : (s : List ℕ) (k t n : ℕ) → k < lossMark → upTo space s ≡ opName ++ wordOf k → upTo space (after space s) ≡ taskName ++ numeral t
-    → after space (after space s) ≡ onName ++ numeral n → s ≡ textOf (record { kind = k; task = t; on = n })
+act-joined : (s : List ℕ) (k t n : ℕ) → k < lossMark → upTo space s ≡ opName ++ wordOf k → upTo space (after space s) ≡ taskName ++ decimal t
+    → after space (after space s) ≡ onName ++ decimal n → s ≡ textOf (record { kind = k; task = t; on = n })
 act-joined s k t n h e f g =
     let a = after space s in
     let x : 0 < length (after space a) = rw g (omega arith) in
-    let p : a ≡ (taskName ++ numeral t) ++ (space ∷ (onName ++ numeral n)) = rejoined space a x ∙ ap₂ (λ (l : List ℕ) (m : List ℕ). l ++ (space ∷ m)) f g in
+    let p : a ≡ (taskName ++ decimal t) ++ (space ∷ (onName ++ decimal n)) = rejoined space a x ∙ ap₂ (λ (l : List ℕ) (m : List ℕ). l ++ (space ∷ m)) f g in
     let y : 0 < length a = rw p (omega arith) in
     rejoined space s y ∙ ap₂ (λ (l : List ℕ) (m : List ℕ). l ++ (space ∷ m)) e p ∙ sym (act-text k t n h)
 
-mark-joined : (s : List ℕ) (t n : ℕ) → upTo space s ≡ opName ++ wordOf lossMark → after space s ≡ tasksName ++ numeral n
+mark-joined : (s : List ℕ) (t n : ℕ) → upTo space s ≡ opName ++ wordOf lossMark → after space s ≡ tasksName ++ decimal n
     → s ≡ textOf (record { kind = lossMark; task = t; on = n })
 mark-joined s t n e f =
     let y : 0 < length (after space s) = rw f (omega arith) in
@@ -152,17 +154,14 @@ word-short = each-kind (λ k. length (wordOf k) ≤ 5) (omega arith) (omega arit
 
 -- No line is long
 
-numeral-short : (n : ℕ) → length (numeral n) ≤ digits
-numeral-short n = omega (arith, printed-long (width (digits - 1) n) n, width-fits (digits - 1) n)
-
 text-short : (r : Record) → Sayable r → length (textOf r) ≤ 28
 unfolding textOf
 text-short r h = picked (eqb (r .kind) lossMark)
   where
     picked : (t : Bool)
-        → length (opName ++ (wordOf (r .kind) ++ (space ∷ cond t (tasksName ++ numeral (r .on)) (taskName ++ (numeral (r .task) ++ (space ∷ (onName ++ numeral (r .on)))))))) ≤ 28
-    picked true = simp length-append (omega (arith, word-short (r .kind) (h .kind-known), numeral-short (r .on)))
-    picked false = simp length-append (omega (arith, word-short (r .kind) (h .kind-known), numeral-short (r .on), numeral-short (r .task)))
+        → length (opName ++ (wordOf (r .kind) ++ (space ∷ cond t (tasksName ++ decimal (r .on)) (taskName ++ (decimal (r .task) ++ (space ∷ (onName ++ decimal (r .on)))))))) ≤ 28
+    picked true = simp length-append (omega (arith, word-short (r .kind) (h .kind-known), decimal-fits 4 (r .on) (h .on-short)))
+    picked false = simp length-append (omega (arith, word-short (r .kind) (h .kind-known), decimal-fits 4 (r .on) (h .on-short), decimal-fits 4 (r .task) (h .task-short)))
 
 pub long-refused : LongRefused
 long-refused s h = picked (parseOf s) refl
@@ -173,18 +172,18 @@ long-refused s h = picked (parseOf s) refl
 
 -- The text of a record is taken
 
-field-read : (name : List ℕ) (n : ℕ) → n < 10 ^ digits → fieldOf name (name ++ numeral n) ≡ Number.Value n
+field-read : (name : List ℕ) (n : ℕ) → n < 10 ^ digits → fieldOf name (name ++ decimal n) ≡ Number.Value n
 unfolding fieldOf
-field-read name n h = rw (word-starts name (numeral n), word-dropped name (numeral n)) (numeral-read n h)
+field-read name n h = rw (word-starts name (decimal n), word-dropped name (decimal n)) (decimal-read n h)
 
 digits-whole : (k n : ℕ) → Without space (digitsOf k n)
 unfolding digitsOf indexOf
 digits-whole zero n = refl
-digits-whole (suc k) n = without-cons space (48 + n / 10 ^ k % 10) (digitsOf k n) (omega arith) (digits-whole k n)
+digits-whole (suc k) n = without-cons space (lastDigit (n / 10 ^ k)) (digitsOf k n) (omega arith) (digits-whole k n)
 
-task-whole : (n : ℕ) → Without space (taskName ++ numeral n)
-unfolding indexOf
-task-whole n = without-append space taskName (numeral n) refl (digits-whole (width (digits - 1) n) n)
+task-whole : (n : ℕ) → Without space (taskName ++ decimal n)
+unfolding indexOf decimal
+task-whole n = without-append space taskName (decimal n) refl (digits-whole (width n) n)
 
 parse-words : (w s : List ℕ) → Without space w → parseOf (w ++ (space ∷ s)) ≡ restOf (kindOf w) s
 unfolding parseOf
@@ -197,20 +196,20 @@ act-words k w s h = ap₂ (λ (x : List ℕ) (y : List ℕ). actBy k (fieldOf ta
 act-taken : (k t n : ℕ) → k < lossMark → t < 10 ^ digits → n < 10 ^ digits
     → parseOf (textOf (record { kind = k; task = t; on = n })) ≡ Parsed.Record (record { kind = k; task = t; on = n })
 act-taken k t n h f g =
-    let rest = (taskName ++ numeral t) ++ (space ∷ (onName ++ numeral n)) in
+    let rest = (taskName ++ decimal t) ++ (space ∷ (onName ++ decimal n)) in
     let l : k ≤ lossMark = omega arith in
     ap parseOf (act-text k t n h)
     ∙ parse-words (opName ++ wordOf k) rest (op-whole k l)
     ∙ ap (λ (j : ℕ). restOf j rest) (op-kind k l)
     ∙ rest-act k rest h
-    ∙ act-words k (taskName ++ numeral t) (onName ++ numeral n) (task-whole t)
+    ∙ act-words k (taskName ++ decimal t) (onName ++ decimal n) (task-whole t)
     ∙ ap₂ (actBy k) (field-read taskName t f) (field-read onName n g)
 
 mark-taken : (n : ℕ) → n < 10 ^ digits
     → parseOf (textOf (record { kind = lossMark; task = 0; on = n })) ≡ Parsed.Record (record { kind = lossMark; task = 0; on = n })
 unfolding markOf
 mark-taken n h =
-    let rest = tasksName ++ numeral n in
+    let rest = tasksName ++ decimal n in
     ap parseOf (mark-text 0 n)
     ∙ parse-words (opName ++ wordOf lossMark) rest (op-whole lossMark (omega arith))
     ∙ ap (λ (j : ℕ). restOf j rest) (op-kind lossMark (omega arith))

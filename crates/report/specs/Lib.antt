@@ -1,8 +1,9 @@
 pub mod Bytes
 pub mod Lines
-pub mod LineForm
 pub mod Printing
+pub mod LineForm
 pub mod Wrote
 pub mod ReportLines
 pub mod Report
 pub mod Pieces
+pub mod TextDemands

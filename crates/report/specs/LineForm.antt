@@ -1,6 +1,6 @@
 -- The form of a line ("Text and report"): what it says as a record, and the text of a record.
 use mathlib.Core.Path.{_≡_}
-use Prim.Native.Nat.{ℕ, zero, suc, _+_, _*_, _-_, _/_, _%_, _^_, _≤_, _<_}
+use Prim.Native.Nat.{ℕ, zero, suc, _+_, _*_, _-_, _^_, _≤_, _<_}
 use mathlib.Core.Bool.{Bool, cond, not, _&&_, _||_}
 use mathlib.Core.List.{List, [], _∷_, _++_}
 use lib.ListN.{length, getD, drop}
@@ -10,6 +10,7 @@ use Rattle.checker.specs.Recording.{lossMark}
 use Rattle.report.specs.declared.decimal.Number.{Number}
 use Rattle.report.specs.declared.parsing.Parsed.{Parsed}
 use Rattle.report.specs.Bytes.{upTo, after, startsWith, isWord}
+use Rattle.report.specs.Printing.{decimal}
 
 -- Numbers
 
@@ -114,20 +115,6 @@ parseOf s = restOf (kindOf (upTo space s)) (after space s)
 
 -- The text of a record
 
--- the last k digits of n
-unfoldable pub digitsOf : ℕ → ℕ → List ℕ
-digitsOf zero n = []
-digitsOf (suc k) n = (48 + n / 10 ^ k % 10) ∷ digitsOf k n
-
--- how many digits n has without leading zeros, suc m at most
-unfoldable pub width : ℕ → ℕ → ℕ
-width zero n = 1
-width (suc m) n = cond (leb (10 ^ suc m) n) (suc (suc m)) (width m n)
-
--- a number of at most 5 digits, without leading zeros
-abbrev pub numeral : ℕ → List ℕ
-numeral n = digitsOf (width (digits - 1) n) n
-
 -- the word of a kind
 abbrev pub wordOf : ℕ → List ℕ
 wordOf k = getD words k []
@@ -137,8 +124,8 @@ unfoldable pub textOf : Record → List ℕ
 textOf r =
     opName ++ (wordOf (r .kind) ++ (space ∷
     cond (eqb (r .kind) lossMark)
-    (tasksName ++ numeral (r .on))
-    (taskName ++ (numeral (r .task) ++ (space ∷ (onName ++ numeral (r .on)))))))
+    (tasksName ++ decimal (r .on))
+    (taskName ++ (decimal (r .task) ++ (space ∷ (onName ++ decimal (r .on)))))))
 
 -- a record that a line can say: one of the nine kinds, numbers of at most 5 digits, and no task in a loss mark
 pub record Sayable (r : Record) : Type 0 where

@@ -1,9 +1,9 @@
 -- Text as the bytes that stand for it.
-use Prim.Native.Nat.{ℕ, zero, suc, _+_, _/_, _%_}
+use Prim.Native.Nat.{ℕ, zero, suc, _+_, _/_, _%_, _^_}
 use Prim.Native.Char.{code}
 use Prim.Native.String.{String}
 use mathlib.Core.Bool.{true, false}
-use mathlib.Core.List.{List, [], _∷_, _++_}
+use mathlib.Core.List.{List, [], _∷_}
 use lib.Dec.{ltb}
 
 -- the bytes of a quoted text, one for each of its ASCII characters
@@ -15,15 +15,24 @@ bytes (String._∷_ c s) = code c ∷ bytes s
 abbrev pub lastDigit : ℕ → ℕ
 lastDigit n = n % 10 + 48
 
--- the digits of n, if it has at most `most` of them
-unfoldable pub decimalIn : ℕ → ℕ → List ℕ
-decimalIn zero n = []
-decimalIn (suc most) n = elim (ltb n 10) [ true ↦ lastDigit n ∷ [] | false ↦ decimalIn most (n / 10) ++ (lastDigit n ∷ []) ]
+-- the last k digits of n, leading zeros included
+unfoldable pub digitsOf : ℕ → ℕ → List ℕ
+digitsOf zero n = []
+digitsOf (suc k) n = lastDigit (n / 10 ^ k) ∷ digitsOf k n
 
--- n in base ten, with no leading zeros: 0 is "0", and suc n digits are always enough
+-- how many digits n has without leading zeros, if at most `most`
+unfoldable pub widthIn : ℕ → ℕ → ℕ
+widthIn zero n = zero
+widthIn (suc most) n = elim (ltb n 10) [ true ↦ 1 | false ↦ suc (widthIn most (n / 10)) ]
+
+-- 0 has one, and suc n digits are always enough
+unfoldable pub width : ℕ → ℕ
+width n = widthIn (suc n) n
+
+-- n in base ten, with no leading zeros
 unfoldable pub decimal : ℕ → List ℕ
-decimal n = decimalIn (suc n) n
+decimal n = digitsOf (width n) n
 
--- the last five digits of n, leading zeros included
-unfoldable pub fiveDigits : ℕ → List ℕ
-fiveDigits n = lastDigit (n / 10_000) ∷ lastDigit (n / 1000) ∷ lastDigit (n / 100) ∷ lastDigit (n / 10) ∷ lastDigit n ∷ []
+-- a record number: five digits, leading zeros included
+abbrev pub fiveDigits : ℕ → List ℕ
+fiveDigits n = digitsOf 5 n

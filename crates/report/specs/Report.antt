@@ -1,14 +1,13 @@
 -- The report of a text: its lines, numbered from 1, fed from a fresh state, each with what the report has for it. And what the C entry
 -- does with the memory that it is lent.
-use Prim.Native.Nat.{ℕ, zero, suc, _+_, _/_, _^_, _-_}
-use mathlib.Core.Bool.{Bool, true, false, cond}
+use Prim.Native.Nat.{ℕ, suc, _+_, _/_, _^_, _-_}
+use mathlib.Core.Bool.{Bool, cond}
 use mathlib.Core.List.{List, [], _∷_, _++_}
 use lib.Dec.{ltb}
 use lib.ListN.{length}
 use lib.Seq.{sets}
 use Rattle.checker.specs.declared.record.Record.{Record}
 use Rattle.checker.specs.declared.state.State.{State}
-use Rattle.checker.specs.declared.answer.Answer.the-variants.{Refused}
 use Rattle.checker.specs.Step.{stepOf, freshState}
 use Rattle.report.specs.declared.parsing.Parsed.{Parsed}
 use Rattle.report.specs.Lines.{linesOf}

@@ -1,4 +1,4 @@
--- `checker::refusal::act_refusal`: each test passed by leaves the rows after it. Assumes nothing.
+-- `checker::refusals::act_refusal`: each test passed by leaves the rows after it. Assumes nothing.
 use mathlib.Core.Path.{_≡_, sym, _∙_}
 use Prim.Native.Nat.{ℕ, _+_, _<_}
 use lib.ListN.{drop}

@@ -1,4 +1,4 @@
--- `checker::refusal::joins_dead` is its row's test. Assumes nothing.
+-- `checker::refusals::joins_dead` is its row's test. Assumes nothing.
 use native.Mathlib.Omega.{arith}
 use borrow.Author.Tests.{ne-eqb}
 use Rattle.checker.proofs.refusals.joins_dead.Statement.{statement}

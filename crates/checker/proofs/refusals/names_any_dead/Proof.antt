@@ -1,4 +1,4 @@
--- `checker::refusal::names_any_dead`: each turn of the loop is one of `anyBelow`. Assumes nothing.
+-- `checker::refusals::names_any_dead`: each turn of the loop is one of `anyBelow`. Assumes nothing.
 use mathlib.Core.Bool.{false, not, _&&_, _||_}
 use Prim.Native.Nat.{_≤_, _-_}
 use native.Mathlib.Omega.{arith}

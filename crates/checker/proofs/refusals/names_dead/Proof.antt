@@ -1,4 +1,4 @@
--- `checker::refusal::names_dead`: the task is below 16, so that its bit alone decides whether the mask names it. Assumes nothing.
+-- `checker::refusals::names_dead`: the task is below 16, so that its bit alone decides whether the mask names it. Assumes nothing.
 use borrow.Author.Tests.{lt-ltb}
 use borrow.Author.Needs.{needs}
 use Rattle.checker.proofs.refusals.names_dead.Statement.{statement}

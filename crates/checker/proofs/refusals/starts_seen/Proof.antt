@@ -1,4 +1,4 @@
--- `checker::refusal::starts_seen` is its row's test. Assumes nothing.
+-- `checker::refusals::starts_seen` is its row's test. Assumes nothing.
 use native.Mathlib.Omega.{arith}
 use borrow.Author.Tests.{ne-eqb}
 use Rattle.checker.proofs.refusals.starts_seen.Statement.{statement}

@@ -1,7 +1,7 @@
 -- The words and numbers of an access, one after the other; each has room, since all together have.
 use native.Mathlib.Omega.{arith}
 use borrow.Author.Needs.{needs}
-use Rattle.report.specs.Printing.{fiveDigits}
+use Rattle.report.specs.Printing.{digitsOf}
 use Rattle.report.specs.ReportLines.{accessPart}
 use Rattle.report.proofs.Wrote.{_then_}
 use Rattle.report.proofs.Lengths.{length-access-part}
@@ -9,27 +9,27 @@ use Rattle.report.proofs.writing.put_access_part.Statement.{statement}
 use Rattle.report.proofs.writing.put_access_part.Tie as tie
 
 put-bytes-requires : tie.Need-put-bytes-requires
-unfolding fiveDigits
+unfolding digitsOf
 put-bytes-requires c κs = let a = c .before .before .before .args in omega (arith, length-access-part (a .number) (a .task) (a .variable))
 
 put-five-requires : tie.Need-put-five-requires
-unfolding fiveDigits
+unfolding digitsOf
 put-five-requires c κs = let a = c .before .before .before .before .before .before .before .args in omega (arith, length-access-part (a .number) (a .task) (a .variable))
 
 put-bytes-requires-2 : tie.Need-put-bytes-requires-2
-unfolding fiveDigits
+unfolding digitsOf
 put-bytes-requires-2 c κs = let a = c .before .before .before .before .before .before .before .before .before .before .before .before .args in omega (arith, length-access-part (a .number) (a .task) (a .variable))
 
 put-decimal-requires : tie.Need-put-decimal-requires
-unfolding fiveDigits
+unfolding digitsOf
 put-decimal-requires c κs = let a = c .before .before .before .before .before .before .before .before .before .before .before .before .before .before .before .before .args in omega (arith, length-access-part (a .number) (a .task) (a .variable))
 
 put-bytes-requires-3 : tie.Need-put-bytes-requires-3
-unfolding fiveDigits
+unfolding digitsOf
 put-bytes-requires-3 c κs = let a = c .before .before .before .before .before .before .before .before .before .before .before .before .before .before .before .before .before .before .before .before .before .args in omega (arith, length-access-part (a .number) (a .task) (a .variable))
 
 put-decimal-requires-2 : tie.Need-put-decimal-requires-2
-unfolding fiveDigits
+unfolding digitsOf
 put-decimal-requires-2 c κs = let a = c .before .before .before .before .before .before .before .before .before .before .before .before .before .before .before .before .before .before .before .before .before .before .before .before .before .args in omega (arith, length-access-part (a .number) (a .task) (a .variable))
 
 returns : tie.Need-returns

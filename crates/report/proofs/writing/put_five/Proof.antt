@@ -1,19 +1,19 @@
 -- Five digits, one after the other.
 use borrow.Author.Needs.{needs}
-use Rattle.report.specs.Printing.{fiveDigits}
+use Rattle.report.proofs.Digits.{five-digits}
 use Rattle.report.proofs.Wrote.{_then_}
 use Rattle.report.proofs.writing.put_five.Statement.{statement}
 use Rattle.report.proofs.writing.put_five.Tie as tie
 
 returns : tie.Need-returns
-unfolding fiveDigits
 returns c =
     let e = c .before .before in
     let d = e .before .before .before .before in
     let b = d .before .before .before .before in
     let a = b .before .before .before .before in
     let z = a .before .before .before .before in
-    z .put-digit .ensures then a .put-digit2 .ensures then b .put-digit3 .ensures then d .put-digit4 .ensures then e .put-digit5 .ensures
+    rw (five-digits _)
+    (z .put-digit .ensures then a .put-digit2 .ensures then b .put-digit3 .ensures then d .put-digit4 .ensures then e .put-digit5 .ensures)
 
 pub put-five-spec : {M : Type 1} → statement M
 put-five-spec =

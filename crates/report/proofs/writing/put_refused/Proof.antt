@@ -3,7 +3,8 @@ use native.Mathlib.Omega.{arith}
 use borrow.Author.Needs.{needs}
 use Rattle.report.specs.ReportLines.{refusedLine}
 use Rattle.report.proofs.Wrote.{_then_, at-most}
-use Rattle.report.proofs.Lengths.{decimal-fits, refused-line-fits}
+use Rattle.report.proofs.Digits.{decimal-fits}
+use Rattle.report.proofs.Lengths.{refused-line-fits}
 use Rattle.report.proofs.writing.put_refused.Statement.{statement}
 use Rattle.report.proofs.writing.put_refused.Tie as tie
 

@@ -1,0 +1,95 @@
+-- Demand 1, for texts: every text of any content is refused whole, by row 11, or each of its lines is answered, once and in order.
+-- proofs/TextDemands.antt proves it of the definitions that the C entry's contract names.
+use mathlib.Core.Path.{_≡_}
+use Prim.Native.Nat.{ℕ, zero, suc, _-_, _*_, _^_, _≤_, _<_}
+use mathlib.Core.Bool.{Bool, true, false}
+use mathlib.Core.List.{List, [], _∷_, _++_}
+use lib.ListN.{length, drop}
+use Rattle.checker.specs.declared.record.Record.{Record}
+use Rattle.checker.specs.declared.state.State.{State}
+use Rattle.checker.specs.declared.answer.Answer.{Answer}
+use Rattle.checker.specs.declared.answer.Answer.the-variants.{Accepted}
+use Rattle.checker.specs.Verdict.{Verdict, Race, Clear, Doubt}
+use Rattle.checker.specs.Control.{refusalIn}
+use Rattle.checker.specs.History.{accesses}
+use Rattle.checker.specs.Step.{recordNumber, nextNumber, masksOfClocks, masksOfSets, sameMasks, stepOf, freshState}
+use Rattle.checker.specs.Feeding.{Says, fed}
+use Rattle.report.specs.Lines.{linesOf}
+use Rattle.report.specs.LineForm.{textOf, Sayable}
+use Rattle.report.specs.Printing.{bytes}
+use Rattle.report.specs.ReportLines.{accessLine, refusedLine, reportLine}
+use Rattle.report.specs.Report.{reportOf, countOf, memoryOf}
+
+-- A line
+
+-- the line is of the text form, and says the record r
+pub record TextForm (line : List ℕ) (r : Record) : Type 0 where
+  pub sayable : Sayable r
+  pub is-text : line ≡ textOf r
+
+-- which of rows 1 to 10 is the first that applies to a record in a state; 0 where none does
+abbrev pub rowBy : ℕ → Bool → ℕ
+rowBy zero true = zero
+rowBy zero false = 10
+rowBy (suc n) same = suc n
+
+abbrev pub rowOf : State → Record → ℕ
+rowOf s r = rowBy (refusalIn (s .control) r) (sameMasks (masksOfClocks s r) (masksOfSets s r))
+
+abbrev pub wordFor : Verdict → List ℕ
+wordFor Race = bytes "race"
+wordFor Clear = bytes "clear"
+wordFor Doubt = bytes "doubt"
+
+-- `LineGot n s line s′ said`: what line number n got, fed to the state s: it left the state s′, and the report has `said` for it
+pub data LineGot (n : ℕ) (s : State) (line : List ℕ) : State → List ℕ → Type 0 where
+  -- "A line that yields no record is refused with 1"
+  no-record : ((r : Record) → ¬ TextForm line r) → LineGot n s line s (refusedLine n 1)
+  -- its record is refused with the number of the first row that applies, and the state stays
+  refused : {r : Record} {k : ℕ} → TextForm line r → rowOf s r ≡ k → 1 ≤ k → k ≤ 10 → LineGot n s line s (refusedLine n k)
+  -- "One line for an accepted access", with its record number, its verdict and the partner
+  judged : {r : Record} {v : Verdict} {w : ℕ} → TextForm line r → rowOf s r ≡ 0 → accesses (r .kind) ≡ true →
+      Says ((stepOf s r) .answer) (nextNumber (s .control)) v w →
+      LineGot n s line ((stepOf s r) .state) (accessLine (nextNumber (s .control)) (r .task) (r .on) (wordFor v) w)
+  -- "none for other records"
+  taken : {r : Record} → TextForm line r → rowOf s r ≡ 0 → accesses (r .kind) ≡ false →
+      (stepOf s r) .answer ≡ Accepted (recordNumber (nextNumber (s .control))) → LineGot n s line ((stepOf s r) .state) []
+
+-- A text
+
+-- lines, the first having number n: each is fed to the state that the one before it left, and the report is what each got, in their order
+pub data Answered : ℕ → State → List (List ℕ) → List ℕ → Type 0 where
+  no-lines : {n : ℕ} {s : State} → Answered n s [] []
+  a-line : {n : ℕ} {s s′ : State} {line said report : List ℕ} {lines : List (List ℕ)} →
+      LineGot n s line s′ said → Answered (suc n) s′ lines report → Answered n s (line ∷ lines) (said ++ report)
+
+-- a text with report memory: the count that is returned, and the memory after
+pub data TextHandled (text memory : List ℕ) : Type 0 where
+  -- row 11: "64 one-bits", "which leaves that memory untouched"
+  refused-whole : length memory < 64 * length (linesOf text) → countOf text memory ≡ 2 ^ 64 - 1 → memoryOf text memory ≡ memory → TextHandled text memory
+  -- the report from the memory's start on; "Bytes after the written ones stay"
+  reported : 64 * length (linesOf text) ≤ length memory → Answered 1 freshState (linesOf text) (reportOf text) →
+      length (reportOf text) ≤ 64 * length (linesOf text) → countOf text memory ≡ length (reportOf text) →
+      memoryOf text memory ≡ reportOf text ++ drop (length (reportOf text)) memory → TextHandled text memory
+
+-- a text that a machine can hold has a length of 64 bits
+abbrev pub TextDemand1 : Type 0
+TextDemand1 = (text memory : List ℕ) → length text < 2 ^ 64 → TextHandled text memory
+
+-- and no other report would do: what each line gets is fixed
+abbrev pub OneReport : Type 0
+OneReport = (text report : List ℕ) → Answered 1 freshState (linesOf text) report → report ≡ reportOf text
+
+-- The answers in a report are those of feeding the records that the lines say, from a fresh state: what crates/checker proves of `fed`,
+-- demands 2 and 3 among it, holds of each report
+
+-- the lines that say records have, in order, the records rs and the answers to them, and the report is made of these
+pub data Tells : ℕ → List (List ℕ) → List Record → List Answer → List ℕ → Type 0 where
+  tells-nothing : {n : ℕ} → Tells n [] [] [] []
+  tells-no-record : {n : ℕ} {line report : List ℕ} {lines : List (List ℕ)} {rs : List Record} {answers : List Answer} →
+      ((r : Record) → ¬ TextForm line r) → Tells (suc n) lines rs answers report → Tells n (line ∷ lines) rs answers (refusedLine n 1 ++ report)
+  tells-answer : {n : ℕ} {line report : List ℕ} {lines : List (List ℕ)} {r : Record} {rs : List Record} {a : Answer} {answers : List Answer} →
+      TextForm line r → Tells (suc n) lines rs answers report → Tells n (line ∷ lines) (r ∷ rs) (a ∷ answers) (reportLine n r a ++ report)
+
+abbrev pub TextFed : Type 0
+TextFed = (text : List ℕ) → (rs : List Record) × Tells 1 (linesOf text) rs (fed rs) (reportOf text)
