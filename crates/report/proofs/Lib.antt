@@ -1,5 +1,6 @@
 pub mod Bytes
 pub mod Lines
+pub mod Reading
 pub mod Numerals
 pub mod LineForm
 pub mod RoundTrip

@@ -1,5 +1,6 @@
 pub mod Bytes
 pub mod Lines
+pub mod Reading
 pub mod LineForm
 pub mod Printing
 pub mod Wrote

@@ -2,6 +2,7 @@
 mod decimal;
 mod entry;
 mod parsing;
+mod reader;
 mod scan;
 mod words;
 mod writing;
@@ -10,3 +11,8 @@ pub use decimal::Number;
 pub use entry::order_report;
 pub use parsing::Parsed;
 pub use parsing::parse_line;
+pub use reader::LineReader;
+pub use reader::next_line;
+pub use reader::reader_at;
+pub use reader::record_at;
+pub use reader::take_line;
