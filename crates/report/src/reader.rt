@@ -20,7 +20,7 @@ pub fn reader_at<'a>(text: &'a [u8], at: usize) -> LineReader<'a>
 }
 
 // The next line, as a part of the text that the reader holds. The reader moves past it and its LF.
-pub fn next_line<'s, 'a>(reader: &'s mut LineReader<'a>) -> &'a [u8]
+pub fn next_line<'a>(reader: &mut LineReader<'a>) -> &'a [u8]
     ensures { λ line. ⌜ (now line ≡ lineAt (now (now (reader .entry) .text)) (now (reader .entry) .at))
         × (now (reader .exit) ≡ record { text = now (reader .entry) .text; at = nextAt (now (now (reader .entry) .text)) (now (reader .entry) .at) }) ⌝ }
 {
@@ -30,7 +30,7 @@ pub fn next_line<'s, 'a>(reader: &'s mut LineReader<'a>) -> &'a [u8]
 }
 
 // The next line of a text from a place on, by a reader that is set there. The place moves past the line and its LF.
-pub fn take_line<'s, 'a>(text: &'a [u8], at: &'s mut usize) -> &'a [u8]
+pub fn take_line<'a>(text: &'a [u8], at: &mut usize) -> &'a [u8]
     ensures { λ line. ⌜ (now line ≡ lineAt (now (text .entry)) (now (at .entry)))
         × (now (at .exit) ≡ nextAt (now (text .entry)) (now (at .entry))) ⌝ }
 {
