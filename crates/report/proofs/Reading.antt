@@ -1,12 +1,11 @@
 -- Reading a text line by line. Assumes nothing.
-use mathlib.Core.Path.{_≡_, refl, sym, ap, ap₂, _∙_}
+use mathlib.Core.Path.{_≡_, sym, ap, _∙_}
 use mathlib.Core.List.{List, [], _∷_}
-use Prim.Native.Nat.{ℕ, zero, suc, _+_, _-_, _≤_, _<_, min}
+use Prim.Native.Nat.{ℕ, zero, suc, _+_, _-_, _≤_, min}
 use native.Mathlib.Nat.{min-zero, suc-min-suc}
 use native.Mathlib.Omega.{arith}
 use lib.ListN.{length, take, drop, length-drop, drop-of-length-le}
 use lib.Seq.{take-nil, drop-nil, drop-drop, length-take-le}
-use Rattle.report.specs.Bytes.{indexOf}
 use Rattle.report.specs.Lines.{lf, linesOf, lineEnd}
 use Rattle.report.specs.Reading.{lineAt, placeAfter, nextAt, ReadsLines}
 use Rattle.report.proofs.Bytes.{index-fits}
