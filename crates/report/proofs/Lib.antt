@@ -1,6 +1,7 @@
 pub mod Bytes
 pub mod Lines
 pub mod Digits
+pub mod Reading
 pub mod Numerals
 pub mod LineForm
 pub mod RoundTrip

@@ -1,5 +1,6 @@
 pub mod Bytes
 pub mod Lines
+pub mod Reading
 pub mod Printing
 pub mod LineForm
 pub mod Wrote

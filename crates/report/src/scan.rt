@@ -4,6 +4,7 @@ ghost use Prim.Native.Nat.{_+_, _≤_};
 ghost use lib.ListN.{length, drop};
 ghost use Rattle.report.specs.Bytes.{indexOf};
 ghost use Rattle.report.specs.Lines.{lineEnd, linesOf, lfBit, lfCount};
+ghost use Rattle.report.specs.Reading.{lineAt, placeAfter};
 
 const LF: u8 = 10;
 
@@ -75,4 +76,28 @@ pub(crate) fn line_count(text: &[u8]) -> usize
         return n;
     }
     n + 1
+}
+
+// The line that begins at a place, without its LF: a part of the text. From the end of the text on it is empty.
+pub(crate) fn line_at(text: &[u8], at: usize) -> &[u8]
+    ensures { λ r. ⌜ now r ≡ lineAt (now (text .entry)) at ⌝ }
+{
+    if text.len() <= at {
+        return &text[text.len()..];
+    }
+    let e = line_end(text, at);
+    &text[at..e]
+}
+
+// The place after n bytes from a place on and the byte that ends them, or the end of the text.
+pub(crate) fn place_after(text: &[u8], at: usize, n: usize) -> usize
+    ensures { λ r. ⌜ r ≡ placeAfter (now (text .entry)) at n ⌝ }
+{
+    if text.len() <= at {
+        return text.len();
+    }
+    if text.len() - at <= n {
+        return text.len();
+    }
+    at + n + 1
 }
