@@ -1,0 +1,231 @@
+// Standard input in blocks, each fed in pieces to `report_piece`, which is proved; here is only what moves the bytes.
+use libc::STDERR_FILENO;
+use libc::STDIN_FILENO;
+use libc::STDOUT_FILENO;
+use report::Progress;
+use report::report_piece;
+ghost use Prim.Native.Nat.{_<_, _≤_};
+ghost use Rattle.io.specs.Counts.{Counts};
+
+// A piece is so short that the report of its lines has room beside a block of output that waits to be written.
+const PIECE: usize = 1024;
+
+// So much of the report waits at most before it is written.
+const WAITING: usize = 65_536;
+
+// What `at` is once nothing more can be written; a piece is then refused.
+const CLOSED: usize = 18_446_744_073_709_551_615;
+
+// What one block of the input came to: whether there may be more, and how far the report is.
+pub(crate) struct Turn {
+    pub more: bool,
+    pub now: Progress,
+}
+
+// Where the piece that begins at a place ends.
+fn piece_end(from: usize, len: usize) -> usize
+    requires { ⌜ from < len ⌝ }
+    ensures { λ r. ⌜ (from < r) × (r ≤ len) ⌝ }
+{
+    if len - from <= PIECE {
+        len
+    } else {
+        from + PIECE
+    }
+}
+
+// How many bytes wait to be written: none once the output is closed.
+fn waiting(out: &[u8], progress: Progress) -> usize
+    ensures { λ r. ⌜ Counts r (now (out .entry)) ⌝ }
+{
+    if progress.at <= out.len() {
+        progress.at
+    } else {
+        0
+    }
+}
+
+// Writes the report so far. Where the output is closed, nothing more is taken in.
+fn write_out(out: &[u8], now: Progress) -> Progress {
+    let n = waiting(out, now);
+    let written = io::write_all(STDOUT_FILENO, &out[..n]);
+    let at = if written { 0 } else { CLOSED };
+    Progress {
+        lines: now.lines,
+        held: now.held,
+        at,
+    }
+}
+
+// Writes the report so far, once there is a block of it.
+fn write_some(out: &[u8], now: Progress) -> Progress {
+    if now.at < WAITING {
+        return now;
+    }
+    write_out(out, now)
+}
+
+// Feeds one piece.
+fn answer_piece(
+    out: &mut [u8],
+    piece: &[u8],
+    held: &mut [u8],
+    begun: Progress,
+    control: &mut [u32; 17],
+    last: &mut [u32; 2048],
+    clocks: &mut [u32; 1536],
+    fullclocks: &mut [u32; 1536],
+    sets: &mut [u8; 196608],
+    fullsets: &mut [u8; 196608],
+) -> Progress {
+    let now = report_piece(
+        out,
+        piece,
+        held,
+        begun,
+        control,
+        last,
+        clocks,
+        fullclocks,
+        sets,
+        fullsets,
+    );
+    write_some(out, now)
+}
+
+// Feeds a block, piece by piece.
+fn answer_block(
+    out: &mut [u8],
+    block: &[u8],
+    held: &mut [u8],
+    begun: Progress,
+    control: &mut [u32; 17],
+    last: &mut [u32; 2048],
+    clocks: &mut [u32; 1536],
+    fullclocks: &mut [u32; 1536],
+    sets: &mut [u8; 196608],
+    fullsets: &mut [u8; 196608],
+) -> Progress {
+    let mut now = begun;
+    let mut p: usize = 0;
+    while p < block.len() {
+        let e = piece_end(p, block.len());
+        now = answer_piece(
+            out,
+            &block[p..e],
+            held,
+            now,
+            control,
+            last,
+            clocks,
+            fullclocks,
+            sets,
+            fullsets,
+        );
+        p = e;
+    }
+    now
+}
+
+// Reads one block and feeds it. A read may bring less than a block; none at all is the end of the input.
+fn answer_read(
+    out: &mut [u8],
+    block: &mut [u8],
+    held: &mut [u8],
+    begun: Progress,
+    control: &mut [u32; 17],
+    last: &mut [u32; 2048],
+    clocks: &mut [u32; 1536],
+    fullclocks: &mut [u32; 1536],
+    sets: &mut [u8; 196608],
+    fullsets: &mut [u8; 196608],
+) -> Turn {
+    let got = libc::read(STDIN_FILENO, block);
+    if got < 0 {
+        io::write_all(STDERR_FILENO, b"order: the input cannot be read\n");
+    }
+    let n = io::count(got, block);
+    let now = answer_block(
+        out,
+        &block[..n],
+        held,
+        begun,
+        control,
+        last,
+        clocks,
+        fullclocks,
+        sets,
+        fullsets,
+    );
+    Turn {
+        more: n > 0 && now.at < CLOSED,
+        now,
+    }
+}
+
+// Feeds the whole input. A proved loop has to end, and nothing says that an input does: it counts turns that no run uses up.
+pub(crate) fn answer_input(
+    out: &mut [u8],
+    held: &mut [u8],
+    begun: Progress,
+    control: &mut [u32; 17],
+    last: &mut [u32; 2048],
+    clocks: &mut [u32; 1536],
+    fullclocks: &mut [u32; 1536],
+    sets: &mut [u8; 196608],
+    fullsets: &mut [u8; 196608],
+) -> Progress {
+    let mut block = io::large_buffer();
+    let mut now = begun;
+    let mut more = true;
+    let mut turns = u64::MAX;
+    while turns > 0 && more {
+        let turn = answer_read(
+            out,
+            &mut block,
+            held,
+            now,
+            control,
+            last,
+            clocks,
+            fullclocks,
+            sets,
+            fullsets,
+        );
+        now = turn.now;
+        more = turn.more;
+        turns -= 1;
+    }
+    now
+}
+
+// Answers a rest without LF, as if LF ended it, and writes what waits.
+pub(crate) fn finish(
+    out: &mut [u8],
+    held: &mut [u8],
+    begun: Progress,
+    control: &mut [u32; 17],
+    last: &mut [u32; 2048],
+    clocks: &mut [u32; 1536],
+    fullclocks: &mut [u32; 1536],
+    sets: &mut [u8; 196608],
+    fullsets: &mut [u8; 196608],
+) {
+    if begun.held == 0 {
+        write_out(out, begun);
+        return;
+    }
+    let now = report_piece(
+        out,
+        b"\n",
+        held,
+        begun,
+        control,
+        last,
+        clocks,
+        fullclocks,
+        sets,
+        fullsets,
+    );
+    write_out(out, now);
+}

@@ -1,0 +1,45 @@
+// The program `order`: a recording on standard input, its report on standard output, in fixed memory whatever the input.
+mod blocks;
+
+use blocks::answer_input;
+use blocks::finish;
+use report::Progress;
+
+fn main() {
+    let mut control = [0u32; 17];
+    control[0] = 1;
+    let mut last = [0u32; 2048];
+    let mut clocks = [0u32; 1536];
+    let mut fullclocks = [0u32; 1536];
+    let mut sets = [0u8; 196608];
+    let mut fullsets = [0u8; 196608];
+    let mut out = [0u8; 131072];
+    let mut held = [0u8; 65];
+    let none = Progress {
+        lines: 0,
+        held: 0,
+        at: 0,
+    };
+    let now = answer_input(
+        &mut out,
+        &mut held,
+        none,
+        &mut control,
+        &mut last,
+        &mut clocks,
+        &mut fullclocks,
+        &mut sets,
+        &mut fullsets,
+    );
+    finish(
+        &mut out,
+        &mut held,
+        now,
+        &mut control,
+        &mut last,
+        &mut clocks,
+        &mut fullclocks,
+        &mut sets,
+        &mut fullsets,
+    );
+}
