@@ -46,6 +46,17 @@ index-fits b (x ∷ s) = picked (eqb x b) (index-fits b s)
     picked true h = omega arith
     picked false h = omega arith
 
+-- there is a b no later than at a place that has one
+pub index-bound : (b : ℕ) (s : List ℕ) (j : ℕ) → j < length s → getD s j 0 ≡ b → indexOf b s ≤ j
+unfolding indexOf
+index-bound b [] j h e = absurd (omega arith)
+index-bound b (x ∷ s) zero h e = rw (eq-eqb x b e) (omega arith)
+index-bound b (x ∷ s) (suc j) h e = picked (eqb x b) (index-bound b s j (omega arith) e)
+  where
+    picked : (t : Bool) → indexOf b s ≤ j → cond t zero (suc (indexOf b s)) ≤ suc j
+    picked true k = omega arith
+    picked false k = omega arith
+
 -- Before and after
 
 -- no element of the list is b
@@ -73,6 +84,12 @@ without-cons b x s d h = index-later b s d ∙ ap suc h
 pub without-head : (b x : ℕ) (s : List ℕ) → Without b (x ∷ s) → (x ≡ b → ⊥) × Without b s
 unfolding indexOf
 without-head b x s h = let (f, g) = first-not (eqb x b) (indexOf b s) (length s) h in (eqb-false x b f, g)
+
+-- none from a place on, so none from a later one on
+pub without-drop : (b : ℕ) (s : List ℕ) (n : ℕ) → Without b s → Without b (drop n s)
+without-drop b s zero h = h
+without-drop b [] (suc n) h = h
+without-drop b (x ∷ s) (suc n) h = without-drop b s n (without-head b x s h .1)
 
 take-seam : (w s : List ℕ) → take (length w) (w ++ s) ≡ w
 take-seam [] s = refl

@@ -1,7 +1,7 @@
 -- Reading a text line by line. Assumes nothing.
 use mathlib.Core.Path.{_≡_, sym, ap, _∙_}
 use mathlib.Core.List.{List, [], _∷_}
-use Prim.Native.Nat.{ℕ, zero, suc, _+_, _-_, _≤_, min}
+use Prim.Native.Nat.{ℕ, zero, suc, _+_, _-_, _≤_, _<_, min}
 use native.Mathlib.Nat.{min-zero, suc-min-suc}
 use native.Mathlib.Omega.{arith}
 use lib.ListN.{length, take, drop, length-drop, drop-of-length-le}
@@ -31,6 +31,11 @@ drop-min (x ∷ s) (suc k) = rw (suc-min-suc (length s) k) (drop-min s k)
 line-length : (s : List ℕ) (at : ℕ) → length (lineAt s at) ≡ lineEnd (drop at s)
 unfolding lineAt
 line-length s at = length-take-le (lineEnd (drop at s)) (drop at s) (index-fits lf (drop at s))
+
+-- the place after a line that LF ends
+pub next-place : (s : List ℕ) (at : ℕ) → at + lineEnd (drop at s) < length s → nextAt s at ≡ at + lineEnd (drop at s) + 1
+unfolding placeAfter
+next-place s at h = omega (arith, line-length s at)
 
 -- what follows the line and its LF
 rest-after : (s : List ℕ) (at : ℕ) → drop (nextAt s at) s ≡ drop (suc (lineEnd (drop at s))) (drop at s)

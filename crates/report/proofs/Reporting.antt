@@ -4,15 +4,17 @@ use mathlib.Core.List.{List, [], _∷_, _++_}
 use Prim.Native.Nat.{ℕ, zero, suc, _+_, _-_, _*_, _≤_, _<_}
 use native.Mathlib.Numerals.{add-one}
 use native.Mathlib.Omega.{arith}
-use lib.ListN.{length, take, drop, length-append, length-drop, drop-of-length-le}
-use lib.Seq.{sets, length-sets, drop-drop}
+use lib.ListN.{length, take, drop, getD, length-append, length-drop, drop-of-length-le}
+use lib.Seq.{sets, length-sets, drop-drop, drop-cons, getD-drop}
 use Rattle.checker.specs.declared.state.State.{State}
 use Rattle.report.specs.Lines.{lf, linesOf, lineEnd}
 use Rattle.report.specs.LineForm.{parseOf}
 use Rattle.report.specs.Wrote.{Wrote}
 use Rattle.report.specs.Report.{saidFor, stateAfter}
 use Rattle.report.specs.Pieces.{Kept, kept, heldMost, saidIn, afterPiece}
-use Rattle.report.proofs.Bytes.{Without, split-first, before-without}
+use Rattle.report.proofs.Bytes.{Without, index-none, split-first, before-without, index-bound, without-cons, without-drop}
+use Rattle.report.specs.Reading.{lineAt, nextAt}
+use Rattle.report.proofs.Reading.{line-part, next-place}
 use Rattle.report.proofs.Wrote.{sets-append}
 use Rattle.report.proofs.Lines.{lines-at}
 use Rattle.report.proofs.Pieces.{keptWith, line-said, line-after, rest-held}
@@ -44,6 +46,35 @@ pub line-without : (piece : List ℕ) (p e : ℕ) → e ≡ p + lineEnd (drop p 
 line-without piece p e q =
     let a : lineEnd (drop p piece) ≡ e - p = omega arith in
     subst (λ (k : ℕ). Without lf (take k (drop p piece))) a (before-without lf (drop p piece))
+
+-- Up to the last LF
+
+-- there is none at the end
+pub none-at-end : (s : List ℕ) → Without lf (drop (length s) s)
+none-at-end s = rw (drop-of-length-le s {i = length s} (omega arith)) (index-none lf)
+
+-- from place i + 1 on there is no LF, nor at i
+pub one-before : (s : List ℕ) (i : ℕ) → 0 < i → i ≤ length s → (getD s (i - 1) 0 ≡ lf → ⊥) → Without lf (drop i s) → Without lf (drop (i - 1) s)
+one-before s i h k d w =
+    let q : suc (i - 1) ≡ i = omega arith in
+    rw (drop-cons s (i - 1) 0 (omega arith)) (without-cons lf (getD s (i - 1) 0) (drop (suc (i - 1)) s) d (subst (λ (j : ℕ). Without lf (drop j s)) (sym q) w))
+
+-- a line that begins before the place after the last LF is ended by LF
+pub ends-before : (piece : List ℕ) (p r : ℕ) → p < r → r ≤ length piece → (0 < r → getD piece (r - 1) 0 ≡ lf) → p + lineEnd (drop p piece) < length piece
+ends-before piece p r h k e =
+    let q : p + (r - 1 - p) ≡ r - 1 = omega arith in
+    let b : lineEnd (drop p piece) ≤ r - 1 - p =
+    index-bound lf (drop p piece) (r - 1 - p) (omega (arith, length-drop p piece)) (getD-drop p piece (r - 1 - p) 0 ∙ ap (λ (j : ℕ). getD piece j 0) q ∙ e (omega arith))
+    in omega arith
+
+-- the reader then moves on, and not past the end
+pub moved : (piece : List ℕ) (p : ℕ) {p′ : ℕ} → p + lineEnd (drop p piece) < length piece → p′ ≡ nextAt piece p → (p < p′) × (p′ ≤ length piece)
+moved piece p h e = let q = e ∙ next-place piece p h in (omega arith, omega arith)
+
+pub past-last : (piece : List ℕ) (p r : ℕ) → r ≤ p → Without lf (drop r piece) → Without lf (drop p piece)
+past-last piece p r h w =
+    let q : r + (p - r) ≡ p = omega arith in
+    subst (Without lf) (drop-drop (p - r) r piece ∙ ap (λ (j : ℕ). drop j piece) q) (without-drop lf (drop r piece) (p - r) w)
 
 -- no LF from a place on
 pub rest-without : (piece : List ℕ) (p e : ℕ) → e ≡ p + lineEnd (drop p piece) → e ≡ length piece → Without lf (drop p piece)
@@ -85,6 +116,22 @@ module _ {memory said : List ℕ} {start : ℕ} {last : Kept} {report piece : Li
 
       split : saidIn (kept s number []) (drop p piece) ≡ first ++ after
       split = ap (saidIn (kept s number [])) (from-place piece p e q h) ∙ line-said s number [] _ _ (line-without piece p e q) ∙ rw (add-one number)
+
+  -- the same for the line that the reader takes, and the place that it leaves
+  pub left-taken : {report′ line : List ℕ} {p′ to : ℕ} {s′ : State} → Left memory start said last report at s number piece p
+      → p + lineEnd (drop p piece) < length piece
+      → line ≡ lineAt piece p → p′ ≡ nextAt piece p
+      → Wrote report at (saidFor (number + 1) s (parseOf line)) report′ to
+      → to ≤ at + 64
+      → s′ ≡ stateAfter s (parseOf line)
+      → Left memory start said last report′ to s′ (number + 1) piece p′
+  left-taken {report′} {to = to} {s′} x h e f w l g =
+      let same = line-part piece p (p + lineEnd (drop p piece)) refl in
+      subst (λ (j : ℕ). Left memory start said last report′ to s′ (number + 1) piece j) (sym (f ∙ next-place piece p h))
+      (left-next x refl h
+      (subst (λ (z : List ℕ). Wrote report at (saidFor (number + 1) s (parseOf z)) report′ to) (e ∙ sym same) w)
+      l
+      (g ∙ ap (λ (z : List ℕ). stateAfter s (parseOf z)) (e ∙ sym same)))
 
   -- what is left has no LF: it is held, and all is said
   pub left-said : Left memory start said last report at s number piece p → Without lf (drop p piece) → Wrote memory start said report at

@@ -1,7 +1,8 @@
 // Lines answered: each is fed, and what the report has for it is written.
 use crate::parsing::Parsed;
 use crate::parsing::parse_line;
-use crate::scan::line_end;
+use crate::reader::take_line;
+use crate::scan::rest_start;
 use crate::writing::put_answer;
 use crate::writing::put_refused;
 use checker::step_in_place;
@@ -77,14 +78,15 @@ pub(crate) fn put_lines(
     let mut at = at;
     let mut number = lines;
     let mut p = from;
-    let mut e = line_end(piece, p);
-    while e < piece.len() {
+    let end = rest_start(piece);
+    while p < end {
         number += 1;
+        let line = take_line(piece, &mut p);
         at = put_line(
             out,
             at,
             number,
-            &piece[p..e],
+            line,
             control,
             last,
             clocks,
@@ -92,8 +94,6 @@ pub(crate) fn put_lines(
             sets,
             fullsets,
         );
-        p = e + 1;
-        e = line_end(piece, p);
     }
     Answered {
         lines: number,

@@ -16,7 +16,6 @@ pub use parsing::parse_line;
 pub use reader::LineReader;
 pub use reader::next_line;
 pub use reader::reader_at;
-pub use reader::record_at;
 pub use reader::take_line;
 pub use streaming::Progress;
 pub use streaming::report_piece;

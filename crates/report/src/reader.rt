@@ -1,10 +1,7 @@
 // The line reader: it holds the text that it was lent and how far it has read, and hands each line on as a part of that text.
-use crate::parsing::Parsed;
-use crate::parsing::parse_line;
 use crate::scan::line_at;
 use crate::scan::place_after;
 ghost use mathlib.Core.Path.{_≡_};
-ghost use Rattle.report.specs.LineForm.{parseOf};
 ghost use Rattle.report.specs.Reading.{lineAt, nextAt};
 
 pub struct LineReader<'a> {
@@ -38,12 +35,4 @@ pub fn take_line<'a>(text: &'a [u8], at: &mut usize) -> &'a [u8]
     let line = next_line(&mut reader);
     *at = reader.at;
     line
-}
-
-// The record that the line at a place says, if it is of the text form.
-pub fn record_at(text: &[u8], at: usize) -> Parsed
-    ensures { λ r. ⌜ r ≡ parseOf (lineAt (now (text .entry)) at) ⌝ }
-{
-    let mut p = at;
-    parse_line(take_line(text, &mut p))
 }

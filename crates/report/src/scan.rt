@@ -1,9 +1,9 @@
 // Where a byte stands, and the lines of a text: each is ended by LF, and a non-empty rest without LF is a line too.
 ghost use mathlib.Core.Path.{_≡_};
-ghost use Prim.Native.Nat.{_+_, _≤_};
-ghost use lib.ListN.{length, drop};
+ghost use Prim.Native.Nat.{_+_, _-_, _≤_, _<_};
+ghost use lib.ListN.{length, drop, getD};
 ghost use Rattle.report.specs.Bytes.{indexOf};
-ghost use Rattle.report.specs.Lines.{lineEnd, linesOf, lfBit, lfCount};
+ghost use Rattle.report.specs.Lines.{lf, lineEnd, linesOf, lfBit, lfCount};
 ghost use Rattle.report.specs.Reading.{lineAt, placeAfter};
 
 const LF: u8 = 10;
@@ -100,4 +100,19 @@ pub(crate) fn place_after(text: &[u8], at: usize, n: usize) -> usize
         return text.len();
     }
     at + n + 1
+}
+
+// Where what follows the last LF of a text begins; 0 where it has none.
+pub(crate) fn rest_start(text: &[u8]) -> usize
+    ensures { λ r. ⌜ (r ≤ length (now (text .entry))) × (lineEnd (drop r (now (text .entry))) ≡ length (drop r (now (text .entry))))
+        × ((0 < r) → getD (now (text .entry)) (r - 1) 0 ≡ lf) ⌝ }
+{
+    let mut i = text.len();
+    while i > 0 {
+        if text[i - 1] == LF {
+            return i;
+        }
+        i -= 1;
+    }
+    i
 }
