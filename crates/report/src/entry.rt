@@ -5,13 +5,11 @@ use crate::scan::line_count;
 use crate::streaming::Progress;
 use crate::streaming::put_piece;
 ghost use mathlib.Core.Path.{_≡_};
-ghost use Prim.Native.Nat.{_<_, _≤_, _+_, _*_};
+ghost use Prim.Native.Nat.{_≤_, _*_};
 ghost use lib.ListN.{length};
-ghost use Rattle.checker.specs.Step.{stateOf};
 ghost use Rattle.report.specs.Lines.{linesOf};
-ghost use Rattle.report.specs.LineForm.{parseOf};
 ghost use Rattle.report.specs.Wrote.{Wrote};
-ghost use Rattle.report.specs.Report.{saidFor, stateAfter, reportOf, countOf, memoryOf};
+ghost use Rattle.report.specs.Report.{reportOf, countOf, memoryOf};
 
 // Writes the report of a text, from its start on: the whole text is one piece, and a rest without LF is a line too.
 fn write_report(text: &[u8], report: &mut [u8]) -> usize
