@@ -4,7 +4,7 @@ use crate::history::is_access;
 use crate::history::latest_number;
 use crate::kinds::LOST;
 use crate::masks::Masks;
-use crate::masks::bit_of;
+use crate::masks::weight_of;
 use crate::numbers::Task;
 use crate::refusals::both;
 use crate::rows::heard_by;
@@ -16,7 +16,7 @@ ghost use mathlib.Core.Bool.{false};
 ghost use lib.Dec.{eqb};
 ghost use Prim.Native.Nat.{_<_, max};
 ghost use Rattle.checker.specs.Tables.{joinRow, flow, gather, spread, mix};
-ghost use Rattle.checker.specs.Reckonings.{clockAct, clocksArrived, clocksFull, clockApart, clockMask, clockMasks};
+ghost use Rattle.checker.specs.Reckonings.{clockAct, clocksArrived, clocksFull, clockApart, clockMask, clockMasks, masksBy};
 ghost use Rattle.checker.specs.Acceptance.{Fitting};
 
 fn greater(a: u32, b: u32) -> u32
@@ -127,17 +127,30 @@ fn apart(cells: &[u32; 1536], last: &[u32; 2048], kind: u8, task: u32, on: u32, 
     )
 }
 
-fn mask(cells: &[u32; 1536], last: &[u32; 2048], kind: u8, task: u32, on: u32) -> u16
+// Both masks of an access. Sums of weights that grow upward, of both tables in one loop, are what the compiler makes vector code of.
+fn masks(
+    clocks: &[u32; 1536],
+    fullclocks: &[u32; 1536],
+    last: &[u32; 2048],
+    kind: u8,
+    task: u32,
+    on: u32,
+) -> Masks
     requires { ⌜ (task < 16) × (on < 64) ⌝ }
-    ensures { λ r. ⌜ r ≡ clockMask (now (cells .entry)) (now (last .entry)) kind task on ⌝ }
+    ensures { λ r. ⌜ r ≡ masksBy (clockMask (now (fullclocks .entry)) (now (last .entry)) kind task on) (clockMask (now (clocks .entry)) (now (last .entry)) kind task on) ⌝ }
 {
-    let mut m: u16 = 0;
-    let mut i: u32 = 0;
-    while i < 16 {
-        m = bit_of(apart(cells, last, kind, task, on, 15 - i)) + 2 * m;
-        i += 1;
+    let mut full: u32 = 0;
+    let mut arrived: u32 = 0;
+    let mut u: u32 = 0;
+    while u < 16 {
+        full = full + weight_of(apart(fullclocks, last, kind, task, on, u), u);
+        arrived = arrived + weight_of(apart(clocks, last, kind, task, on, u), u);
+        u += 1;
     }
-    m
+    Masks {
+        full: full as u16,
+        arrived: arrived as u16,
+    }
 }
 
 // The masks of the tasks whose latest conflicting access has no path to this access; empty for any other record.
@@ -153,10 +166,7 @@ pub(crate) fn clock_masks(
     ensures { λ r. ⌜ r ≡ clockMasks (now (clocks .entry)) (now (fullclocks .entry)) (now (last .entry)) kind task on ⌝ }
 {
     if is_access(kind) {
-        return Masks {
-            full: mask(fullclocks, last, kind, task, on),
-            arrived: mask(clocks, last, kind, task, on),
-        };
+        return masks(clocks, fullclocks, last, kind, task, on);
     }
     Masks {
         full: 0,
