@@ -148,17 +148,44 @@ row-cell : (w from : ℕ) (b : List ℕ) (c : ℕ) → c < w → getD (rowOf w f
 unfolding rowOf
 row-cell w from b c h = filled w (λ k. cell w b from k) (replicate w 0) c h (omega (arith, length-replicate {A = ℕ} w 0))
 
--- the copy has what the row has, since another row is stored to
-pub join-copy : (w to from : ℕ) (b : List ℕ) → ¬ (to ≡ from) → joinWith w to (rowOf w from b) b ≡ joinRow w to from b
+-- the copy has what the row has, since no column is stored to before it is read
+pub join-copy : (w to from : ℕ) (b : List ℕ) → joinWith w to (rowOf w from b) b ≡ joinRow w to from b
 unfolding joinRow joinWith turns
-join-copy w to from b d = steps w (omega arith)
+join-copy w to from b = steps w (omega arith)
   where
     steps : (n : ℕ) → n ≤ w → turns n (joinWithCell w to (rowOf w from b)) b ≡ turns n (joinCell w to from) b
     steps zero h = refl
     steps (suc n) h =
         let q : getD (rowOf w from b) n 0 ≡ cell w (turns n (joinCell w to from) b) from n =
-        row-cell w from b n h ∙ sym (turns-other w b to from n from n (omega arith) h (λ x. d (sym (x .0)))) in
+        row-cell w from b n h ∙ sym (turns-other w b to from n from n (omega arith) h (λ x. omega (arith, x .1))) in
         rw (steps n (omega arith), q)
+
+-- a row stays as it is where another is joined with it
+other-kept : (w to from : ℕ) (b : List ℕ) → ¬ (to ≡ from) → rowOf w from (joinRow w to from b) ≡ rowOf w from b
+unfolding rowOf joinRow turns
+other-kept w to from b d = steps w (omega arith)
+  where
+    steps : (n : ℕ) → n ≤ w →
+        turns n (λ c row. set row c (cell w (turns w (joinCell w to from) b) from c)) (replicate w 0)
+        ≡ turns n (λ c row. set row c (cell w b from c)) (replicate w 0)
+    steps zero h = refl
+    steps (suc n) h = rw (steps n (omega arith), turns-other w b to from w from n (omega arith) h (λ x. d (sym (x .0))))
+
+-- and where it is joined with itself
+row-kept : (w to from : ℕ) (b : List ℕ) → rowOf w from (joinRow w to from b) ≡ rowOf w from b
+row-kept w to from b = decided (equal to from)
+  where
+    decided : {p : Bool} → Reflects (to ≡ from) p → rowOf w from (joinRow w to from b) ≡ rowOf w from b
+    decided (right e) = rw e (ap (rowOf w from) (sym (join-self w from b)))
+    decided (wrong d) = other-kept w to from b d
+
+-- so one copy serves joins with any number of rows
+pub join-kept : (w to from : ℕ) (b : List ℕ) {x row : List ℕ} → rowOf w from b ≡ row → x ≡ joinWith w to row b →
+    (x ≡ joinRow w to from b) × (rowOf w from x ≡ row)
+join-kept w to from b {x} e h = (same, ap (rowOf w from) same ∙ (row-kept w to from b ∙ e))
+  where
+    same : x ≡ joinRow w to from b
+    same = h ∙ (rw (← e) (join-copy w to from b))
 
 above-max : (i x y : ℕ) → i < max x y → (i < x) ⊎ (i < y)
 above-max i x y g = decided (at-most (suc i) x)

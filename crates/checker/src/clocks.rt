@@ -15,7 +15,7 @@ ghost use mathlib.Core.Path.{_≡_};
 ghost use mathlib.Core.Bool.{false};
 ghost use lib.Dec.{eqb};
 ghost use Prim.Native.Nat.{_<_, max};
-ghost use Rattle.checker.specs.Tables.{joinRow, flow, gather, spread, mix};
+ghost use Rattle.checker.specs.Tables.{joinRow, rowOf, joinWith, flow, gather, spread, mix};
 ghost use Rattle.checker.specs.Reckonings.{clockAct, clocksArrived, clocksFull, clockApart, clockMask, clockMasks, masksBy};
 ghost use Rattle.checker.specs.Acceptance.{Fitting};
 
@@ -40,6 +40,32 @@ fn join_row(cells: &mut [u32; 1536], to: usize, from: usize)
     }
 }
 
+// A row by itself.
+fn row_of(cells: &[u32; 1536], from: usize) -> [u32; 16]
+    requires { ⌜ from < 96 ⌝ }
+    ensures { λ r. ⌜ r ≡ rowOf 16 from (now (cells .entry)) ⌝ }
+{
+    let mut row = [0u32; 16];
+    let mut c = 0;
+    while c < 16 {
+        row[c] = cells[from * 16 + c];
+        c += 1;
+    }
+    row
+}
+
+// What a row that stands by itself knows is known to row `to` as well.
+fn join_with(cells: &mut [u32; 1536], to: usize, row: &[u32; 16])
+    requires { ⌜ to < 96 ⌝ }
+    ensures { λ _. ⌜ now (cells .exit) ≡ joinWith 16 to (now (row .entry)) (now (cells .entry)) ⌝ }
+{
+    let mut c = 0;
+    while c < 16 {
+        cells[to * 16 + c] = greater(cells[to * 16 + c], row[c]);
+        c += 1;
+    }
+}
+
 // Order over an act: the task's next act knows what the heard row knows, and passes it on.
 fn flow(cells: &mut [u32; 1536], heard: usize, told: usize, task: usize)
     requires { ⌜ (heard < 96) × (told < 96) × (task < 16) ⌝ }
@@ -50,24 +76,33 @@ fn flow(cells: &mut [u32; 1536], heard: usize, told: usize, task: usize)
     join_row(cells, told, task);
 }
 
-// What a mark's lost records can hear comes to the hub.
+// What a mark's lost records can hear comes to the hub. Every object is heard, so that nothing is asked of the rows from the hub on.
 fn gather(cells: &mut [u32; 1536], mask: u32)
     ensures { λ _. ⌜ now (cells .exit) ≡ gather 16 mask (now (cells .entry)) ⌝ }
 {
     let mut r = 0;
-    while r < 96 {
+    while r < 32 {
         join_row(cells, 32, heard_by(mask, r));
+        r += 1;
+    }
+    while r < 96 {
+        join_row(cells, 32, r);
         r += 1;
     }
 }
 
-// What the hub knows goes to all that they can tell.
+// What the hub knows goes to all that they can tell, from a copy that stays in the processor's registers.
 fn spread(cells: &mut [u32; 1536], mask: u32)
     ensures { λ _. ⌜ now (cells .exit) ≡ spread 16 mask (now (cells .entry)) ⌝ }
 {
+    let hub = row_of(cells, 32);
     let mut r = 0;
+    while r < 32 {
+        join_with(cells, told_by(mask, r), &hub);
+        r += 1;
+    }
     while r < 96 {
-        join_row(cells, told_by(mask, r), 32);
+        join_with(cells, r, &hub);
         r += 1;
     }
 }
