@@ -66,14 +66,17 @@ fn join_with(cells: &mut [u32; 1536], to: usize, row: &[u32; 16])
     }
 }
 
-// Order over an act: the task's next act knows what the heard row knows, and passes it on.
+// Order over an act: the task's next act knows what the heard row knows, and passes it on, from a copy that stays in registers.
 fn flow(cells: &mut [u32; 1536], heard: usize, told: usize, task: usize)
     requires { ⌜ (heard < 96) × (told < 96) × (task < 16) ⌝ }
     ensures { λ _. ⌜ now (cells .exit) ≡ flow 16 heard told task (now (cells .entry)) ⌝ }
 {
     join_row(cells, task, heard);
-    join_row(cells, 16 + task, task);
-    join_row(cells, told, task);
+    let row = row_of(cells, task);
+    join_with(cells, 16 + task, &row);
+    if told != task {
+        join_with(cells, told, &row);
+    }
 }
 
 // What a mark's lost records can hear comes to the hub. Every object is heard, so that nothing is asked of the rows from the hub on.
