@@ -15,7 +15,7 @@ ghost use mathlib.Core.Path.{_≡_};
 ghost use mathlib.Core.Bool.{false};
 ghost use lib.Dec.{eqb};
 ghost use Prim.Native.Nat.{_<_, max};
-ghost use Rattle.checker.specs.Tables.{joinRow, rowOf, joinWith, flow, gather, spread, mix};
+ghost use Rattle.checker.specs.Tables.{joinRow, rowOf, joinWith, heardWith, flow, gather, spread, mix};
 ghost use Rattle.checker.specs.Reckonings.{clockAct, clocksArrived, clocksFull, clockApart, clockMask, clockMasks, masksBy};
 ghost use Rattle.checker.specs.Acceptance.{Fitting};
 
@@ -79,19 +79,38 @@ fn flow(cells: &mut [u32; 1536], heard: usize, told: usize, task: usize)
     }
 }
 
-// What a mark's lost records can hear comes to the hub. Every object is heard, so that nothing is asked of the rows from the hub on.
+// A row by itself with what row `from` knows, too.
+fn heard_with(cells: &[u32; 1536], from: usize, row: &[u32; 16]) -> [u32; 16]
+    requires { ⌜ from < 96 ⌝ }
+    ensures { λ r. ⌜ r ≡ heardWith 16 from (now (row .entry)) (now (cells .entry)) ⌝ }
+{
+    let mut next = [0u32; 16];
+    let mut c = 0;
+    while c < 16 {
+        next[c] = greater(row[c], cells[from * 16 + c]);
+        c += 1;
+    }
+    next
+}
+
+// What a mark's lost records can hear comes to the hub, by way of a row that stays in registers. Every object is heard, so that nothing is
+// asked of the rows from the hub on.
 fn gather(cells: &mut [u32; 1536], mask: u32)
     ensures { λ _. ⌜ now (cells .exit) ≡ gather 16 mask (now (cells .entry)) ⌝ }
 {
+    let mut known = [0u32; 16];
     let mut r = 0;
     while r < 32 {
-        join_row(cells, 32, heard_by(mask, r));
+        let next = heard_with(cells, heard_by(mask, r), &known);
+        known = next;
         r += 1;
     }
     while r < 96 {
-        join_row(cells, 32, r);
+        let next = heard_with(cells, r, &known);
+        known = next;
         r += 1;
     }
+    join_with(cells, 32, &known);
 }
 
 // What the hub knows goes to all that they can tell, from a copy that stays in the processor's registers.
