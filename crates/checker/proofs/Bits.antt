@@ -1,8 +1,8 @@
--- Masks of 16 tasks, built from the highest bit down. Assumes nothing.
+-- Masks of 16 tasks, built from the highest bit down or summed from the lowest up. Assumes nothing.
 use mathlib.Core.Path.{_≡_, refl, ap, sym, _∙_, subst}
 use mathlib.Core.Bool.{Bool, true, false}
 use Prim.Native.Nat.{ℕ, zero, suc, _+_, _*_, _-_, _^_, _/_, _%_, _≤_, _<_, zero-le, suc-le-suc}
-use native.Mathlib.Nat.{pow-suc}
+use native.Mathlib.Nat.{pow-suc, add-mul, mul-assoc, zero-mul}
 use native.Mathlib.Numerals.{add-one}
 use native.Mathlib.Omega.{arith}
 use lib.Count.{trailingZeros, under, trailing-of-zero}
@@ -110,3 +110,55 @@ upper-ext p q e (suc n) = rw (e (15 - n) (omega arith), upper-ext p q e n)
 pub mask-ext : (p q : ℕ → Bool) → ((u : ℕ) → u < 16 → p u ≡ q u) → maskOf p ≡ maskOf q
 unfolding maskOf
 mask-ext p q e = upper-ext p q e 16
+
+-- The mask as a sum
+
+-- what the tasks below u that pass the test add up to
+abbrev sums : (ℕ → Bool) → ℕ → ℕ
+sums p u = turns u (λ v m. m + bitOf (p v) * 2 ^ v) 0
+
+pub record Summed (p : ℕ → Bool) (u m : ℕ) : Type 0 where
+  pub room : m < 2 ^ u
+  pub is : m ≡ sums p u
+
+pub weight-small : (u : ℕ) → u < 16 → 1 * 2 ^ u % 4294967296 ≡ 1 * 2 ^ u
+weight-small u h = let k : u ≤ 15 = omega arith in let p : 2 ^ u ≤ 2 ^ 15 = pow-mono k in omega arith
+
+sum-lt : (u m : ℕ) (b : Bool) → m < 2 ^ u → m + bitOf b * 2 ^ u < 2 ^ (u + 1)
+sum-lt u m true h = rw (add-one u) (omega (arith, pow-suc 2 u))
+sum-lt u m false h = rw (add-one u) (omega (arith, pow-suc 2 u))
+
+module _ {p : ℕ → Bool} where
+  pub no-sum : Summed p 0 0
+  unfolding turns
+  no-sum = record { room = omega arith; is = refl }
+
+  pub one-sum : {u m r : ℕ} {b : Bool} → Summed p u m → r ≡ bitOf b * 2 ^ u → b ≡ p u → Summed p (u + 1) (m + r)
+  unfolding turns
+  one-sum {u} {m} {b = b} s e t = record { room = rw e (sum-lt u m b (s .room)); is = rw (add-one u) (rw (e, t, s .is)) }
+
+  pub sum-fits : {u m : ℕ} → Summed p u m → u ≤ 16 → m < 65536
+  sum-fits {u} s h = let q : 2 ^ u ≤ 2 ^ 16 = pow-mono h in omega (arith, s .room)
+
+-- the highest n tasks above the sum of the others make the whole mask
+sums-upper : (p : ℕ → Bool) (k n : ℕ) → n + k ≡ 16 → upper p n * 2 ^ k + sums p k ≡ upper p 16
+unfolding turns
+sums-upper p zero n e = let q : n ≡ 16 = omega arith in rw q (omega arith)
+sums-upper p (suc k) n e =
+    let q : 15 - n ≡ k = omega arith in
+    shifted (upper p n) (2 ^ k) (bitOf (p k)) (sums p k) (pow-suc 2 k)
+    ∙ (rw q at (sums-upper p k (suc n) (omega arith)))
+  where
+    shifted : (x y b t : ℕ) {z : ℕ} → z ≡ y * 2 → x * z + (t + b * y) ≡ (b + 2 * x) * y + t
+    shifted x y b t e = rw e (omega (arith, mul-assoc x y 2, add-mul b (2 * x) y, mul-assoc 2 x y))
+
+upper-none : (p : ℕ → Bool) → upper p 0 ≡ 0
+unfolding turns
+upper-none p = refl
+
+sums-all : (p : ℕ → Bool) (n : ℕ) → n ≡ 16 → sums p n ≡ upper p 16
+sums-all p n e = let z : upper p 0 * 2 ^ n ≡ 0 = rw (upper-none p) (zero-mul (2 ^ n)) in omega (arith, sums-upper p n 0 (omega arith))
+
+pub all-sums : {p : ℕ → Bool} {u m : ℕ} → Summed p u m → u ≤ 16 → 16 ≤ u → m ≡ maskOf p
+unfolding maskOf
+all-sums {p} {u} s h l = s .is ∙ sums-all p u (omega arith)

@@ -27,7 +27,7 @@ heard-at-due mask t h = rw (lt-ltb t 16 h)
 heard-at-acted : (mask t : ℕ) → t < 16 → isHeard mask (16 + t) ≡ false
 heard-at-acted mask t h = rw (le-ltb (16 + t) 16 (omega arith), lt-leb 32 (16 + t) (omega arith))
 
-heard-at-object : (mask r : ℕ) → 32 ≤ r → isHeard mask r ≡ true
+pub heard-at-object : (mask r : ℕ) → 32 ≤ r → isHeard mask r ≡ true
 heard-at-object mask r h = rw (le-ltb r 16 (omega arith), le-leb 32 r h)
 
 told-at-due : (mask t : ℕ) → t < 16 → isTold mask t ≡ bit mask t
@@ -36,7 +36,7 @@ told-at-due mask t h = let e : t % 16 ≡ t = omega arith in rw (lt-ltb t 32 (om
 told-at-acted : (mask t : ℕ) → t < 16 → isTold mask (16 + t) ≡ bit mask t
 told-at-acted mask t h = let e : (16 + t) % 16 ≡ t = omega arith in rw (lt-ltb (16 + t) 32 (omega arith), e)
 
-told-at-object : (mask r : ℕ) → 32 ≤ r → isTold mask r ≡ true
+pub told-at-object : (mask r : ℕ) → 32 ≤ r → isTold mask r ≡ true
 told-at-object mask r h = rw (le-ltb r 32 h)
 
 -- The tests tell what a mark hears and tells, if it names a task

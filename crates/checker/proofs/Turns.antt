@@ -13,6 +13,10 @@ module _ {A : Type 0} {f : ℕ → A → A} {b : A} where
   unfolding turns
   no-turn = record { is = refl }
 
+  pub no-turn-yet : {x : A} → x ≡ b → Turned f b 0 x
+  unfolding turns
+  no-turn-yet e = record { is = e }
+
   pub one-turn : {x y : A} {c : ℕ} → Turned f b c x → y ≡ f c x → Turned f b (c + 1) y
   unfolding turns
   one-turn {c = c} e h = record { is = rw (add-one c) (h ∙ ap (f c) (e .is)) }

@@ -60,6 +60,10 @@ joinWithCell w to row c b = set b (to * w + c) (max (cell w b to c) (getD row c 
 unfoldable pub joinWith : ℕ → ℕ → List ℕ → List ℕ → List ℕ
 joinWith w to row b = turns w (joinWithCell w to row) b
 
+-- such a row with what row `from` knows, too
+unfoldable pub heardWith : ℕ → ℕ → List ℕ → List ℕ → List ℕ
+heardWith w from row b = turns w (λ c x. set x c (max (getD row c 0) (cell w b from c))) (replicate w 0)
+
 -- order over an act of a task: its next act knows what the heard row knows, and passes it on
 unfoldable pub flow : ℕ → ℕ → ℕ → ℕ → List ℕ → List ℕ
 flow w heard told task b = joinRow w told (dueRow task) (joinRow w (actedRow task) (dueRow task) (joinRow w (dueRow task) heard b))

@@ -4,7 +4,7 @@ use crate::history::is_access;
 use crate::history::latest_number;
 use crate::kinds::LOST;
 use crate::masks::Masks;
-use crate::masks::bit_of;
+use crate::masks::weight_of;
 use crate::numbers::Task;
 use crate::refusals::both;
 use crate::rows::heard_by;
@@ -15,8 +15,8 @@ ghost use mathlib.Core.Path.{_≡_};
 ghost use mathlib.Core.Bool.{false};
 ghost use lib.Dec.{eqb};
 ghost use Prim.Native.Nat.{_<_, max};
-ghost use Rattle.checker.specs.Tables.{joinRow, flow, gather, spread, mix};
-ghost use Rattle.checker.specs.Reckonings.{clockAct, clocksArrived, clocksFull, clockApart, clockMask, clockMasks};
+ghost use Rattle.checker.specs.Tables.{joinRow, rowOf, joinWith, heardWith, flow, gather, spread, mix};
+ghost use Rattle.checker.specs.Reckonings.{clockAct, clocksArrived, clocksFull, clockApart, clockMask, clockMasks, masksBy};
 ghost use Rattle.checker.specs.Acceptance.{Fitting};
 
 fn greater(a: u32, b: u32) -> u32
@@ -40,34 +40,91 @@ fn join_row(cells: &mut [u32; 1536], to: usize, from: usize)
     }
 }
 
-// Order over an act: the task's next act knows what the heard row knows, and passes it on.
+// A row by itself.
+fn row_of(cells: &[u32; 1536], from: usize) -> [u32; 16]
+    requires { ⌜ from < 96 ⌝ }
+    ensures { λ r. ⌜ r ≡ rowOf 16 from (now (cells .entry)) ⌝ }
+{
+    let mut row = [0u32; 16];
+    let mut c = 0;
+    while c < 16 {
+        row[c] = cells[from * 16 + c];
+        c += 1;
+    }
+    row
+}
+
+// What a row that stands by itself knows is known to row `to` as well.
+fn join_with(cells: &mut [u32; 1536], to: usize, row: &[u32; 16])
+    requires { ⌜ to < 96 ⌝ }
+    ensures { λ _. ⌜ now (cells .exit) ≡ joinWith 16 to (now (row .entry)) (now (cells .entry)) ⌝ }
+{
+    let mut c = 0;
+    while c < 16 {
+        cells[to * 16 + c] = greater(cells[to * 16 + c], row[c]);
+        c += 1;
+    }
+}
+
+// Order over an act: the task's next act knows what the heard row knows, and passes it on, from a copy that stays in registers.
 fn flow(cells: &mut [u32; 1536], heard: usize, told: usize, task: usize)
     requires { ⌜ (heard < 96) × (told < 96) × (task < 16) ⌝ }
     ensures { λ _. ⌜ now (cells .exit) ≡ flow 16 heard told task (now (cells .entry)) ⌝ }
 {
     join_row(cells, task, heard);
-    join_row(cells, 16 + task, task);
-    join_row(cells, told, task);
-}
-
-// What a mark's lost records can hear comes to the hub.
-fn gather(cells: &mut [u32; 1536], mask: u32)
-    ensures { λ _. ⌜ now (cells .exit) ≡ gather 16 mask (now (cells .entry)) ⌝ }
-{
-    let mut r = 0;
-    while r < 96 {
-        join_row(cells, 32, heard_by(mask, r));
-        r += 1;
+    let row = row_of(cells, task);
+    join_with(cells, 16 + task, &row);
+    if told != task {
+        join_with(cells, told, &row);
     }
 }
 
-// What the hub knows goes to all that they can tell.
+// A row by itself with what row `from` knows, too.
+fn heard_with(cells: &[u32; 1536], from: usize, row: &[u32; 16]) -> [u32; 16]
+    requires { ⌜ from < 96 ⌝ }
+    ensures { λ r. ⌜ r ≡ heardWith 16 from (now (row .entry)) (now (cells .entry)) ⌝ }
+{
+    let mut next = [0u32; 16];
+    let mut c = 0;
+    while c < 16 {
+        next[c] = greater(row[c], cells[from * 16 + c]);
+        c += 1;
+    }
+    next
+}
+
+// What a mark's lost records can hear comes to the hub, by way of a row that stays in registers. Every object is heard, so that nothing is
+// asked of the rows from the hub on.
+fn gather(cells: &mut [u32; 1536], mask: u32)
+    ensures { λ _. ⌜ now (cells .exit) ≡ gather 16 mask (now (cells .entry)) ⌝ }
+{
+    let mut known = [0u32; 16];
+    let mut r = 0;
+    while r < 32 {
+        let next = heard_with(cells, heard_by(mask, r), &known);
+        known = next;
+        r += 1;
+    }
+    while r < 96 {
+        let next = heard_with(cells, r, &known);
+        known = next;
+        r += 1;
+    }
+    join_with(cells, 32, &known);
+}
+
+// What the hub knows goes to all that they can tell, from a copy that stays in the processor's registers.
 fn spread(cells: &mut [u32; 1536], mask: u32)
     ensures { λ _. ⌜ now (cells .exit) ≡ spread 16 mask (now (cells .entry)) ⌝ }
 {
+    let hub = row_of(cells, 32);
     let mut r = 0;
+    while r < 32 {
+        join_with(cells, told_by(mask, r), &hub);
+        r += 1;
+    }
     while r < 96 {
-        join_row(cells, told_by(mask, r), 32);
+        join_with(cells, r, &hub);
         r += 1;
     }
 }
@@ -127,17 +184,30 @@ fn apart(cells: &[u32; 1536], last: &[u32; 2048], kind: u8, task: u32, on: u32, 
     )
 }
 
-fn mask(cells: &[u32; 1536], last: &[u32; 2048], kind: u8, task: u32, on: u32) -> u16
+// Both masks of an access. Sums of weights that grow upward, of both tables in one loop, are what the compiler makes vector code of.
+fn masks(
+    clocks: &[u32; 1536],
+    fullclocks: &[u32; 1536],
+    last: &[u32; 2048],
+    kind: u8,
+    task: u32,
+    on: u32,
+) -> Masks
     requires { ⌜ (task < 16) × (on < 64) ⌝ }
-    ensures { λ r. ⌜ r ≡ clockMask (now (cells .entry)) (now (last .entry)) kind task on ⌝ }
+    ensures { λ r. ⌜ r ≡ masksBy (clockMask (now (fullclocks .entry)) (now (last .entry)) kind task on) (clockMask (now (clocks .entry)) (now (last .entry)) kind task on) ⌝ }
 {
-    let mut m: u16 = 0;
-    let mut i: u32 = 0;
-    while i < 16 {
-        m = bit_of(apart(cells, last, kind, task, on, 15 - i)) + 2 * m;
-        i += 1;
+    let mut full: u32 = 0;
+    let mut arrived: u32 = 0;
+    let mut u: u32 = 0;
+    while u < 16 {
+        full = full + weight_of(apart(fullclocks, last, kind, task, on, u), u);
+        arrived = arrived + weight_of(apart(clocks, last, kind, task, on, u), u);
+        u += 1;
     }
-    m
+    Masks {
+        full: full as u16,
+        arrived: arrived as u16,
+    }
 }
 
 // The masks of the tasks whose latest conflicting access has no path to this access; empty for any other record.
@@ -153,10 +223,7 @@ pub(crate) fn clock_masks(
     ensures { λ r. ⌜ r ≡ clockMasks (now (clocks .entry)) (now (fullclocks .entry)) (now (last .entry)) kind task on ⌝ }
 {
     if is_access(kind) {
-        return Masks {
-            full: mask(fullclocks, last, kind, task, on),
-            arrived: mask(clocks, last, kind, task, on),
-        };
+        return masks(clocks, fullclocks, last, kind, task, on);
     }
     Masks {
         full: 0,

@@ -4,7 +4,7 @@ use crate::history::is_access;
 use crate::history::latest_number;
 use crate::numbers::RecordNumber;
 ghost use mathlib.Core.Path.{_≡_};
-ghost use Prim.Native.Nat.{_<_, _≤_};
+ghost use Prim.Native.Nat.{_<_, _≤_, _*_, _^_};
 ghost use Rattle.checker.specs.Reckonings.{bitOf, lowestTask};
 ghost use Rattle.checker.specs.Step.{judgedBy, answeredBy, sameMasks};
 ghost use mathlib.Core.Bool.{false, not};
@@ -21,6 +21,14 @@ pub(crate) fn bit_of(b: bool) -> u16
     ensures { λ r. ⌜ (r ≡ bitOf b) × (r ≤ 1) ⌝ }
 {
     if b { 1 } else { 0 }
+}
+
+// What task u adds to a mask that it is in or not.
+pub(crate) fn weight_of(b: bool, u: u32) -> u32
+    requires { ⌜ u < 16 ⌝ }
+    ensures { λ r. ⌜ r ≡ bitOf b * 2 ^ u ⌝ }
+{
+    if b { 1 << u } else { 0 }
 }
 
 // The lowest-numbered task of a mask that is not empty.

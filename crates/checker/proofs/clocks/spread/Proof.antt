@@ -1,30 +1,58 @@
--- The hub is joined to what a mark can tell, row by row.
-use Prim.Native.Nat.{_≤_, _-_}
+-- A copy of the hub is joined to what a mark can tell, row by row; every object is told.
+use mathlib.Core.Path.{_≡_, sym}
+use mathlib.Core.List.{List}
+use Prim.Native.Nat.{ℕ, _≤_, _-_}
 use native.Mathlib.Omega.{arith}
-use Rattle.checker.specs.Tables.{joinRow, isTold, rowOrHub, spread}
+use Rattle.checker.specs.Tables.{joinRow, rowOf, isTold, rowOrHub, spread}
 use Rattle.checker.proofs.Turns.{Turned, no-turn, one-turn, all-turns}
+use Rattle.checker.proofs.Tables.{join-kept}
+use Rattle.checker.proofs.Marks.{told-at-object}
 use borrow.Author.Needs.{needs}
 use Rattle.checker.proofs.clocks.spread.Statement.{statement}
 use Rattle.checker.proofs.clocks.spread.Tie as tie
 
 abbrev Inv-loop : tie.InvT-loop
-Inv-loop cells₀ mask r₀ cells r = (r ≤ 96) × Turned (λ q b. joinRow 16 (rowOrHub (isTold mask q) q) 32 b) cells₀ r cells
+Inv-loop cells₀ mask hub r₀ cells r = (r ≤ 32) × (rowOf 16 32 cells ≡ hub) × Turned (λ q b. joinRow 16 (rowOrHub (isTold mask q) q) 32 b) cells₀ r cells
 
 abbrev μ-loop : tie.MeasureT-loop
-μ-loop cells₀ mask r₀ cells r = 96 - r
+μ-loop cells₀ mask hub r₀ cells r = 32 - r
 
-loop-holds : tie.Need-loop-holds Inv-loop μ-loop
-loop-holds c = (search needs, no-turn)
+abbrev Inv-loop2 : tie.InvT-loop2
+Inv-loop2 cells₀ mask hub r₀ cells r =
+    (32 ≤ r)
+    × (r ≤ 96)
+    × (rowOf 16 32 cells ≡ hub)
+    × ((b : List ℕ) →
+    Turned (λ q x. joinRow 16 (rowOrHub (isTold mask q) q) 32 x) b r₀ cells₀ → Turned (λ q x. joinRow 16 (rowOrHub (isTold mask q) q) 32 x) b r cells)
 
-loop-again : tie.Need-loop-again Inv-loop μ-loop
-loop-again c = (search needs, one-turn (c .before .before .before .before .loop .inv .1) (rw (← c .before .told-by .ensures .0) (c .join-row .ensures)))
+abbrev μ-loop2 : tie.MeasureT-loop2
+μ-loop2 cells₀ mask hub r₀ cells r = 96 - r
 
-returns : tie.Need-returns Inv-loop μ-loop
+loop-holds : tie.Need-loop-holds Inv-loop μ-loop Inv-loop2 μ-loop2
+loop-holds c = (search needs, sym (c .row-of .ensures), no-turn)
+
+loop-again : tie.Need-loop-again Inv-loop μ-loop Inv-loop2 μ-loop2
+loop-again c =
+    let i = c .before .before .before .before .before .loop .inv in
+    let j = join-kept 16 _ 32 _ (i .1) (c .join-with .ensures) in
+    (search needs, j .1, one-turn (i .2) (rw (← c .before .before .told-by .ensures .0) (j .0)))
+
+loop2-holds : tie.Need-loop2-holds Inv-loop μ-loop Inv-loop2 μ-loop2
+loop2-holds c = (search needs, search needs, c .before .loop .inv .1, λ b t. t)
+
+loop2-again : tie.Need-loop2-again Inv-loop μ-loop Inv-loop2 μ-loop2
+loop2-again c =
+    let i = c .before .before .before .before .loop2 .inv in
+    let j = join-kept 16 _ 32 _ (i .2) (c .join-with2 .ensures) in
+    let mask = c .before .before .before .before .before .before .before .before .before .args .mask in
+    (search needs, search needs, j .1, λ b t. one-turn (i .3 b t) (rw (told-at-object mask _ (i .0)) (j .0)))
+
+returns : tie.Need-returns Inv-loop μ-loop Inv-loop2 μ-loop2
 unfolding spread
-returns c = all-turns 96 (c .before .loop .inv .1) (omega arith) (omega arith)
+returns c = all-turns 96 (c .before .loop2 .inv .3 _ (c .before .before .before .loop .inv .2)) (omega arith) (omega arith)
 
 pub spread-spec : {M : Type 1} → statement M
 spread-spec =
     tie.close (tie.spec
-    Inv-loop μ-loop loop-holds (λ c κs. search needs) (λ c κs. search needs) (λ c. search needs) (λ c. search needs)
-    loop-again returns)
+    Inv-loop μ-loop Inv-loop2 μ-loop2 (λ c κs. search needs) loop-holds (λ c κs. search needs) (λ c κs. search needs) (λ c. search needs)
+    (λ c. search needs) loop-again loop2-holds (λ c κs. search needs) (λ c. search needs) (λ c. search needs) loop2-again returns)

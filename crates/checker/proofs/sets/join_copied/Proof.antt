@@ -11,7 +11,7 @@ returns c = rw (← c .if1 .taken) (join-self 2048 _ _)
 returns-2 : tie.Need-returns-2
 returns-2 c =
     let r = c .before .before .before in
-    c .join-with .ensures ∙ rw (r .row-of .ensures) (join-copy 2048 _ _ _ (r .before .before .if1 .left))
+    c .join-with .ensures ∙ rw (r .row-of .ensures) (join-copy 2048 _ _ _)
 
 pub join-copied-spec : {M : Type 1} → statement M
 join-copied-spec = tie.close (tie.spec returns (λ c κs. search needs) (λ c κs. search needs) returns-2)

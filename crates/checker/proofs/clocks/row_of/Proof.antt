@@ -1,0 +1,32 @@
+-- A row of the clocks copied, column by column.
+use mathlib.Core.Path.{refl}
+use Prim.Native.Nat.{_≤_, _-_}
+use native.Mathlib.Omega.{arith}
+use lib.ListN.{set}
+use Rattle.checker.specs.Tables.{cell, rowOf}
+use Rattle.checker.proofs.Turns.{Turned, no-turn, one-turn, all-turns}
+use borrow.Author.Needs.{needs}
+use Rattle.checker.proofs.clocks.row_of.Statement.{statement}
+use Rattle.checker.proofs.clocks.row_of.Tie as tie
+
+abbrev Inv-loop : tie.InvT-loop
+Inv-loop cells from row₀ c₀ row c = (c ≤ 16) × Turned (λ k x. set x k (cell 16 cells from k)) row₀ c row
+
+abbrev μ-loop : tie.MeasureT-loop
+μ-loop cells from row₀ c₀ row c = 16 - c
+
+loop-holds : tie.Need-loop-holds Inv-loop μ-loop
+loop-holds c = (search needs, no-turn)
+
+loop-again : tie.Need-loop-again Inv-loop μ-loop
+loop-again c = (search needs, one-turn (c .before .before .loop .inv .1) refl)
+
+returns : tie.Need-returns Inv-loop μ-loop
+unfolding rowOf
+returns c = all-turns 16 (c .before .loop .inv .1) (omega arith) (omega arith)
+
+pub row-of-spec : {M : Type 1} → statement M
+row-of-spec =
+    tie.close (tie.spec
+    Inv-loop μ-loop loop-holds (λ c. search needs) (λ c. search needs) (λ c. search needs) (λ c. search needs)
+    (λ c. search needs) (λ c. search needs) (λ c. search needs) (λ c. search needs) loop-again returns)
