@@ -1,15 +1,15 @@
 -- The first place of a byte, what stands before and after it, and words at the start of a list. Assumes nothing.
-use mathlib.Core.Path.{_≡_, refl, ap, ap₂, _∙_}
+use mathlib.Core.Path.{_≡_, refl, sym, ap, ap₂, _∙_}
 use mathlib.Core.Bool.{Bool, true, false, cond, _&&_}
 use mathlib.Core.List.{List, [], _∷_, _++_, append-nil}
-use Prim.Native.Nat.{ℕ, zero, suc, _+_, _≤_, _<_}
+use Prim.Native.Nat.{ℕ, zero, suc, _+_, _-_, _≤_, _<_}
 use native.Mathlib.Nat.{add-zero}
 use native.Mathlib.Numerals.{add-one}
 use native.Mathlib.Omega.{arith}
-use lib.Dec.{eqb}
-use lib.ListN.{length, getD, take, drop, drop-of-length-le, length-append}
-use lib.Seq.{drop-cons}
-use borrow.Author.Tests.{eq-eqb, ne-eqb, eqb-true, eqb-false}
+use lib.Dec.{eqb, ltb}
+use lib.ListN.{length, getD, take, drop, drop-of-length-le, length-append, length-drop, take-append-drop}
+use lib.Seq.{drop-cons, drop-drop, length-take-le}
+use borrow.Author.Tests.{eq-eqb, ne-eqb, eqb-true, eqb-false, lt-ltb, le-ltb, ltb-false}
 use Rattle.report.specs.Bytes.{indexOf, upTo, after, startsWith, isWord}
 
 -- The first place of a byte
@@ -45,6 +45,26 @@ index-fits b (x ∷ s) = picked (eqb x b) (index-fits b s)
     picked : (t : Bool) → indexOf b s ≤ length s → cond t zero (suc (indexOf b s)) ≤ suc (length s)
     picked true h = omega arith
     picked false h = omega arith
+
+-- b was seen, or it stands from place i on
+abbrev pub seenFrom : Bool → ℕ → List ℕ → ℕ → Bool
+seenFrom t b s i = cond t true (ltb (i + indexOf b (drop i s)) (length s))
+
+pub seen-none : (b : ℕ) (s : List ℕ) → ltb (indexOf b s) (length s) ≡ seenFrom false b s 0
+seen-none b s = let q : indexOf b s ≡ 0 + indexOf b s = omega arith in ap (λ (k : ℕ). ltb k (length s)) q
+
+pub seen-next : (t : Bool) (b : ℕ) (s : List ℕ) (i : ℕ) → i < length s → seenFrom t b s i ≡ seenFrom (cond (eqb (getD s i 0) b) true t) b s (i + 1)
+seen-next t b s i h = picked (eqb (getD s i 0) b) refl t
+  where
+    picked : (e : Bool) → eqb (getD s i 0) b ≡ e → (t : Bool) → seenFrom t b s i ≡ seenFrom (cond e true t) b s (i + 1)
+    picked true e true = refl
+    picked true e false = rw (found-at b s i h (eqb-true (getD s i 0) b e)) (lt-ltb i (length s) h)
+    picked false e true = refl
+    picked false e false = rw (passed-at b s i h (eqb-false (getD s i 0) b e))
+
+pub seen-all : (t : Bool) (b : ℕ) (s : List ℕ) (i : ℕ) → length s ≤ i → seenFrom t b s i ≡ t
+seen-all true b s i h = refl
+seen-all false b s i h = rw (ended-at b s i h) (le-ltb i (length s) h)
 
 -- Before and after
 
@@ -90,6 +110,17 @@ index-append b [] s h = omega arith
 index-append b (x ∷ w) s h =
     let (f, g) = first-not (eqb x b) (indexOf b w) (length w) h in
     rw (f, index-append b w s g) (omega arith)
+
+-- a part without b is passed over
+pub passed-over : (b : ℕ) (s : List ℕ) (i j : ℕ) → i ≤ j → j ≤ length s
+    → ltb (indexOf b (take (j - i) (drop i s))) (length (take (j - i) (drop i s))) ≡ false → i + indexOf b (drop i s) ≡ j + indexOf b (drop j s)
+passed-over b s i j h l e =
+    let w : List ℕ = take (j - i) (drop i s) in
+    let p : length w ≡ j - i = length-take-le (j - i) (drop i s) (rw (length-drop i s) (omega arith)) in
+    let n : Without b w = omega (arith, ltb-false (indexOf b w) (length w) e, index-fits b w) in
+    let g : i + (j - i) ≡ j = omega arith in
+    let q : drop i s ≡ w ++ drop j s = sym (take-append-drop (j - i) (drop i s)) ∙ ap (λ (t : List ℕ). w ++ t) (drop-drop (j - i) i s ∙ ap (λ (k : ℕ). drop k s) g) in
+    ap (λ (t : List ℕ). i + indexOf b t) q ∙ ap (λ (k : ℕ). i + k) (index-append b w (drop j s) n) ∙ omega arith
 
 -- there is no b before the first b
 pub before-without : (b : ℕ) (s : List ℕ) → Without b (upTo b s)

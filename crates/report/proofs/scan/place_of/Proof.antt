@@ -1,32 +1,20 @@
--- `report::scan::place_of`: what is left to look through has its first b where the whole has it. Assumes nothing.
-use mathlib.Core.Path.{_≡_, refl, sym, _∙_}
-use Prim.Native.Nat.{_+_, _-_, _≤_}
-use lib.ListN.{length, drop}
+-- `report::scan::place_of`: sixteen bytes without b are passed over. Assumes nothing.
+use mathlib.Core.Path.{sym, _∙_}
+use Prim.Native.Nat.{_+_}
+use native.Mathlib.Omega.{arith}
 use borrow.Author.Needs.{needs}
-use Rattle.report.specs.Bytes.{indexOf}
-use Rattle.report.proofs.Bytes.{found-at, passed-at, ended-at}
+use Rattle.report.proofs.Bytes.{passed-over}
 use Rattle.report.proofs.scan.place_of.Statement.{statement}
 use Rattle.report.proofs.scan.place_of.Tie as tie
 
-abbrev Inv-loop : tie.InvT-loop
-Inv-loop text from b i₀ i = (i ≤ length text) × (from + indexOf b (drop from text) ≡ i + indexOf b (drop i text))
-
-abbrev μ-loop : tie.MeasureT-loop
-μ-loop text from b i₀ i = length text - i
-
-loop-holds : tie.Need-loop-holds Inv-loop μ-loop
-loop-holds c = (search needs, refl)
-
-returns : tie.Need-returns Inv-loop μ-loop
-returns c = (sym (c .before .before .before .loop .inv .1 ∙ found-at _ _ _ (c .before .before .loop-test .taken) (c .if1 .taken)), search needs)
-
-loop-again : tie.Need-loop-again Inv-loop μ-loop
-loop-again c = (search needs, c .before .before .before .loop .inv .1 ∙ passed-at _ _ _ (c .before .before .loop-test .taken) (c .if1 .left))
-
-returns-2 : tie.Need-returns-2 Inv-loop μ-loop
-returns-2 c = (sym (c .before .loop .inv .1 ∙ ended-at _ _ _ (c .loop-test .left)), search needs)
+returns-3 : tie.Need-returns-3
+returns-3 c =
+    let h = c .before .before in
+    let a = h .before .before .before .before .args in
+    (c .place-in3 .ensures .0 ∙ sym (passed-over (a .b) (a .text .now) (a .from) (a .from + 16) (omega arith) (omega arith) (sym (h .has .ensures) ∙ c .before .if2 .left)), search needs)
 
 pub place-of-spec : {M : Type 1} → statement M
 place-of-spec =
     tie.close (tie.spec
-    Inv-loop μ-loop loop-holds (λ c. search needs) returns (λ c. search needs) (λ c. search needs) loop-again returns-2)
+    (λ c. search needs) (λ c κs. search needs) (λ c. search needs) (λ c. search needs) (λ c. search needs) (λ c. search needs) (λ c. search needs) (λ c κs. search needs)
+    (λ c κs. search needs) (λ c. search needs) (λ c. search needs) (λ c κs. search needs) returns-3)
