@@ -2,15 +2,15 @@
 use mathlib.Core.Path.{_≡_, refl, sym, ap, ap₂, _∙_}
 use mathlib.Core.Bool.{Bool, true, false, cond, _&&_}
 use mathlib.Core.List.{List, [], _∷_, _++_, append-nil}
-use Prim.Native.Nat.{ℕ, zero, suc, _+_, _-_, _≤_, _<_}
+use Prim.Native.Nat.{ℕ, zero, suc, _+_, _*_, _-_, _≤_, _<_}
 use native.Mathlib.Nat.{add-zero}
 use native.Mathlib.Numerals.{add-one}
 use native.Mathlib.Omega.{arith}
 use lib.Dec.{eqb, ltb}
 use lib.ListN.{length, getD, take, drop, drop-of-length-le, length-append, length-drop, take-append-drop}
 use lib.Seq.{drop-cons, drop-drop, length-take-le}
-use borrow.Author.Tests.{eq-eqb, ne-eqb, eqb-true, eqb-false, lt-ltb, le-ltb, ltb-false}
-use Rattle.report.specs.Bytes.{indexOf, upTo, after, startsWith, isWord}
+use borrow.Author.Tests.{eq-eqb, ne-eqb, eqb-true, eqb-false, lt-ltb, le-ltb, ltb-true, ltb-false}
+use Rattle.report.specs.Bytes.{indexOf, upTo, after, startsWith, isWord, little}
 
 -- The first place of a byte
 
@@ -202,3 +202,61 @@ is-the-word w s e =
 
 pub word-fits : (w s : List ℕ) → startsWith w s ≡ true → length w ≤ length s
 word-fits w s e = omega (arith, simp length-append at (ap length (word-split w s e)))
+
+-- Bytes as one number
+
+-- no element is k or more
+abbrev pub Below : ℕ → List ℕ → Type 0
+Below k s = (i : ℕ) → getD s i 0 < k
+
+unfoldable pub allBelow : ℕ → List ℕ → Bool
+allBelow k [] = true
+allBelow k (x ∷ s) = ltb x k && allBelow k s
+
+pub all-below : (k : ℕ) (s : List ℕ) → 0 < k → allBelow k s ≡ true → Below k s
+unfolding allBelow
+all-below k [] h e i = h
+all-below k (x ∷ s) h e zero = ltb-true x k (and-true (ltb x k) (allBelow k s) e .0)
+all-below k (x ∷ s) h e (suc i) = all-below k s h (and-true (ltb x k) (allBelow k s) e .1) i
+
+below-take : (k n : ℕ) (s : List ℕ) → 0 < k → Below k s → Below k (take n s)
+below-take k zero s h b i = h
+below-take k (suc n) [] h b i = h
+below-take k (suc n) (x ∷ s) h b zero = b zero
+below-take k (suc n) (x ∷ s) h b (suc i) = below-take k n s h (λ j. b (suc j)) i
+
+below-drop : (k n : ℕ) (s : List ℕ) → Below k s → Below k (drop n s)
+below-drop k zero s b i = b i
+below-drop k (suc n) [] b i = b i
+below-drop k (suc n) (x ∷ s) b i = below-drop k n s (λ j. b (suc j)) i
+
+-- the number has the bytes
+little-same : (w v : List ℕ) → length w ≡ length v → Below 256 w → Below 256 v → little w ≡ little v → w ≡ v
+unfolding little
+little-same [] [] h a b e = refl
+little-same [] (y ∷ v) h a b e = absurd (omega arith)
+little-same (x ∷ w) [] h a b e = absurd (omega arith)
+little-same (x ∷ w) (y ∷ v) h a b e =
+    let p : x < 256 = a zero in
+    let q : y < 256 = b zero in
+    let f : x ≡ y = omega arith in
+    let g : little w ≡ little v = omega arith in
+    ap₂ (λ (z : ℕ) (l : List ℕ). z ∷ l) f (little-same w v (omega arith) (λ i. a (suc i)) (λ i. b (suc i)) g)
+
+-- a number of the bytes from place i on, from that of the bytes from the next place on
+pub little-next : (k : ℕ) (s : List ℕ) (i j : ℕ) → j ≡ i + 1 → i < length s → little (take (suc k) (drop i s)) ≡ getD s i 0 + 256 * little (take k (drop j s))
+unfolding little
+little-next k s i j q h = rw (q, add-one i, drop-cons s i 0 h)
+
+pub little-none : (s : List ℕ) → little (take 0 s) ≡ 0
+unfolding little
+little-none s = refl
+
+-- so eight bytes that make the same number are the same
+pub same-eight : (s t : List ℕ) (i j : ℕ) → i + 8 ≤ length s → j + 8 ≤ length t → Below 256 s → Below 256 t
+    → little (take 8 (drop i s)) ≡ little (take 8 (drop j t)) → take 8 (drop i s) ≡ take 8 (drop j t)
+same-eight s t i j h k a b e =
+    let p : length (take 8 (drop i s)) ≡ 8 = length-take-le 8 (drop i s) (rw (length-drop i s) (omega arith)) in
+    let q : length (take 8 (drop j t)) ≡ 8 = length-take-le 8 (drop j t) (rw (length-drop j t) (omega arith)) in
+    little-same (take 8 (drop i s)) (take 8 (drop j t)) (p ∙ sym q)
+    (below-take 256 8 (drop i s) (omega arith) (below-drop 256 i s a)) (below-take 256 8 (drop j t) (omega arith) (below-drop 256 j t b)) e

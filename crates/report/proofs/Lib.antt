@@ -3,6 +3,7 @@ pub mod Lines
 pub mod Numerals
 pub mod LineForm
 pub mod RoundTrip
+pub mod Ops
 pub mod Wrote
 pub mod Digits
 pub mod Lengths
