@@ -66,6 +66,25 @@ pub seen-all : (t : Bool) (b : ℕ) (s : List ℕ) (i : ℕ) → length s ≤ i 
 seen-all true b s i h = refl
 seen-all false b s i h = rw (ended-at b s i h) (le-ltb i (length s) h)
 
+-- n bytes of m were counted, and from place i on those before the first b count if no b was met (a is 1, not 0)
+pub count-next : (a n m b : ℕ) (s : List ℕ) (i : ℕ) → a ≤ 1 → i < length s → m ≡ n + a * indexOf b (drop i s)
+    → m ≡ (n + cond (eqb (getD s i 0) b) 0 a) + cond (eqb (getD s i 0) b) 0 a * indexOf b (drop (i + 1) s)
+count-next a n m b s i l h e = picked (eqb (getD s i 0) b) refl a l e
+  where
+    picked : (t : Bool) → eqb (getD s i 0) b ≡ t → (a : ℕ) → a ≤ 1 → m ≡ n + a * indexOf b (drop i s)
+        → m ≡ (n + cond t 0 a) + cond t 0 a * indexOf b (drop (i + 1) s)
+    picked true f zero l e = omega arith
+    picked true f (suc zero) l e = omega (arith, found-at b s i h (eqb-true (getD s i 0) b f))
+    picked true f (suc (suc a)) l e = absurd (omega arith)
+    picked false f zero l e = omega arith
+    picked false f (suc zero) l e = omega (arith, passed-at b s i h (eqb-false (getD s i 0) b f))
+    picked false f (suc (suc a)) l e = absurd (omega arith)
+
+pub count-all : (a n m b : ℕ) (s : List ℕ) (i : ℕ) → a ≤ 1 → length s ≤ i → m ≡ n + a * indexOf b (drop i s) → n ≡ m
+count-all zero n m b s i l h e = omega arith
+count-all (suc zero) n m b s i l h e = omega (arith, ended-at b s i h)
+count-all (suc (suc a)) n m b s i l h e = absurd (omega arith)
+
 -- Before and after
 
 -- no element of the list is b
@@ -121,6 +140,23 @@ passed-over b s i j h l e =
     let g : i + (j - i) ≡ j = omega arith in
     let q : drop i s ≡ w ++ drop j s = sym (take-append-drop (j - i) (drop i s)) ∙ ap (λ (t : List ℕ). w ++ t) (drop-drop (j - i) i s ∙ ap (λ (k : ℕ). drop k s) g) in
     ap (λ (t : List ℕ). i + indexOf b t) q ∙ ap (λ (k : ℕ). i + k) (index-append b w (drop j s) n) ∙ omega arith
+
+-- a b in front is the first one
+index-front : (b : ℕ) (w s : List ℕ) → indexOf b w < length w → indexOf b (w ++ s) ≡ indexOf b w
+unfolding indexOf
+index-front b [] s h = absurd (omega arith)
+index-front b (x ∷ w) s h = picked (eqb x b) h (index-front b w s)
+  where
+    picked : (t : Bool) → cond t zero (suc (indexOf b w)) < suc (length w) → (indexOf b w < length w → indexOf b (w ++ s) ≡ indexOf b w)
+        → cond t zero (suc (indexOf b (w ++ s))) ≡ cond t zero (suc (indexOf b w))
+    picked true h ih = refl
+    picked false h ih = ap suc (ih (omega arith))
+
+pub found-in : (b : ℕ) (s : List ℕ) (i j : ℕ) → i ≤ j → j ≤ length s → indexOf b (take (j - i) (drop i s)) < j - i
+    → indexOf b (drop i s) ≡ indexOf b (take (j - i) (drop i s))
+found-in b s i j h l e =
+    let p : length (take (j - i) (drop i s)) ≡ j - i = length-take-le (j - i) (drop i s) (rw (length-drop i s) (omega arith)) in
+    ap (indexOf b) (sym (take-append-drop (j - i) (drop i s))) ∙ index-front b (take (j - i) (drop i s)) (drop (j - i) (drop i s)) (omega arith)
 
 -- there is no b before the first b
 pub before-without : (b : ℕ) (s : List ℕ) → Without b (upTo b s)
