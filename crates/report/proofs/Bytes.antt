@@ -1,16 +1,16 @@
 -- The first place of a byte, what stands before and after it, and words at the start of a list. Assumes nothing.
-use mathlib.Core.Path.{_≡_, refl, ap, ap₂, _∙_}
+use mathlib.Core.Path.{_≡_, refl, sym, ap, ap₂, _∙_}
 use mathlib.Core.Bool.{Bool, true, false, cond, _&&_}
 use mathlib.Core.List.{List, [], _∷_, _++_, append-nil}
-use Prim.Native.Nat.{ℕ, zero, suc, _+_, _≤_, _<_}
+use Prim.Native.Nat.{ℕ, zero, suc, _+_, _*_, _-_, _≤_, _<_}
 use native.Mathlib.Nat.{add-zero}
 use native.Mathlib.Numerals.{add-one}
 use native.Mathlib.Omega.{arith}
-use lib.Dec.{eqb}
-use lib.ListN.{length, getD, take, drop, drop-of-length-le, length-append, length-drop}
-use lib.Seq.{drop-cons}
-use borrow.Author.Tests.{eq-eqb, ne-eqb, eqb-true, eqb-false}
-use Rattle.report.specs.Bytes.{indexOf, upTo, after, startsWith, isWord}
+use lib.Dec.{eqb, ltb}
+use lib.ListN.{length, getD, take, drop, drop-of-length-le, length-append, length-drop, take-append-drop}
+use lib.Seq.{drop-cons, drop-drop, length-take-le}
+use borrow.Author.Tests.{eq-eqb, ne-eqb, eqb-true, eqb-false, lt-ltb, le-ltb, ltb-true, ltb-false}
+use Rattle.report.specs.Bytes.{indexOf, upTo, after, startsWith, isWord, little}
 
 -- The first place of a byte
 
@@ -56,6 +56,45 @@ index-bound b (x ∷ s) (suc j) h e = picked (eqb x b) (index-bound b s j (omega
     picked : (t : Bool) → indexOf b s ≤ j → cond t zero (suc (indexOf b s)) ≤ suc j
     picked true k = omega arith
     picked false k = omega arith
+
+-- b was seen, or it stands from place i on
+abbrev pub seenFrom : Bool → ℕ → List ℕ → ℕ → Bool
+seenFrom t b s i = cond t true (ltb (i + indexOf b (drop i s)) (length s))
+
+pub seen-none : (b : ℕ) (s : List ℕ) → ltb (indexOf b s) (length s) ≡ seenFrom false b s 0
+seen-none b s = let q : indexOf b s ≡ 0 + indexOf b s = omega arith in ap (λ (k : ℕ). ltb k (length s)) q
+
+pub seen-next : (t : Bool) (b : ℕ) (s : List ℕ) (i : ℕ) → i < length s → seenFrom t b s i ≡ seenFrom (cond (eqb (getD s i 0) b) true t) b s (i + 1)
+seen-next t b s i h = picked (eqb (getD s i 0) b) refl t
+  where
+    picked : (e : Bool) → eqb (getD s i 0) b ≡ e → (t : Bool) → seenFrom t b s i ≡ seenFrom (cond e true t) b s (i + 1)
+    picked true e true = refl
+    picked true e false = rw (found-at b s i h (eqb-true (getD s i 0) b e)) (lt-ltb i (length s) h)
+    picked false e true = refl
+    picked false e false = rw (passed-at b s i h (eqb-false (getD s i 0) b e))
+
+pub seen-all : (t : Bool) (b : ℕ) (s : List ℕ) (i : ℕ) → length s ≤ i → seenFrom t b s i ≡ t
+seen-all true b s i h = refl
+seen-all false b s i h = rw (ended-at b s i h) (le-ltb i (length s) h)
+
+-- n bytes of m were counted, and from place i on those before the first b count if no b was met (a is 1, not 0)
+pub count-next : (a n m b : ℕ) (s : List ℕ) (i : ℕ) → a ≤ 1 → i < length s → m ≡ n + a * indexOf b (drop i s)
+    → m ≡ (n + cond (eqb (getD s i 0) b) 0 a) + cond (eqb (getD s i 0) b) 0 a * indexOf b (drop (i + 1) s)
+count-next a n m b s i l h e = picked (eqb (getD s i 0) b) refl a l e
+  where
+    picked : (t : Bool) → eqb (getD s i 0) b ≡ t → (a : ℕ) → a ≤ 1 → m ≡ n + a * indexOf b (drop i s)
+        → m ≡ (n + cond t 0 a) + cond t 0 a * indexOf b (drop (i + 1) s)
+    picked true f zero l e = omega arith
+    picked true f (suc zero) l e = omega (arith, found-at b s i h (eqb-true (getD s i 0) b f))
+    picked true f (suc (suc a)) l e = absurd (omega arith)
+    picked false f zero l e = omega arith
+    picked false f (suc zero) l e = omega (arith, passed-at b s i h (eqb-false (getD s i 0) b f))
+    picked false f (suc (suc a)) l e = absurd (omega arith)
+
+pub count-all : (a n m b : ℕ) (s : List ℕ) (i : ℕ) → a ≤ 1 → length s ≤ i → m ≡ n + a * indexOf b (drop i s) → n ≡ m
+count-all zero n m b s i l h e = omega arith
+count-all (suc zero) n m b s i l h e = omega (arith, ended-at b s i h)
+count-all (suc (suc a)) n m b s i l h e = absurd (omega arith)
 
 -- Before and after
 
@@ -112,6 +151,34 @@ index-append b [] s h = omega arith
 index-append b (x ∷ w) s h =
     let (f, g) = first-not (eqb x b) (indexOf b w) (length w) h in
     rw (f, index-append b w s g) (omega arith)
+
+-- a part without b is passed over
+pub passed-over : (b : ℕ) (s : List ℕ) (i j : ℕ) → i ≤ j → j ≤ length s
+    → ltb (indexOf b (take (j - i) (drop i s))) (length (take (j - i) (drop i s))) ≡ false → i + indexOf b (drop i s) ≡ j + indexOf b (drop j s)
+passed-over b s i j h l e =
+    let w : List ℕ = take (j - i) (drop i s) in
+    let p : length w ≡ j - i = length-take-le (j - i) (drop i s) (rw (length-drop i s) (omega arith)) in
+    let n : Without b w = omega (arith, ltb-false (indexOf b w) (length w) e, index-fits b w) in
+    let g : i + (j - i) ≡ j = omega arith in
+    let q : drop i s ≡ w ++ drop j s = sym (take-append-drop (j - i) (drop i s)) ∙ ap (λ (t : List ℕ). w ++ t) (drop-drop (j - i) i s ∙ ap (λ (k : ℕ). drop k s) g) in
+    ap (λ (t : List ℕ). i + indexOf b t) q ∙ ap (λ (k : ℕ). i + k) (index-append b w (drop j s) n) ∙ omega arith
+
+-- a b in front is the first one
+index-front : (b : ℕ) (w s : List ℕ) → indexOf b w < length w → indexOf b (w ++ s) ≡ indexOf b w
+unfolding indexOf
+index-front b [] s h = absurd (omega arith)
+index-front b (x ∷ w) s h = picked (eqb x b) h (index-front b w s)
+  where
+    picked : (t : Bool) → cond t zero (suc (indexOf b w)) < suc (length w) → (indexOf b w < length w → indexOf b (w ++ s) ≡ indexOf b w)
+        → cond t zero (suc (indexOf b (w ++ s))) ≡ cond t zero (suc (indexOf b w))
+    picked true h ih = refl
+    picked false h ih = ap suc (ih (omega arith))
+
+pub found-in : (b : ℕ) (s : List ℕ) (i j : ℕ) → i ≤ j → j ≤ length s → indexOf b (take (j - i) (drop i s)) < j - i
+    → indexOf b (drop i s) ≡ indexOf b (take (j - i) (drop i s))
+found-in b s i j h l e =
+    let p : length (take (j - i) (drop i s)) ≡ j - i = length-take-le (j - i) (drop i s) (rw (length-drop i s) (omega arith)) in
+    ap (indexOf b) (sym (take-append-drop (j - i) (drop i s))) ∙ index-front b (take (j - i) (drop i s)) (drop (j - i) (drop i s)) (omega arith)
 
 -- there is no b before the first b
 pub before-without : (b : ℕ) (s : List ℕ) → Without b (upTo b s)
@@ -197,3 +264,61 @@ is-the-word w s e =
 
 pub word-fits : (w s : List ℕ) → startsWith w s ≡ true → length w ≤ length s
 word-fits w s e = omega (arith, simp length-append at (ap length (word-split w s e)))
+
+-- Bytes as one number
+
+-- no element is k or more
+abbrev pub Below : ℕ → List ℕ → Type 0
+Below k s = (i : ℕ) → getD s i 0 < k
+
+unfoldable pub allBelow : ℕ → List ℕ → Bool
+allBelow k [] = true
+allBelow k (x ∷ s) = ltb x k && allBelow k s
+
+pub all-below : (k : ℕ) (s : List ℕ) → 0 < k → allBelow k s ≡ true → Below k s
+unfolding allBelow
+all-below k [] h e i = h
+all-below k (x ∷ s) h e zero = ltb-true x k (and-true (ltb x k) (allBelow k s) e .0)
+all-below k (x ∷ s) h e (suc i) = all-below k s h (and-true (ltb x k) (allBelow k s) e .1) i
+
+below-take : (k n : ℕ) (s : List ℕ) → 0 < k → Below k s → Below k (take n s)
+below-take k zero s h b i = h
+below-take k (suc n) [] h b i = h
+below-take k (suc n) (x ∷ s) h b zero = b zero
+below-take k (suc n) (x ∷ s) h b (suc i) = below-take k n s h (λ j. b (suc j)) i
+
+below-drop : (k n : ℕ) (s : List ℕ) → Below k s → Below k (drop n s)
+below-drop k zero s b i = b i
+below-drop k (suc n) [] b i = b i
+below-drop k (suc n) (x ∷ s) b i = below-drop k n s (λ j. b (suc j)) i
+
+-- the number has the bytes
+little-same : (w v : List ℕ) → length w ≡ length v → Below 256 w → Below 256 v → little w ≡ little v → w ≡ v
+unfolding little
+little-same [] [] h a b e = refl
+little-same [] (y ∷ v) h a b e = absurd (omega arith)
+little-same (x ∷ w) [] h a b e = absurd (omega arith)
+little-same (x ∷ w) (y ∷ v) h a b e =
+    let p : x < 256 = a zero in
+    let q : y < 256 = b zero in
+    let f : x ≡ y = omega arith in
+    let g : little w ≡ little v = omega arith in
+    ap₂ (λ (z : ℕ) (l : List ℕ). z ∷ l) f (little-same w v (omega arith) (λ i. a (suc i)) (λ i. b (suc i)) g)
+
+-- a number of the bytes from place i on, from that of the bytes from the next place on
+pub little-next : (k : ℕ) (s : List ℕ) (i j : ℕ) → j ≡ i + 1 → i < length s → little (take (suc k) (drop i s)) ≡ getD s i 0 + 256 * little (take k (drop j s))
+unfolding little
+little-next k s i j q h = rw (q, add-one i, drop-cons s i 0 h)
+
+pub little-none : (s : List ℕ) → little (take 0 s) ≡ 0
+unfolding little
+little-none s = refl
+
+-- so eight bytes that make the same number are the same
+pub same-eight : (s t : List ℕ) (i j : ℕ) → i + 8 ≤ length s → j + 8 ≤ length t → Below 256 s → Below 256 t
+    → little (take 8 (drop i s)) ≡ little (take 8 (drop j t)) → take 8 (drop i s) ≡ take 8 (drop j t)
+same-eight s t i j h k a b e =
+    let p : length (take 8 (drop i s)) ≡ 8 = length-take-le 8 (drop i s) (rw (length-drop i s) (omega arith)) in
+    let q : length (take 8 (drop j t)) ≡ 8 = length-take-le 8 (drop j t) (rw (length-drop j t) (omega arith)) in
+    little-same (take 8 (drop i s)) (take 8 (drop j t)) (p ∙ sym q)
+    (below-take 256 8 (drop i s) (omega arith) (below-drop 256 i s a)) (below-take 256 8 (drop j t) (omega arith) (below-drop 256 j t b)) e

@@ -5,6 +5,7 @@ pub mod Reading
 pub mod Numerals
 pub mod LineForm
 pub mod RoundTrip
+pub mod Ops
 pub mod Wrote
 pub mod Lengths
 pub mod ReportExamples

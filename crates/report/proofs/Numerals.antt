@@ -84,6 +84,54 @@ module _ (s : List ℕ) where
   unfolding decimalOf
   decimal-other e = rw e
 
+-- One or two bytes: the first counts ten times where it is not the last
+
+nothing : (t : Bool) → cond t Number.Nothing Number.Nothing ≡ Number.Nothing
+nothing true = refl
+nothing false = refl
+
+abbrev pub shortLeast : List ℕ → ℕ
+shortLeast s = (length s - 1) * 10
+
+abbrev pub shortValue : List ℕ → ℕ
+shortValue s = shortLeast s * (getD s 0 0 - 48) + (getD s (length s - 1) 0 - 48)
+
+pub short-fits : (s : List ℕ) → length s ≤ 2 → Digit (getD s 0 0) → Digit (getD s (length s - 1) 0) → shortValue s < 100
+short-fits [] k d e = omega arith
+short-fits (a ∷ []) k d e = omega (arith, d)
+short-fits (a ∷ (b ∷ [])) k d e = omega (arith, d, e)
+short-fits (a ∷ (b ∷ (c ∷ s))) k d e = absurd (omega arith)
+
+pub short-first : (s : List ℕ) → 0 < length s → length s ≤ 2 → isDigit (getD s 0 0) ≡ false → decimalOf s ≡ Number.Nothing
+unfolding decimalOf isPlain digitsFrom
+short-first [] h k e = absurd (omega arith)
+short-first (a ∷ []) h k e = rw e
+short-first (a ∷ (b ∷ [])) h k e = rw e (nothing (not (eqb a 48)))
+short-first (a ∷ (b ∷ (c ∷ s))) h k e = absurd (omega arith)
+
+pub short-last : (s : List ℕ) → 0 < length s → length s ≤ 2 → isDigit (getD s 0 0) ≡ true → isDigit (getD s (length s - 1) 0) ≡ false → decimalOf s ≡ Number.Nothing
+unfolding decimalOf isPlain digitsFrom
+short-last [] h k d e = absurd (omega arith)
+short-last (a ∷ []) h k d e = rw e
+short-last (a ∷ (b ∷ [])) h k d e = rw (d, e) (nothing (not (eqb a 48)))
+short-last (a ∷ (b ∷ (c ∷ s))) h k d e = absurd (omega arith)
+
+pub short-low : (s : List ℕ) → 0 < length s → length s ≤ 2 → Digit (getD s 0 0) → shortValue s < shortLeast s → decimalOf s ≡ Number.Nothing
+unfolding decimalOf isPlain digitsFrom
+short-low [] h k d l = absurd (omega arith)
+short-low (a ∷ []) h k d l = absurd (omega arith)
+short-low (a ∷ (b ∷ [])) h k d l = rw (eq-eqb a 48 (omega (arith, d)))
+short-low (a ∷ (b ∷ (c ∷ s))) h k d l = absurd (omega arith)
+
+pub short-read : (s : List ℕ) → 0 < length s → length s ≤ 2 → isDigit (getD s 0 0) ≡ true → isDigit (getD s (length s - 1) 0) ≡ true
+    → shortLeast s ≤ shortValue s → decimalOf s ≡ Number.Value (shortValue s)
+unfolding decimalOf isPlain digitsFrom
+short-read [] h k d e l = absurd (omega arith)
+short-read (a ∷ []) h k d e l = rw d (ap Number.Value (omega arith))
+short-read (a ∷ (b ∷ [])) h k d e l =
+    rw (ne-eqb a 48 (λ q. omega (arith, q, l, a-digit b e)), d, e) (ap Number.Value (omega arith))
+short-read (a ∷ (b ∷ (c ∷ s))) h k d e l = absurd (omega arith)
+
 -- Reading and printing
 
 -- a number that a test lets through

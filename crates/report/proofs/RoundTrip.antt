@@ -45,7 +45,7 @@ word-at (w ∷ ws) s h = picked (isWord w s) refl h (word-at ws s)
     picked false e h ih = ih (omega arith)
 
 -- a first word that names a kind is `op=` and the kind's word
-op-is : (s : List ℕ) → kindOf s ≤ lossMark → s ≡ opName ++ wordOf (kindOf s)
+pub op-is : (s : List ℕ) → kindOf s ≤ lossMark → s ≡ opName ++ wordOf (kindOf s)
 unfolding kindOf
 op-is s h = picked (startsWith opName s) refl h
   where
@@ -129,7 +129,7 @@ only-sayable s r e = said s r e .can
 
 -- Kinds and their words
 
-each-kind : (P : ℕ → Type 0) → P 0 → P 1 → P 2 → P 3 → P 4 → P 5 → P 6 → P 7 → P 8 → (k : ℕ) → k ≤ lossMark → P k
+pub each-kind : (P : ℕ → Type 0) → P 0 → P 1 → P 2 → P 3 → P 4 → P 5 → P 6 → P 7 → P 8 → (k : ℕ) → k ≤ lossMark → P k
 each-kind P a b c d e f g h i zero l = a
 each-kind P a b c d e f g h i (suc zero) l = b
 each-kind P a b c d e f g h i (suc (suc zero)) l = c
@@ -141,11 +141,11 @@ each-kind P a b c d e f g h i (suc (suc (suc (suc (suc (suc (suc zero))))))) l =
 each-kind P a b c d e f g h i (suc (suc (suc (suc (suc (suc (suc (suc zero)))))))) l = i
 each-kind P a b c d e f g h i (suc (suc (suc (suc (suc (suc (suc (suc (suc k))))))))) l = absurd (omega arith)
 
-op-kind : (k : ℕ) → k ≤ lossMark → kindOf (opName ++ wordOf k) ≡ k
+pub op-kind : (k : ℕ) → k ≤ lossMark → kindOf (opName ++ wordOf k) ≡ k
 unfolding kindOf placeOf isWord startsWith
 op-kind = each-kind (λ k. kindOf (opName ++ wordOf k) ≡ k) refl refl refl refl refl refl refl refl refl
 
-op-whole : (k : ℕ) → k ≤ lossMark → Without space (opName ++ wordOf k)
+pub op-whole : (k : ℕ) → k ≤ lossMark → Without space (opName ++ wordOf k)
 unfolding indexOf
 op-whole = each-kind (λ k. Without space (opName ++ wordOf k)) refl refl refl refl refl refl refl refl refl
 

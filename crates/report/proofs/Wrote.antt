@@ -6,7 +6,7 @@ use native.Mathlib.Nat.{add-zero}
 use native.Mathlib.Numerals.{add-one}
 use native.Mathlib.Omega.{arith}
 use lib.ListN.{length, take, drop, set, getD, length-append, length-take}
-use lib.Seq.{sets, length-sets, sets-eq, take-suc, take-all, take-at, drop-at}
+use lib.Seq.{sets, length-sets, sets-eq, take-suc, take-all, take-at, drop-at, set-set}
 use Rattle.report.specs.Wrote.{Wrote}
 
 pub sets-append : (l : List ℕ) (i : ℕ) (a b : List ℕ) → sets l i (a ++ b) ≡ sets (sets l i a) (i + length a) b
@@ -26,6 +26,10 @@ _then_ {l} {a} {b} {at = at} v w =
 
 pub wrote-byte : {l : List ℕ} {at b : ℕ} → Wrote l at (b ∷ []) (set l at b) (at + 1)
 wrote-byte = record { place = refl; memory = refl }
+
+-- one byte, and another over it
+pub wrote-over : {l l′ l″ : List ℕ} {at to to′ x y : ℕ} → Wrote l at (x ∷ []) l′ to → Wrote l′ at (y ∷ []) l″ to′ → Wrote l at (y ∷ []) l″ to′
+wrote-over {l} {at = at} {x = x} {y = y} v w = record { place = w .place; memory = w .memory ∙ ap (λ (m : List ℕ). sets m at (y ∷ [])) (v .memory) ∙ set-set l at x y }
 
 module _ {l : List ℕ} {at : ℕ} where
   pub wrote-nothing : Wrote l at [] l at

@@ -1,5 +1,5 @@
 -- Parts of a list of bytes.
-use Prim.Native.Nat.{ℕ, zero, suc}
+use Prim.Native.Nat.{ℕ, zero, suc, _+_, _*_}
 use mathlib.Core.Bool.{Bool, true, false, cond, _&&_}
 use mathlib.Core.List.{List, [], _∷_}
 use lib.ListN.{length, take, drop}
@@ -27,3 +27,8 @@ startsWith (w ∷ ws) (x ∷ s) = eqb x w && startsWith ws s
 -- the list is the word
 unfoldable pub isWord : List ℕ → List ℕ → Bool
 isWord w s = eqb (length s) (length w) && startsWith w s
+
+-- bytes as one number, the first counting least
+unfoldable pub little : List ℕ → ℕ
+little [] = zero
+little (x ∷ s) = x + 256 * little s

@@ -1,6 +1,6 @@
 // Numbers in base ten: 1 to 5 digits and no needless leading zero.
 ghost use mathlib.Core.Path.{_≡_};
-ghost use Prim.Native.Nat.{_≤_};
+ghost use Prim.Native.Nat.{_≤_, _<_};
 ghost use lib.ListN.{length};
 ghost use Rattle.report.specs.LineForm.{isDigit, isPlain, digits, digitsFrom, decimalOf};
 
@@ -52,10 +52,38 @@ fn read_digits(s: &[u8]) -> Number
     Number::Value(v)
 }
 
+// What one or two bytes say as a decimal: the first counts ten times where it is not the last, and the number is then at least ten. There is
+// no branch on how many they are.
+fn read_short(s: &[u8]) -> Number
+    requires { ⌜ (0 < length (now s)) × (length (now s) ≤ 2) ⌝ }
+    ensures { λ r. ⌜ r ≡ decimalOf (now (s .entry)) ⌝ }
+{
+    let first = s[0];
+    let last = s[s.len() - 1];
+    if !is_digit(first) {
+        return Number::Nothing;
+    }
+    if !is_digit(last) {
+        return Number::Nothing;
+    }
+    let least = (s.len() - 1) as u32 * 10;
+    let v = least * (first - b'0') as u32 + (last - b'0') as u32;
+    if v < least {
+        return Number::Nothing;
+    }
+    Number::Value(v)
+}
+
 // What a part of a line says as a decimal.
 pub(crate) fn decimal(s: &[u8]) -> Number
     ensures { λ r. ⌜ r ≡ decimalOf (now (s .entry)) ⌝ }
 {
+    if s.len() == 0 {
+        return Number::Nothing;
+    }
+    if s.len() <= 2 {
+        return read_short(s);
+    }
     if is_plain(s) {
         return read_digits(s);
     }

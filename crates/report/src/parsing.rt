@@ -1,8 +1,9 @@
 // A line as a record: `op=W task=T on=N`, or `op=lost tasks=M`.
 use crate::decimal::Number;
-use crate::scan::place_of;
 use crate::words::field;
-use crate::words::kind;
+use crate::words::op;
+use crate::words::op_end;
+use crate::words::task_end;
 use checker::Record;
 ghost use mathlib.Core.Path.{_≡_};
 ghost use Prim.Native.Nat.{ℕ, suc, _≤_, _<_};
@@ -17,8 +18,6 @@ pub enum Parsed {
 
 const LOST: u8 = 8;
 
-const SPACE: u8 = 32;
-
 // The place after a space; the end where there is none.
 fn past(s: &[u8], at: usize) -> usize
     requires { ⌜ at ≤ length (now s) ⌝ }
@@ -31,7 +30,7 @@ fn past(s: &[u8], at: usize) -> usize
 fn act(kind: u8, s: &[u8]) -> Parsed
     ensures { λ r. ⌜ r ≡ actOf kind (now (s .entry)) ⌝ }
 {
-    let e = place_of(s, 0, SPACE);
+    let e = task_end(s);
     let Number::Value(task) = field(b"task=", &s[..e]) else {
         return Parsed::Nothing;
     };
@@ -60,14 +59,13 @@ fn mark(s: &[u8]) -> Parsed
 pub fn parse_line(line: &[u8]) -> Parsed
     ensures { λ r. ⌜ r ≡ parseOf (now (line .entry)) ⌝ }
 {
-    let e = place_of(line, 0, SPACE);
-    let k = kind(&line[..e]);
-    let p = past(line, e);
+    let k = op(line);
+    if LOST < k {
+        return Parsed::Nothing;
+    }
+    let p = past(line, op_end(k));
     if k < LOST {
         return act(k, &line[p..]);
     }
-    if k == LOST {
-        return mark(&line[p..]);
-    }
-    Parsed::Nothing
+    mark(&line[p..])
 }

@@ -1,6 +1,8 @@
 // Where a byte stands, and the lines of a text: each is ended by LF, and a non-empty rest without LF is a line too.
 ghost use mathlib.Core.Path.{_≡_};
+ghost use mathlib.Core.Bool.{true, cond};
 ghost use Prim.Native.Nat.{_+_, _-_, _≤_, _<_};
+ghost use lib.Dec.{eqb, ltb};
 ghost use lib.ListN.{length, drop, getD};
 ghost use Rattle.report.specs.Bytes.{indexOf};
 ghost use Rattle.report.specs.Lines.{lf, lineEnd, linesOf, lfBit, lfCount};
@@ -14,8 +16,27 @@ fn one_if_lf(b: u8) -> u8
     if b == LF { 1 } else { 0 }
 }
 
-// Where the first b stands, from a place on; the length where there is none.
-pub(crate) fn place_of(text: &[u8], from: usize, b: u8) -> usize
+fn met(before: bool, x: u8, b: u8) -> bool
+    ensures { λ r. ⌜ r ≡ cond (eqb x b) true before ⌝ }
+{
+    if x == b { true } else { before }
+}
+
+// The part has the byte b. There is no branch on a byte, so that the compiler takes sixteen of them at a time.
+fn has(part: &[u8], b: u8) -> bool
+    ensures { λ r. ⌜ r ≡ ltb (indexOf b (now (part .entry))) (length (now (part .entry))) ⌝ }
+{
+    let mut seen = false;
+    let mut i = 0;
+    while i < part.len() {
+        seen = met(seen, part[i], b);
+        i += 1;
+    }
+    seen
+}
+
+// Where the first b stands, from a place on; the length where there is none. Byte by byte.
+fn place_in(text: &[u8], from: usize, b: u8) -> usize
     requires { ⌜ from ≤ length (now text) ⌝ }
     ensures { λ r. ⌜ (r ≡ from + indexOf b (drop from (now (text .entry)))) × (r ≤ length (now (text .entry))) ⌝ }
 {
@@ -27,6 +48,45 @@ pub(crate) fn place_of(text: &[u8], from: usize, b: u8) -> usize
         i += 1;
     }
     i
+}
+
+fn still(other: usize, x: u8, b: u8) -> usize
+    ensures { λ r. ⌜ (r ≡ cond (eqb x b) 0 other) × (r ≤ other) ⌝ }
+{
+    if x == b { 0 } else { other }
+}
+
+// Where the first b stands in a part; its length where there is none. There is no branch on a byte.
+fn index_in(part: &[u8], b: u8) -> usize
+    ensures { λ r. ⌜ r ≡ indexOf b (now (part .entry)) ⌝ }
+{
+    let mut other: usize = 1;
+    let mut n: usize = 0;
+    let mut i = 0;
+    while i < part.len() {
+        other = still(other, part[i], b);
+        n += other;
+        i += 1;
+    }
+    n
+}
+
+// Where the first b stands, from a place on; the length where there is none. Most lines are from sixteen to twenty-three bytes long.
+pub(crate) fn place_of(text: &[u8], from: usize, b: u8) -> usize
+    requires { ⌜ from ≤ length (now text) ⌝ }
+    ensures { λ r. ⌜ (r ≡ from + indexOf b (drop from (now (text .entry)))) × (r ≤ length (now (text .entry))) ⌝ }
+{
+    if text.len() - from < 24 {
+        return place_in(text, from, b);
+    }
+    if has(&text[from..from + 16], b) {
+        return place_in(text, from, b);
+    }
+    let n = index_in(&text[from + 16..from + 24], b);
+    if n < 8 {
+        return from + 16 + n;
+    }
+    place_in(text, from + 24, b)
 }
 
 // Where the line that begins at a place ends: its LF, or the end of the text.

@@ -1,10 +1,18 @@
 // The words of a line: the op that its first one names, and the fields after it.
 use crate::decimal::Number;
 use crate::decimal::decimal;
+use crate::scan::place_of;
 ghost use mathlib.Core.Path.{_≡_};
-ghost use Prim.Native.Nat.{_≤_};
-ghost use Rattle.report.specs.Bytes.{startsWith, isWord};
-ghost use Rattle.report.specs.LineForm.{fieldOf, kindOf, placeOf, words};
+ghost use mathlib.Core.Bool.{cond};
+ghost use mathlib.Core.List.{_++_};
+ghost use Prim.Native.Nat.{_+_, _≤_, _<_};
+ghost use lib.Dec.{eqb};
+ghost use lib.ListN.{length, getD, take, drop};
+ghost use Rattle.checker.specs.Recording.{lossMark};
+ghost use Rattle.report.specs.Bytes.{indexOf, upTo, startsWith, isWord, little};
+ghost use Rattle.report.specs.LineForm.{fieldOf, kindOf, placeOf, words, wordOf, opName, space};
+
+const SPACE: u8 = 32;
 
 // The part starts with the word.
 fn starts_with(word: &[u8], s: &[u8]) -> bool
@@ -75,6 +83,109 @@ pub(crate) fn kind(s: &[u8]) -> u8
         return place(&s[3..]);
     }
     9
+}
+
+// The kind that the first word of a line names; 9 where it names none.
+fn op_by_word(line: &[u8]) -> u8
+    ensures { λ r. ⌜ r ≡ kindOf (upTo space (now (line .entry))) ⌝ }
+{
+    let e = place_of(line, 0, SPACE);
+    kind(&line[..e])
+}
+
+fn byte_at(s: &[u8], i: usize) -> u8
+    requires { ⌜ i < length (now s) ⌝ }
+    ensures { λ r. ⌜ r ≡ getD (now (s .entry)) i 0 ⌝ }
+{
+    s[i]
+}
+
+fn wide(b: u8) -> u64
+    ensures { λ r. ⌜ (r ≡ b) × (r < 256) ⌝ }
+{
+    b as u64
+}
+
+// Eight bytes as one number, the first counting least: the compiler makes one load of it.
+fn eight(s: &[u8], p: usize) -> u64
+    requires { ⌜ p + 8 ≤ length (now s) ⌝ }
+    ensures { λ r. ⌜ r ≡ little (take 8 (drop p (now (s .entry)))) ⌝ }
+{
+    wide(s[p])
+        + wide(s[p + 1]) * 256
+        + wide(s[p + 2]) * 65_536
+        + wide(s[p + 3]) * 16_777_216
+        + wide(s[p + 4]) * 4_294_967_296
+        + wide(s[p + 5]) * 1_099_511_627_776
+        + wide(s[p + 6]) * 281_474_976_710_656
+        + wide(s[p + 7]) * 72_057_594_037_927_936
+}
+
+// The one kind that a line's first eight bytes can name, by the sum of its word's first and fourth letter. That it is so is not relied on.
+fn guess(bytes: u64) -> u8
+    ensures { λ r. ⌜ r ≤ lossMark ⌝ }
+{
+    let sum = (bytes / 16_777_216 + bytes / 281_474_976_710_656) % 16;
+    byte_at(
+        b"\x08\x00\x00\x05\x00\x06\x00\x04\x07\x02\x00\x01\x03\x00\x00\x00",
+        sum as usize,
+    )
+}
+
+// Where the op of a kind ends.
+pub(crate) fn op_end(kind: u8) -> usize
+    requires { ⌜ kind ≤ lossMark ⌝ }
+    ensures { λ r. ⌜ r ≡ length (opName ++ wordOf kind) ⌝ }
+{
+    byte_at(b"\x07\x08\x07\x07\x07\x06\x08\x07\x07", kind as usize) as usize
+}
+
+// The same as `op_by_word`, without a branch on which of the nine it is.
+pub(crate) fn op(line: &[u8]) -> u8
+    ensures { λ r. ⌜ r ≡ kindOf (upTo space (now (line .entry))) ⌝ }
+{
+    if line.len() < 9 {
+        return op_by_word(line);
+    }
+    let bytes = eight(line, 0);
+    let k = guess(bytes);
+    let ops = eight(
+        b"op=read op=writeop=take op=give op=look op=set top=startop=join op=lost ",
+        8 * k as usize,
+    );
+    if bytes != ops {
+        return op_by_word(line);
+    }
+    if line[op_end(k)] != SPACE {
+        return op_by_word(line);
+    }
+    k
+}
+
+fn six_or_seven(b: u8) -> usize
+    ensures { λ r. ⌜ r ≡ cond (eqb b space) 6 7 ⌝ }
+{
+    if b == SPACE { 6 } else { 7 }
+}
+
+// Where the first space stands; the length where there is none. After `task=` and one or two bytes it is found without a branch on how many.
+pub(crate) fn task_end(s: &[u8]) -> usize
+    ensures { λ r. ⌜ (r ≡ 0 + indexOf space (now (s .entry))) × (r ≤ length (now (s .entry))) ⌝ }
+{
+    if s.len() < 8 {
+        return place_of(s, 0, SPACE);
+    }
+    if !starts_with(b"task=", s) {
+        return place_of(s, 0, SPACE);
+    }
+    if s[5] == SPACE {
+        return 5;
+    }
+    let e = six_or_seven(s[6]);
+    if s[e] != SPACE {
+        return place_of(s, 0, SPACE);
+    }
+    e
 }
 
 // The number after the name of a field.

@@ -2,7 +2,10 @@
 use checker::Answer;
 use checker::Record;
 ghost use Prim.Native.Nat.{_+_, _<_, _≤_, _^_};
+ghost use mathlib.Core.Path.{_≡_};
+ghost use mathlib.Core.Bool.{cond};
 ghost use mathlib.Core.List.{[], _∷_};
+ghost use lib.Dec.{ltb};
 ghost use lib.ListN.{length};
 ghost use Rattle.report.specs.Printing.{lastDigit, decimal, fiveDigits};
 ghost use Rattle.report.specs.ReportLines.{accessPart, accessLine, refusedLine, reportLine};
@@ -31,15 +34,43 @@ fn put_digit(out: &mut [u8], at: usize, n: u64) -> usize
 }
 
 // A number without leading zeros: the digits of its tenth, if it has one, and the last.
-fn put_decimal(out: &mut [u8], at: usize, n: u64) -> usize
+fn put_long(out: &mut [u8], at: usize, n: u64) -> usize
     requires { ⌜ at + length (decimal n) ≤ length (now out) ⌝ }
     ensures { λ r. ⌜ Wrote (now (out .entry)) at (decimal n) (now (out .exit)) r ⌝ }
 {
     if n < 10 {
         return put_digit(out, at, n);
     }
-    let last = put_decimal(out, at, n / 10);
+    let last = put_long(out, at, n / 10);
     put_digit(out, last, n)
+}
+
+// How many digits a number below 100 has before its last.
+fn before_last(n: u64) -> usize
+    ensures { λ r. ⌜ r ≡ cond (ltb n 10) 0 1 ⌝ }
+{
+    if n < 10 { 0 } else { 1 }
+}
+
+// A number below 100, without a branch on how many digits it has: the last is written over the other where that would be a leading zero.
+fn put_short(out: &mut [u8], at: usize, n: u64) -> usize
+    requires { ⌜ (n < 100) × (at + length (decimal n) ≤ length (now out)) ⌝ }
+    ensures { λ r. ⌜ Wrote (now (out .entry)) at (decimal n) (now (out .exit)) r ⌝ }
+{
+    let last = at + before_last(n);
+    put_digit(out, at, n / 10);
+    put_digit(out, last, n)
+}
+
+// A number without leading zeros.
+fn put_decimal(out: &mut [u8], at: usize, n: u64) -> usize
+    requires { ⌜ at + length (decimal n) ≤ length (now out) ⌝ }
+    ensures { λ r. ⌜ Wrote (now (out .entry)) at (decimal n) (now (out .exit)) r ⌝ }
+{
+    if n < 100 {
+        return put_short(out, at, n);
+    }
+    put_long(out, at, n)
 }
 
 // The last five digits of a number, leading zeros included.

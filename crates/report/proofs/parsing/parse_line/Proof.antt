@@ -1,38 +1,48 @@
 -- `report::parsing::parse_line`: the kind decides how what follows the op is read. Assumes nothing.
-use mathlib.Core.Path.{sym, _∙_}
-use lib.Seq.{length-take-le}
+use mathlib.Core.Path.{_≡_, sym, ap, _∙_}
+use Prim.Native.Nat.{_+_}
+use native.Mathlib.Omega.{arith}
 use borrow.Author.Needs.{needs}
-use Rattle.report.proofs.LineForm.{parsed-by, rest-act, rest-mark, rest-none}
+use Rattle.report.specs.Bytes.{indexOf}
+use Rattle.report.specs.LineForm.{space, kindOf, parseOf, restOf}
+use Rattle.report.proofs.Bytes.{index-fits}
+use Rattle.report.proofs.LineForm.{cut-before, parsed-by, rest-act, rest-mark}
+use Rattle.report.proofs.Ops.{op-ends, no-op-read}
 use Rattle.report.proofs.parsing.parse_line.Statement.{statement}
 use Rattle.report.proofs.parsing.parse_line.Tie as tie
 
-slice-aggregate-kind : tie.Need-slice-aggregate-kind
-slice-aggregate-kind c = sym (length-take-le _ _ (c .before .place-of .ensures .1))
-
 returns : tie.Need-returns
-returns c =
-    let n = c .before .before .before in
-    let w = n .before .before .before in
-    sym (parsed-by (w .before .before .args .line .now) (w .place-of .result) (n .past .result) (w .place-of .ensures .0) (n .past .ensures .0)
-    (n .before .kind .result) (n .before .kind .ensures) ∙ rest-act _ _ (c .before .before .if1 .taken) ∙ sym (c .act .ensures))
+returns c = sym (no-op-read (c .before .before .before .args .line .now) (c .before .op .result) (c .before .op .ensures) (c .if1 .taken))
+
+-- the op ends at the first space
+cut : (c : tie.After-op-end) → c .op-end .result ≡ 0 + indexOf space (c .before .before .before .before .args .line .now)
+cut c = c .op-end .ensures ∙ op-ends (c .before .before .before .before .args .line .now) (c .before .before .op .result) (c .before .before .op .ensures) (c .before .if1 .left)
+
+past-requires : tie.Need-past-requires
+past-requires c κs = omega (arith, cut c, index-fits space (c .before .before .before .before .args .line .now))
 
 returns-2 : tie.Need-returns-2
 returns-2 c =
-    let n = c .before .before .before .before in
-    let w = n .before .before .before in
-    sym (parsed-by (w .before .before .args .line .now) (w .place-of .result) (n .past .result) (w .place-of .ensures .0) (n .past .ensures .0)
-    (n .before .kind .result) (n .before .kind .ensures) ∙ rest-mark _ _ (c .before .before .if2 .taken) ∙ sym (c .mark .ensures))
+    let n = c .before .before .before in
+    let o = n .before in
+    let k = o .before .before .op in
+    let s = o .before .before .before .before .args .line .now in
+    sym (parsed-by s (o .op-end .result) (n .past .result) (cut o) (n .past .ensures .0) (k .result)
+    (k .ensures ∙ ap kindOf (sym (cut-before s (o .op-end .result) (n .past .result) (cut o)))) ∙ rest-act _ _ (c .before .before .if2 .taken) ∙ sym (c .act .ensures))
 
 returns-3 : tie.Need-returns-3
 returns-3 c =
-    let n = c .before .before in
-    let w = n .before .before .before in
-    sym (parsed-by (w .before .before .args .line .now) (w .place-of .result) (n .past .result) (w .place-of .ensures .0) (n .past .ensures .0)
-    (n .before .kind .result) (n .before .kind .ensures) ∙ rest-none _ _ (c .before .if1 .left) (c .if2 .left))
+    let n = c .before .before .before in
+    let o = n .before in
+    let k = o .before .before .op in
+    let s = o .before .before .before .before .args .line .now in
+    sym (parsed-by s (o .op-end .result) (n .past .result) (cut o) (n .past .ensures .0) (k .result)
+    (k .ensures ∙ ap kindOf (sym (cut-before s (o .op-end .result) (n .past .result) (cut o))))
+    ∙ rest-mark (k .result) _ (omega (arith, o .before .if1 .left, c .before .before .if2 .left)) ∙ sym (c .mark .ensures))
 
 pub parse-line-spec : {M : Type 1} → statement M
 parse-line-spec =
     tie.close (tie.spec
-    (λ c κs. search needs) slice-aggregate-kind (λ c κs. search needs) (λ c κs. search needs) (λ c. search needs)
-    (λ c. search needs) (λ c. search needs) (λ c κs. search needs) returns (λ c. search needs) (λ c. search needs)
-    (λ c. search needs) (λ c κs. search needs) returns-2 returns-3)
+    (λ c κs. search needs) returns (λ c κs. search needs) past-requires (λ c. search needs) (λ c. search needs)
+    (λ c. search needs) (λ c κs. search needs) returns-2 (λ c. search needs) (λ c. search needs) (λ c. search needs)
+    (λ c κs. search needs) returns-3)

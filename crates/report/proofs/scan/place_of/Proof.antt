@@ -1,32 +1,58 @@
--- `report::scan::place_of`: what is left to look through has its first b where the whole has it. Assumes nothing.
-use mathlib.Core.Path.{_≡_, refl, sym, _∙_}
-use Prim.Native.Nat.{_+_, _-_, _≤_}
-use lib.ListN.{length, drop}
+-- `report::scan::place_of`: sixteen bytes without b are passed over, and then eight if they have none. Assumes nothing.
+use mathlib.Core.Path.{_≡_, sym, _∙_}
+use mathlib.Core.List.{List}
+use Prim.Native.Nat.{ℕ, _+_, _-_, _≤_, _<_}
+use native.Mathlib.Omega.{arith}
+use lib.ListN.{length, take, drop}
 use borrow.Author.Needs.{needs}
+use borrow.Author.Tests.{le-ltb}
 use Rattle.report.specs.Bytes.{indexOf}
-use Rattle.report.proofs.Bytes.{found-at, passed-at, ended-at}
+use Rattle.report.proofs.Bytes.{passed-over, found-in}
+use Rattle.report.proofs.Lines.{cut-fits}
 use Rattle.report.proofs.scan.place_of.Statement.{statement}
 use Rattle.report.proofs.scan.place_of.Tie as tie
 
-abbrev Inv-loop : tie.InvT-loop
-Inv-loop text from b i₀ i = (i ≤ length text) × (from + indexOf b (drop from text) ≡ i + indexOf b (drop i text))
+-- the eight bytes after the sixteen
+abbrev eight : List ℕ → ℕ → List ℕ
+eight s from = take (from + 24 - (from + 16)) (drop (from + 16) s)
 
-abbrev μ-loop : tie.MeasureT-loop
-μ-loop text from b i₀ i = length text - i
+found-eight : (b : ℕ) (s : List ℕ) (from : ℕ) → from + 24 ≤ length s → indexOf b (eight s from) < 8 → indexOf b (drop (from + 16) s) ≡ indexOf b (eight s from)
+found-eight b s from h l = found-in b s (from + 16) (from + 24) (omega arith) h (omega arith)
 
-loop-holds : tie.Need-loop-holds Inv-loop μ-loop
-loop-holds c = (search needs, refl)
+passed-eight : (b : ℕ) (s : List ℕ) (from : ℕ) → from + 24 ≤ length s → 8 ≤ indexOf b (eight s from)
+    → from + 16 + indexOf b (drop (from + 16) s) ≡ from + 24 + indexOf b (drop (from + 24) s)
+passed-eight b s from h l =
+    passed-over b s (from + 16) (from + 24) (omega arith) h
+    (le-ltb (indexOf b (eight s from)) (length (eight s from)) (omega (arith, cut-fits s (from + 16) (from + 24))))
 
-returns : tie.Need-returns Inv-loop μ-loop
-returns c = (sym (c .before .before .before .loop .inv .1 ∙ found-at _ _ _ (c .before .before .loop-test .taken) (c .if1 .taken)), search needs)
+-- the sixteen bytes have no b
+passed-sixteen : (c : tie.After-index-in) → let a = c .before .before .before .before .before .before .before .args in
+    a .from + indexOf (a .b) (drop (a .from) (a .text .now)) ≡ a .from + 16 + indexOf (a .b) (drop (a .from + 16) (a .text .now))
+passed-sixteen c =
+    let a = c .before .before .before .before .before .before .before .args in
+    passed-over (a .b) (a .text .now) (a .from) (a .from + 16) (omega arith) (omega (arith, c .before .before .before .before .before .if1 .left)) (sym (c .before .before .before .has .ensures) ∙ c .before .before .if2 .left)
 
-loop-again : tie.Need-loop-again Inv-loop μ-loop
-loop-again c = (search needs, c .before .before .before .loop .inv .1 ∙ passed-at _ _ _ (c .before .before .loop-test .taken) (c .if1 .left))
+returns-3 : tie.Need-returns-3
+returns-3 c =
+    let n = c .before .index-in in
+    let a = c .before .before .before .before .before .before .before .before .args in
+    let l : a .from + 24 ≤ length (a .text .now) = omega (arith, c .before .before .before .before .before .before .if1 .left, c .before .before .before .before .before .before .before .before .pre) in
+    let q : indexOf (a .b) (eight (a .text .now) (a .from)) < 8 = omega (arith, n .ensures, c .if3 .taken) in
+    (omega (arith, passed-sixteen (c .before), found-eight (a .b) (a .text .now) (a .from) l q, n .ensures), omega (arith, l, c .if3 .taken))
 
-returns-2 : tie.Need-returns-2 Inv-loop μ-loop
-returns-2 c = (sym (c .before .loop .inv .1 ∙ ended-at _ _ _ (c .loop-test .left)), search needs)
+returns-4 : tie.Need-returns-4
+returns-4 c =
+    let n = c .before .before .index-in in
+    let a = c .before .before .before .before .before .before .before .before .before .args in
+    let l : a .from + 24 ≤ length (a .text .now) = omega (arith, c .before .before .before .before .before .before .before .if1 .left, c .before .before .before .before .before .before .before .before .before .pre) in
+    let q : 8 ≤ indexOf (a .b) (eight (a .text .now) (a .from)) = omega (arith, n .ensures, c .before .if3 .left) in
+    (omega (arith, c .place-in3 .ensures .0, passed-sixteen (c .before .before), passed-eight (a .b) (a .text .now) (a .from) l q), search needs)
 
 pub place-of-spec : {M : Type 1} → statement M
 place-of-spec =
     tie.close (tie.spec
-    Inv-loop μ-loop loop-holds (λ c. search needs) returns (λ c. search needs) (λ c. search needs) loop-again returns-2)
+    (λ c. search needs) (λ c κs. search needs) (λ c. search needs) (λ c. search needs) (λ c. search needs)
+    (λ c. search needs) (λ c. search needs) (λ c κs. search needs) (λ c κs. search needs) (λ c. search needs)
+    (λ c. search needs) (λ c. search needs) (λ c. search needs) (λ c. search needs) (λ c. search needs)
+    (λ c κs. search needs) (λ c. search needs) (λ c. search needs) returns-3 (λ c. search needs) (λ c κs. search needs)
+    returns-4)

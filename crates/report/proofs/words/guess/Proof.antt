@@ -1,0 +1,17 @@
+-- `report::words::guess`: the table has kinds only. Assumes nothing.
+use Prim.Native.Nat.{_+_, _/_, _%_}
+use native.Mathlib.Omega.{arith}
+use borrow.Author.Needs.{needs}
+use Rattle.report.proofs.Ops.{guess-known}
+use Rattle.report.proofs.words.guess.Statement.{statement}
+use Rattle.report.proofs.words.guess.Tie as tie
+
+returns : tie.Need-returns
+returns c =
+    let bytes = c .before .before .args .bytes in
+    omega (arith, c .byte-at .ensures, guess-known ((bytes / 16_777_216 + bytes / 281_474_976_710_656) % 16))
+
+pub guess-spec : {M : Type 1} → statement M
+guess-spec =
+    tie.close (tie.spec
+    (λ c. search needs) (λ c. search needs) (λ c κs. search needs) returns)

@@ -1,0 +1,15 @@
+-- `report::words::six_or_seven`: either way by the test. Assumes nothing.
+use borrow.Author.Tests.{eq-eqb, ne-eqb}
+use Rattle.report.proofs.words.six_or_seven.Statement.{statement}
+use Rattle.report.proofs.words.six_or_seven.Tie as tie
+
+returns : tie.Need-returns
+returns c = rw (eq-eqb _ _ (c .if1 .taken))
+
+returns-2 : tie.Need-returns-2
+returns-2 c = rw (ne-eqb _ _ (c .if1 .left))
+
+pub six-or-seven-spec : {M : Type 1} → statement M
+six-or-seven-spec =
+    tie.close (tie.spec
+    returns returns-2)
