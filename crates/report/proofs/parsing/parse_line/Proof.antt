@@ -4,7 +4,7 @@ use Prim.Native.Nat.{_+_}
 use native.Mathlib.Omega.{arith}
 use borrow.Author.Needs.{needs}
 use Rattle.report.specs.Bytes.{indexOf}
-use Rattle.report.specs.LineForm.{space, kindOf, parseOf, restOf}
+use Rattle.report.specs.LineForm.{space, kindOf}
 use Rattle.report.proofs.Bytes.{index-fits}
 use Rattle.report.proofs.LineForm.{cut-before, parsed-by, rest-act, rest-mark}
 use Rattle.report.proofs.Ops.{op-ends, no-op-read}

@@ -1,6 +1,5 @@
 -- `report::scan::has`: what was seen, or stands from here on, is in the part. Assumes nothing.
 use mathlib.Core.Path.{_≡_, sym, _∙_}
-use mathlib.Core.Bool.{Bool}
 use Prim.Native.Nat.{_-_, _≤_}
 use lib.Dec.{ltb}
 use lib.ListN.{length}

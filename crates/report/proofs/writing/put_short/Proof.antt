@@ -3,7 +3,6 @@ use mathlib.Core.Path.{_≡_, refl, ap, _∙_}
 use mathlib.Core.Bool.{Bool, true, false, cond}
 use mathlib.Core.List.{List, [], _∷_, _++_}
 use Prim.Native.Nat.{ℕ, _+_, _/_, _≤_, _<_}
-use native.Mathlib.Nat.{add-zero}
 use native.Mathlib.Omega.{arith}
 use lib.Dec.{ltb}
 use lib.ListN.{length}
@@ -12,7 +11,7 @@ use borrow.Author.Tests.{ltb-true, ltb-false}
 use Rattle.report.specs.Printing.{lastDigit, decimal}
 use Rattle.report.specs.Wrote.{Wrote}
 use Rattle.report.proofs.Wrote.{_then_, wrote-over}
-use Rattle.report.proofs.Digits.{decimal-small, decimal-more, length-small, length-more}
+use Rattle.report.proofs.Digits.{decimal-small, decimal-more, length-small}
 use Rattle.report.proofs.writing.put_short.Statement.{statement}
 use Rattle.report.proofs.writing.put_short.Tie as tie
 
