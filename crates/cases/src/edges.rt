@@ -2,7 +2,7 @@
 use crate::feeding::once;
 use crate::telling::line;
 use crate::telling::tell;
-use checker::Record;
+use theory::Record;
 
 const READ: u8 = 0;
 

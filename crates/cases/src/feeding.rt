@@ -4,7 +4,7 @@ use crate::telling::tell;
 use crate::telling::tell_numbered;
 use crate::text::begins;
 use crate::text::record_at;
-use checker::Record;
+use theory::Record;
 
 fn tell_as(a: checker::Answer, numbered: bool) {
     if numbered {

@@ -1,8 +1,8 @@
 // Row 5: 60,000 records are accepted and no more. Only the last answers are printed.
 use crate::telling::line;
 use crate::telling::tell_numbered;
-use checker::Answer;
-use checker::Record;
+use theory::Answer;
+use theory::Record;
 
 // How many records are fed, and how many of them answer before the first that is printed.
 const FED: u32 = 60_005;

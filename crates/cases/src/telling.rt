@@ -1,6 +1,6 @@
 // What is printed of an answer: a line each.
-use checker::Answer;
-use checker::RecordNumber;
+use theory::Answer;
+use theory::RecordNumber;
 
 pub fn line(text: &[u8]) {
     io::write_all(1, text);

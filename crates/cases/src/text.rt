@@ -1,5 +1,5 @@
 // Recordings as text: a record is its task, a sign for its kind and its number, as `0w5`, with one byte between two records.
-use checker::Record;
+use theory::Record;
 
 // A kind number of none of the nine.
 const NONE: u8 = 255;

@@ -1,14 +1,14 @@
 // Which tasks' latest conflicting access has no path to an access, asked without feeding it: a mask for the fullest filling and one for
 // the recording as it arrived. Empty for a record that is no access or would be refused.
 use crate::clocks::clock_masks;
-use crate::masks::Masks;
-use crate::record::Record;
 use crate::refusals::refusal;
 use crate::sets::set_masks;
+use theory::Masks;
+use theory::Record;
 ghost use mathlib.Core.Path.{_≡_};
-ghost use Rattle.checker.specs.Control.{refusalIn};
-ghost use Rattle.checker.specs.Reckonings.{clockMasks, setMasks};
-ghost use Rattle.checker.specs.Step.{masksUnless};
+ghost use Rattle.theory.specs.Control.{refusalIn};
+ghost use Rattle.theory.specs.Reckonings.{clockMasks, setMasks};
+ghost use Rattle.theory.specs.Step.{masksUnless};
 
 // By the clocks.
 pub fn apart_by_clocks(

@@ -3,21 +3,21 @@
 use crate::history::is_access;
 use crate::history::latest_number;
 use crate::kinds::LOST;
-use crate::masks::Masks;
 use crate::masks::weight_of;
-use crate::numbers::Task;
 use crate::refusals::both;
 use crate::rows::heard_by;
 use crate::rows::heard_row;
 use crate::rows::told_by;
 use crate::rows::told_row;
+use theory::Masks;
+use theory::Task;
 ghost use mathlib.Core.Path.{_≡_};
 ghost use mathlib.Core.Bool.{false};
 ghost use lib.Dec.{eqb};
 ghost use Prim.Native.Nat.{_<_, max};
-ghost use Rattle.checker.specs.Tables.{joinRow, rowOf, joinWith, heardWith, flow, gather, spread, mix};
-ghost use Rattle.checker.specs.Reckonings.{clockAct, clocksArrived, clocksFull, clockApart, clockMask, clockMasks, masksBy};
-ghost use Rattle.checker.specs.Acceptance.{Fitting};
+ghost use Rattle.theory.specs.Tables.{joinRow, rowOf, joinWith, heardWith, flow, gather, spread, mix};
+ghost use Rattle.theory.specs.Reckonings.{clockAct, clocksArrived, clocksFull, clockApart, clockMask, clockMasks, masksBy};
+ghost use Rattle.theory.specs.Acceptance.{Fitting};
 
 fn greater(a: u32, b: u32) -> u32
     ensures { λ r. ⌜ r ≡ max a b ⌝ }

@@ -3,7 +3,7 @@ use crate::kinds::JOIN;
 use crate::kinds::START;
 ghost use mathlib.Core.Path.{_≡_};
 ghost use Prim.Native.Nat.{_<_};
-ghost use Rattle.checker.specs.Control.{liveIn, unseenIn, countIn, counted, controlAfter};
+ghost use Rattle.theory.specs.Control.{liveIn, unseenIn, countIn, counted, controlAfter};
 
 const UNSEEN: u32 = 0;
 

@@ -2,14 +2,14 @@
 use crate::kinds::ACCESSES;
 use crate::kinds::READ;
 use crate::kinds::WRITE;
-use crate::numbers::Task;
-use crate::numbers::Variable;
+use theory::Task;
+use theory::Variable;
 ghost use mathlib.Core.Path.{_≡_};
 ghost use mathlib.Core.Bool.{false};
 ghost use lib.Dec.{eqb};
 ghost use Prim.Native.Nat.{_<_};
-ghost use Rattle.checker.specs.Acceptance.{Fitting};
-ghost use Rattle.checker.specs.History.{accesses, slot, latestSlot, latestNumber, lastAfter};
+ghost use Rattle.theory.specs.Acceptance.{Fitting};
+ghost use Rattle.theory.specs.History.{accesses, slot, latestSlot, latestNumber, lastAfter};
 
 pub(crate) fn is_access(kind: u8) -> bool
     ensures { λ r. ⌜ r ≡ accesses kind ⌝ }

@@ -1,6 +1,4 @@
-// The order checker below the text layer.
-// What is meant by order, completions and verdicts stands in specs/, and what is known of them in proofs/.
-mod answer;
+// The order checker below the text layer: the code, each function proved against the definitions of crates/theory.
 mod asking;
 mod clocks;
 mod control;
@@ -8,8 +6,6 @@ mod history;
 mod kinds;
 mod limits;
 mod masks;
-mod numbers;
-mod record;
 mod refusals;
 mod rows;
 mod running;
@@ -17,24 +13,10 @@ mod sets;
 mod state;
 mod stepping;
 
-pub use answer::Answer;
 pub use asking::apart_by_clocks;
 pub use asking::apart_by_sets;
-pub use masks::Masks;
-pub use numbers::Flag;
-pub use numbers::RecordNumber;
-pub use numbers::Semaphore;
-pub use numbers::Task;
-pub use numbers::Variable;
-pub use record::Record;
 pub use refusals::refusal;
 pub use running::feed;
-pub use state::ClockState;
-pub use state::ClockStepped;
-pub use state::SetState;
-pub use state::SetStepped;
-pub use state::State;
-pub use state::Stepped;
 pub use state::fresh;
 pub use state::fresh_clocks;
 pub use state::fresh_sets;

@@ -1,21 +1,16 @@
 // The tasks that are apart from an access, as masks, and the verdict that they make.
-use crate::answer::Answer;
 use crate::history::is_access;
 use crate::history::latest_number;
-use crate::numbers::RecordNumber;
+use theory::Answer;
+use theory::Masks;
+use theory::RecordNumber;
 ghost use mathlib.Core.Path.{_≡_};
 ghost use Prim.Native.Nat.{_<_, _≤_, _*_, _^_};
-ghost use Rattle.checker.specs.Reckonings.{bitOf, lowestTask};
-ghost use Rattle.checker.specs.Step.{judgedBy, answeredBy, sameMasks};
+ghost use Rattle.theory.specs.Reckonings.{bitOf, lowestTask};
+ghost use Rattle.theory.specs.Step.{judgedBy, answeredBy, sameMasks};
 ghost use mathlib.Core.Bool.{false, not};
 ghost use lib.Dec.{eqb};
-ghost use Rattle.checker.specs.Acceptance.{Fitting};
-
-// The tasks whose latest conflicting access has no path to an access: in the fullest filling, and as the recording arrived.
-pub struct Masks {
-    pub full: u16,
-    pub arrived: u16,
-}
+ghost use Rattle.theory.specs.Acceptance.{Fitting};
 
 pub(crate) fn bit_of(b: bool) -> u16
     ensures { λ r. ⌜ (r ≡ bitOf b) × (r ≤ 1) ⌝ }

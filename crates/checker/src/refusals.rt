@@ -16,17 +16,17 @@ use crate::limits::LAST_TASK;
 use crate::limits::LAST_VARIABLE;
 use crate::limits::RECORDS;
 use crate::limits::TASKS;
-use crate::record::Record;
 use crate::rows::has_bit;
+use theory::Record;
 ghost use mathlib.Core.Path.{_≡_};
 ghost use mathlib.Core.Bool.{not, _&&_, _||_};
 ghost use Prim.Native.Nat.{_<_, _^_};
 ghost use lib.Dec.{leb, eqb};
-ghost use Rattle.checker.specs.Limits.{tasks, records};
-ghost use Rattle.checker.specs.Recording.{lossMark, seriesOf};
-ghost use Rattle.checker.specs.Completion.{names};
-ghost use Rattle.checker.specs.Acceptance.{anyBelow};
-ghost use Rattle.checker.specs.Control.{liveIn, unseenIn, countIn, refusalIn};
+ghost use Rattle.theory.specs.Limits.{tasks, records};
+ghost use Rattle.theory.specs.Recording.{lossMark, seriesOf};
+ghost use Rattle.theory.specs.Completion.{names};
+ghost use Rattle.theory.specs.Acceptance.{anyBelow};
+ghost use Rattle.theory.specs.Control.{liveIn, unseenIn, countIn, refusalIn};
 
 // Every mask is below this: it has a bit for each task.
 const MASKS: u32 = 1 << TASKS;

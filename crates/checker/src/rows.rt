@@ -5,13 +5,13 @@ use crate::kinds::LOOK;
 use crate::kinds::SET;
 use crate::kinds::START;
 use crate::kinds::TAKE;
-use crate::numbers::Flag;
-use crate::numbers::Semaphore;
-use crate::numbers::Task;
+use theory::Flag;
+use theory::Semaphore;
+use theory::Task;
 ghost use mathlib.Core.Path.{_≡_};
 ghost use Prim.Native.Nat.{_<_};
-ghost use Rattle.checker.specs.Completion.{bit};
-ghost use Rattle.checker.specs.Tables.{dueRow, actedRow, semaphoreRow, flagRow, heardRow, toldRow, isHeard, isTold, rowOrHub};
+ghost use Rattle.theory.specs.Completion.{bit};
+ghost use Rattle.theory.specs.Tables.{dueRow, actedRow, semaphoreRow, flagRow, heardRow, toldRow, isHeard, isTold, rowOrHub};
 
 fn due_row(t: Task) -> usize
     ensures { λ r. ⌜ r ≡ dueRow (t .0) ⌝ }

@@ -1,10 +1,10 @@
 // The gateway's one running state: lent to the step, and changed there.
-use crate::answer::Answer;
-use crate::record::Record;
-use crate::state::State;
 use crate::stepping::step;
+use theory::Answer;
+use theory::Record;
+use theory::State;
 ghost use mathlib.Core.Path.{_≡_};
-ghost use Rattle.checker.specs.Step.{stepOf};
+ghost use Rattle.theory.specs.Step.{stepOf};
 
 // Feeds a record to the running state, which is changed where it stands. A refused record leaves it as it was.
 pub fn feed(state: &mut State, r: Record) -> Answer

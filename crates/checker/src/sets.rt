@@ -6,22 +6,22 @@ use crate::history::latest_number;
 use crate::history::latest_slot;
 use crate::history::slot;
 use crate::kinds::LOST;
-use crate::masks::Masks;
 use crate::masks::bit_of;
-use crate::numbers::Task;
-use crate::numbers::Variable;
 use crate::refusals::both;
 use crate::rows::heard_by;
 use crate::rows::heard_row;
 use crate::rows::told_by;
 use crate::rows::told_row;
+use theory::Masks;
+use theory::Task;
+use theory::Variable;
 ghost use mathlib.Core.Path.{_≡_};
 ghost use mathlib.Core.Bool.{false};
 ghost use lib.Dec.{eqb};
 ghost use Prim.Native.Nat.{_<_, max};
-ghost use Rattle.checker.specs.Tables.{rowOf, joinWith, joinRow, flow, gather, spread, mix};
-ghost use Rattle.checker.specs.Reckonings.{clearColumn, setOwn, setAct, setsArrived, setsFull, setApart, setMask, setMasks};
-ghost use Rattle.checker.specs.Acceptance.{Fitting};
+ghost use Rattle.theory.specs.Tables.{rowOf, joinWith, joinRow, flow, gather, spread, mix};
+ghost use Rattle.theory.specs.Reckonings.{clearColumn, setOwn, setAct, setsArrived, setsFull, setApart, setMask, setMasks};
+ghost use Rattle.theory.specs.Acceptance.{Fitting};
 
 fn greater(a: u8, b: u8) -> u8
     ensures { λ r. ⌜ r ≡ max a b ⌝ }

@@ -1,5 +1,4 @@
 // The step over all nine kinds of records: by clocks, by sets, and by both. In place, on tables that the caller lends, and by value.
-use crate::answer::Answer;
 use crate::clocks::advance_clocks;
 use crate::clocks::clock_masks;
 use crate::control::COUNT;
@@ -7,18 +6,19 @@ use crate::control::note;
 use crate::history::keep;
 use crate::masks::answered;
 use crate::masks::differ;
-use crate::record::Record;
 use crate::refusals::refusal;
 use crate::sets::advance_sets;
 use crate::sets::set_masks;
-use crate::state::ClockState;
-use crate::state::ClockStepped;
-use crate::state::SetState;
-use crate::state::SetStepped;
-use crate::state::State;
-use crate::state::Stepped;
+use theory::Answer;
+use theory::ClockState;
+use theory::ClockStepped;
+use theory::Record;
+use theory::SetState;
+use theory::SetStepped;
+use theory::State;
+use theory::Stepped;
 ghost use mathlib.Core.Path.{_≡_};
-ghost use Rattle.checker.specs.Step.{clockStepOf, setStepOf, stepOf, clocksOf, setsOf, stateOf, clocksWith, setsWith, stateWith};
+ghost use Rattle.theory.specs.Step.{clockStepOf, setStepOf, stepOf, clocksOf, setsOf, stateOf, clocksWith, setsWith, stateWith};
 
 // Feeds a record to the clocks. A refused record leaves every table as it was.
 pub fn clock_step_in_place(

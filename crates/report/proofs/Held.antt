@@ -10,7 +10,7 @@ use mathlib.Core.Bool.{Bool, true, false}
 use lib.Dec.{leb, eqb}
 use borrow.Author.Tests.{leb-true, leb-false, eq-eqb, ne-eqb}
 use native.Mathlib.Numerals.{add-one}
-use Rattle.checker.specs.declared.state.State.{State}
+use Rattle.theory.specs.declared.state.State.{State}
 use Rattle.report.specs.declared.streaming.Progress.{Progress}
 use Rattle.report.specs.Lines.{lf, linesOf, lineEnd}
 use Rattle.report.specs.LineForm.{parseOf}

@@ -4,10 +4,10 @@ use mathlib.Core.List.{List}
 use Prim.Native.Nat.{ℕ, _+_, _^_, _≤_, _<_}
 use native.Mathlib.Omega.{arith}
 use lib.ListN.{length, length-append}
-use Rattle.checker.specs.declared.record.Record.{Record}
-use Rattle.checker.specs.declared.answer.Answer.{Answer}
-use Rattle.checker.specs.declared.answer.Answer.the-variants.{Refused, Accepted, Clear, Race, Doubt}
-use Rattle.checker.specs.Feeding.{refusalNumber}
+use Rattle.theory.specs.declared.record.Record.{Record}
+use Rattle.theory.specs.declared.answer.Answer.{Answer}
+use Rattle.theory.specs.declared.answer.Answer.the-variants.{Refused, Accepted, Clear, Race, Doubt}
+use Rattle.theory.specs.Feeding.{refusalNumber}
 use Rattle.report.specs.Printing.{bytes, digitsOf, decimal}
 use Rattle.report.specs.ReportLines.{accessPart, accessLine, refusedLine, reportLine}
 use Rattle.report.proofs.Digits.{decimal-fits}

@@ -8,7 +8,7 @@ use lib.Dec.{eqb}
 use lib.ListN.{length, getD, take, drop, take-append-drop}
 use lib.Seq.{drop-cons, length-take-le}
 use borrow.Author.Tests.{eqb-true, eqb-false}
-use Rattle.checker.specs.Recording.{lossMark}
+use Rattle.theory.specs.Recording.{lossMark}
 use Rattle.report.specs.declared.parsing.Parsed.{Parsed}
 use Rattle.report.specs.Bytes.{indexOf, upTo, after, startsWith, little}
 use Rattle.report.specs.LineForm.{opName, taskName, wordOf, space, kindOf, restOf, parseOf}

@@ -8,7 +8,7 @@ use lib.Dec.{eqb, leb}
 use lib.ListN.{length, take, drop, length-take, length-append}
 use lib.Seq.{take-all}
 use borrow.Author.Tests.{ne-eqb, eqb-true, eqb-false, leb-true, leb-false}
-use Rattle.checker.specs.declared.state.State.{State}
+use Rattle.theory.specs.declared.state.State.{State}
 use Rattle.report.specs.declared.parsing.Parsed.{Parsed}
 use Rattle.report.specs.Lines.{lf, linesOf}
 use Rattle.report.specs.LineForm.{parseOf}

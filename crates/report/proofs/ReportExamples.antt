@@ -1,8 +1,8 @@
 -- Lines of document 01's example, as the definitions give them, and the longest numbers. Assumes nothing.
 use mathlib.Core.Path.{_≡_, refl}
 use Prim.Native.Nat.{ℕ, _^_, _-_}
-use Rattle.checker.specs.declared.record.Record.{Record}
-use Rattle.checker.specs.declared.answer.Answer.the-variants.{Refused, Accepted, Clear, Race, Doubt}
+use Rattle.theory.specs.declared.record.Record.{Record}
+use Rattle.theory.specs.declared.answer.Answer.the-variants.{Refused, Accepted, Clear, Race, Doubt}
 use Rattle.report.specs.Printing.{bytes, digitsOf, widthIn, width, decimal, fiveDigits}
 use Rattle.report.specs.ReportLines.{accessPart, accessLine, refusedLine, reportLine}
 

@@ -6,7 +6,7 @@ use native.Mathlib.Numerals.{add-one}
 use native.Mathlib.Omega.{arith}
 use lib.ListN.{length, take, drop, getD, length-append, length-drop, drop-of-length-le}
 use lib.Seq.{sets, length-sets, drop-drop, drop-cons, getD-drop}
-use Rattle.checker.specs.declared.state.State.{State}
+use Rattle.theory.specs.declared.state.State.{State}
 use Rattle.report.specs.Lines.{lf, linesOf, lineEnd}
 use Rattle.report.specs.LineForm.{parseOf}
 use Rattle.report.specs.Wrote.{Wrote}

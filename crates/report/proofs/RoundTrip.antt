@@ -7,8 +7,8 @@ use native.Mathlib.Omega.{arith}
 use lib.Dec.{ltb, eqb}
 use lib.ListN.{length, getD, drop, length-append}
 use borrow.Author.Tests.{ltb-true, eqb-true, eqb-false, ne-eqb}
-use Rattle.checker.specs.declared.record.Record.{Record}
-use Rattle.checker.specs.Recording.{lossMark}
+use Rattle.theory.specs.declared.record.Record.{Record}
+use Rattle.theory.specs.Recording.{lossMark}
 use Rattle.report.specs.declared.decimal.Number.{Number}
 use Rattle.report.specs.declared.parsing.Parsed.{Parsed}
 use Rattle.report.specs.Bytes.{indexOf, upTo, after, startsWith, isWord}

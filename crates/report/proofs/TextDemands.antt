@@ -9,17 +9,17 @@ use lib.Dec.{eqb}
 use lib.ListN.{length, drop, length-append}
 use lib.Seq.{sets, sets-eq}
 use borrow.Author.Tests.{ltb-true, ltb-false}
-use Rattle.checker.specs.declared.record.Record.{Record}
-use Rattle.checker.specs.declared.state.State.{State}
-use Rattle.checker.specs.declared.state.Stepped.{Stepped}
-use Rattle.checker.specs.declared.answer.Answer.{Answer}
-use Rattle.checker.specs.declared.answer.Answer.the-variants.{Refused, Accepted}
-use Rattle.checker.specs.Verdict.{Verdict, Race, Clear, Doubt}
-use Rattle.checker.specs.Acceptance.{rows, firstRow, refusalBy}
-use Rattle.checker.specs.Control.{refusalIn}
-use Rattle.checker.specs.History.{accesses}
-use Rattle.checker.specs.Step.{verdictBy, judgedBy, nextNumber, sameMasks, masksOfClocks, masksOfSets, accepted, stepOf, freshState}
-use Rattle.checker.specs.Feeding.{Says, says-clear, says-race, says-doubt, fedTo}
+use Rattle.theory.specs.declared.record.Record.{Record}
+use Rattle.theory.specs.declared.state.State.{State}
+use Rattle.theory.specs.declared.state.Stepped.{Stepped}
+use Rattle.theory.specs.declared.answer.Answer.{Answer}
+use Rattle.theory.specs.declared.answer.Answer.the-variants.{Refused, Accepted}
+use Rattle.theory.specs.Verdict.{Verdict, Race, Clear, Doubt}
+use Rattle.theory.specs.Acceptance.{rows, firstRow, refusalBy}
+use Rattle.theory.specs.Control.{refusalIn}
+use Rattle.theory.specs.History.{accesses}
+use Rattle.theory.specs.Step.{verdictBy, judgedBy, nextNumber, sameMasks, masksOfClocks, masksOfSets, accepted, stepOf, freshState}
+use Rattle.theory.specs.Feeding.{Says, says-clear, says-race, says-doubt, fedTo}
 use Rattle.report.specs.declared.parsing.Parsed.{Parsed}
 use Rattle.report.specs.Lines.{linesOf}
 use Rattle.report.specs.LineForm.{parseOf}

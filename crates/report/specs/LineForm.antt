@@ -5,8 +5,8 @@ use mathlib.Core.Bool.{Bool, cond, not, _&&_, _||_}
 use mathlib.Core.List.{List, [], _∷_, _++_}
 use lib.ListN.{length, getD, drop}
 use lib.Dec.{leb, ltb, eqb}
-use Rattle.checker.specs.declared.record.Record.{Record}
-use Rattle.checker.specs.Recording.{lossMark}
+use Rattle.theory.specs.declared.record.Record.{Record}
+use Rattle.theory.specs.Recording.{lossMark}
 use Rattle.report.specs.declared.decimal.Number.{Number}
 use Rattle.report.specs.declared.parsing.Parsed.{Parsed}
 use Rattle.report.specs.Bytes.{upTo, after, startsWith, isWord}

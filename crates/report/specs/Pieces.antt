@@ -6,8 +6,8 @@ use mathlib.Core.Bool.{Bool, cond, _&&_}
 use mathlib.Core.List.{List, [], _∷_, _++_}
 use lib.Dec.{eqb, leb}
 use lib.ListN.{length, take}
-use Rattle.checker.specs.declared.state.State.{State}
-use Rattle.checker.specs.Step.{freshState}
+use Rattle.theory.specs.declared.state.State.{State}
+use Rattle.theory.specs.Step.{freshState}
 use Rattle.report.specs.declared.streaming.Progress.{Progress}
 use Rattle.report.specs.Lines.{lf}
 use Rattle.report.specs.LineForm.{parseOf}

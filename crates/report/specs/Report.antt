@@ -6,9 +6,9 @@ use mathlib.Core.List.{List, [], _∷_, _++_}
 use lib.Dec.{ltb}
 use lib.ListN.{length}
 use lib.Seq.{sets}
-use Rattle.checker.specs.declared.record.Record.{Record}
-use Rattle.checker.specs.declared.state.State.{State}
-use Rattle.checker.specs.Step.{stepOf, freshState}
+use Rattle.theory.specs.declared.record.Record.{Record}
+use Rattle.theory.specs.declared.state.State.{State}
+use Rattle.theory.specs.Step.{stepOf, freshState}
 use Rattle.report.specs.declared.parsing.Parsed.{Parsed}
 use Rattle.report.specs.Lines.{linesOf}
 use Rattle.report.specs.LineForm.{parseOf}

@@ -2,9 +2,9 @@
 use Prim.Native.Nat.{ℕ}
 use mathlib.Core.List.{List, [], _++_}
 use Rattle.report.specs.Printing.{bytes, decimal, fiveDigits}
-use Rattle.checker.specs.declared.record.Record.{Record}
-use Rattle.checker.specs.declared.answer.Answer.{Answer}
-use Rattle.checker.specs.declared.answer.Answer.the-variants.{Refused, Accepted, Clear, Race, Doubt}
+use Rattle.theory.specs.declared.record.Record.{Record}
+use Rattle.theory.specs.declared.answer.Answer.{Answer}
+use Rattle.theory.specs.declared.answer.Answer.the-variants.{Refused, Accepted, Clear, Race, Doubt}
 
 -- which access it is: "rec=00002 task=0 var=5", by its record number, task and variable
 unfoldable pub accessPart : ℕ → ℕ → ℕ → List ℕ

@@ -5,15 +5,15 @@ use Prim.Native.Nat.{ℕ, zero, suc, _-_, _*_, _^_, _≤_, _<_}
 use mathlib.Core.Bool.{Bool, true, false}
 use mathlib.Core.List.{List, [], _∷_, _++_}
 use lib.ListN.{length, drop}
-use Rattle.checker.specs.declared.record.Record.{Record}
-use Rattle.checker.specs.declared.state.State.{State}
-use Rattle.checker.specs.declared.answer.Answer.{Answer}
-use Rattle.checker.specs.declared.answer.Answer.the-variants.{Accepted}
-use Rattle.checker.specs.Verdict.{Verdict, Race, Clear, Doubt}
-use Rattle.checker.specs.Control.{refusalIn}
-use Rattle.checker.specs.History.{accesses}
-use Rattle.checker.specs.Step.{recordNumber, nextNumber, masksOfClocks, masksOfSets, sameMasks, stepOf, freshState}
-use Rattle.checker.specs.Feeding.{Says, fed}
+use Rattle.theory.specs.declared.record.Record.{Record}
+use Rattle.theory.specs.declared.state.State.{State}
+use Rattle.theory.specs.declared.answer.Answer.{Answer}
+use Rattle.theory.specs.declared.answer.Answer.the-variants.{Accepted}
+use Rattle.theory.specs.Verdict.{Verdict, Race, Clear, Doubt}
+use Rattle.theory.specs.Control.{refusalIn}
+use Rattle.theory.specs.History.{accesses}
+use Rattle.theory.specs.Step.{recordNumber, nextNumber, masksOfClocks, masksOfSets, sameMasks, stepOf, freshState}
+use Rattle.theory.specs.Feeding.{Says, fed}
 use Rattle.report.specs.Lines.{linesOf}
 use Rattle.report.specs.LineForm.{textOf, Sayable}
 use Rattle.report.specs.Printing.{bytes}

@@ -10,7 +10,7 @@ ghost use mathlib.Core.Path.{_≡_};
 ghost use mathlib.Core.List.{[]};
 ghost use Prim.Native.Nat.{_<_, _≤_, _+_, _-_, _*_, _^_};
 ghost use lib.ListN.{length, take, drop};
-ghost use Rattle.checker.specs.Step.{stateOf};
+ghost use Rattle.theory.specs.Step.{stateOf};
 ghost use Rattle.report.specs.Lines.{linesOf};
 ghost use Rattle.report.specs.LineForm.{parseOf};
 ghost use Rattle.report.specs.Wrote.{Wrote};

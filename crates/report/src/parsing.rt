@@ -4,7 +4,7 @@ use crate::words::field;
 use crate::words::op;
 use crate::words::op_end;
 use crate::words::task_end;
-use checker::Record;
+use theory::Record;
 ghost use mathlib.Core.Path.{_≡_};
 ghost use Prim.Native.Nat.{ℕ, suc, _≤_, _<_};
 ghost use lib.ListN.{length, drop};

@@ -9,7 +9,7 @@ ghost use mathlib.Core.List.{_++_};
 ghost use Prim.Native.Nat.{_<_, _≤_, _+_, _*_, _^_, min};
 ghost use lib.ListN.{length, take};
 ghost use lib.Seq.{sets as written};
-ghost use Rattle.checker.specs.Step.{stateOf};
+ghost use Rattle.theory.specs.Step.{stateOf};
 ghost use Rattle.report.specs.Lines.{linesOf};
 ghost use Rattle.report.specs.LineForm.{parseOf};
 ghost use Rattle.report.specs.Wrote.{Wrote};

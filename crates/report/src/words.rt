@@ -8,7 +8,7 @@ ghost use mathlib.Core.List.{_++_};
 ghost use Prim.Native.Nat.{_+_, _≤_, _<_};
 ghost use lib.Dec.{eqb};
 ghost use lib.ListN.{length, getD, take, drop};
-ghost use Rattle.checker.specs.Recording.{lossMark};
+ghost use Rattle.theory.specs.Recording.{lossMark};
 ghost use Rattle.report.specs.Bytes.{indexOf, upTo, startsWith, isWord, little};
 ghost use Rattle.report.specs.LineForm.{fieldOf, kindOf, placeOf, words, wordOf, opName, space};
 

@@ -1,6 +1,6 @@
 // Report lines, written into lent memory. Each function writes at a place and returns the place after what it wrote.
-use checker::Answer;
-use checker::Record;
+use theory::Answer;
+use theory::Record;
 ghost use Prim.Native.Nat.{_+_, _<_, _≤_, _^_};
 ghost use mathlib.Core.Path.{_≡_};
 ghost use mathlib.Core.Bool.{cond};

@@ -1,5 +1,5 @@
 -- An act's own part, then order over it.
-use Rattle.checker.proofs.Ranges.{heard-fits, told-fits}
+use Rattle.theory.proofs.Ranges.{heard-fits, told-fits}
 use borrow.Author.Needs.{needs}
 use Rattle.checker.proofs.clocks.act.Statement.{statement}
 use Rattle.checker.proofs.clocks.act.Tie as tie

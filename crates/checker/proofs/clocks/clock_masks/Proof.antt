@@ -1,7 +1,7 @@
 -- Both masks of an access, and none of another record.
 use borrow.Author.Tests.{ltb-true}
 use mathlib.Core.Path.{sym, _∙_}
-use Rattle.checker.proofs.Ranges.{access-fits, access-acts}
+use Rattle.theory.proofs.Ranges.{access-fits, access-acts}
 use borrow.Author.Needs.{needs}
 use Rattle.checker.proofs.clocks.clock_masks.Statement.{statement}
 use Rattle.checker.proofs.clocks.clock_masks.Tie as tie

@@ -1,7 +1,7 @@
 -- Three joins, one after the other; the task's row stays as its copy has it.
 use mathlib.Core.Path.{sym, _∙_}
-use Rattle.checker.specs.Tables.{flow}
-use Rattle.checker.proofs.Tables.{join-self, join-kept}
+use Rattle.theory.specs.Tables.{flow}
+use Rattle.theory.proofs.Tables.{join-self, join-kept}
 use borrow.Author.Needs.{needs}
 use Rattle.checker.proofs.clocks.flow.Statement.{statement}
 use Rattle.checker.proofs.clocks.flow.Tie as tie

@@ -2,10 +2,10 @@
 use mathlib.Core.Path.{_∙_, sym}
 use Prim.Native.Nat.{_≤_, _-_}
 use native.Mathlib.Omega.{arith}
-use Rattle.checker.specs.Tables.{joinRow, joinWith, isHeard, rowOrHub, gather}
-use Rattle.checker.proofs.Turns.{Turned, no-turn-yet, one-turn, all-turns}
-use Rattle.checker.proofs.Tables.{join-nothing, join-heard}
-use Rattle.checker.proofs.Marks.{heard-at-object}
+use Rattle.theory.specs.Tables.{joinRow, joinWith, isHeard, rowOrHub, gather}
+use Rattle.theory.proofs.Turns.{Turned, no-turn-yet, one-turn, all-turns}
+use Rattle.theory.proofs.Tables.{join-nothing, join-heard}
+use Rattle.theory.proofs.Marks.{heard-at-object}
 use borrow.Author.Needs.{needs}
 use Rattle.checker.proofs.clocks.gather.Statement.{statement}
 use Rattle.checker.proofs.clocks.gather.Tie as tie

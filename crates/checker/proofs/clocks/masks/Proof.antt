@@ -1,8 +1,8 @@
 -- Both masks of an access, summed from the lowest task up.
 use Prim.Native.Nat.{_≤_, _-_, _^_}
 use native.Mathlib.Omega.{arith}
-use Rattle.checker.specs.Reckonings.{clockApart}
-use Rattle.checker.proofs.Bits.{Summed, no-sum, one-sum, sum-fits, all-sums}
+use Rattle.theory.specs.Reckonings.{clockApart}
+use Rattle.theory.proofs.Bits.{Summed, no-sum, one-sum, sum-fits, all-sums}
 use borrow.Author.Needs.{needs}
 use Rattle.checker.proofs.clocks.masks.Statement.{statement}
 use Rattle.checker.proofs.clocks.masks.Tie as tie

@@ -3,10 +3,10 @@ use mathlib.Core.Path.{_≡_, sym}
 use mathlib.Core.List.{List}
 use Prim.Native.Nat.{ℕ, _≤_, _-_}
 use native.Mathlib.Omega.{arith}
-use Rattle.checker.specs.Tables.{joinRow, rowOf, isTold, rowOrHub, spread}
-use Rattle.checker.proofs.Turns.{Turned, no-turn, one-turn, all-turns}
-use Rattle.checker.proofs.Tables.{join-kept}
-use Rattle.checker.proofs.Marks.{told-at-object}
+use Rattle.theory.specs.Tables.{joinRow, rowOf, isTold, rowOrHub, spread}
+use Rattle.theory.proofs.Turns.{Turned, no-turn, one-turn, all-turns}
+use Rattle.theory.proofs.Tables.{join-kept}
+use Rattle.theory.proofs.Marks.{told-at-object}
 use borrow.Author.Needs.{needs}
 use Rattle.checker.proofs.clocks.spread.Statement.{statement}
 use Rattle.checker.proofs.clocks.spread.Tie as tie

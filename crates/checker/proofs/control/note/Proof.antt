@@ -5,7 +5,7 @@ use native.Mathlib.Omega.{arith}
 use lib.ListN.{set}
 use lib.Seq.{getD-set-other}
 use borrow.Author.Tests.{ne-eqb}
-use Rattle.checker.specs.Control.{countIn}
+use Rattle.theory.specs.Control.{countIn}
 use borrow.Author.Needs.{needs}
 use Rattle.checker.proofs.control.note.Statement.{statement}
 use Rattle.checker.proofs.control.note.Tie as tie

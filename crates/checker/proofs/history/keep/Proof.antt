@@ -1,7 +1,7 @@
 -- An access is put into its slot; any other record leaves the history as it was.
 use borrow.Author.Tests.{ltb-true}
 use mathlib.Core.Path.{sym, _∙_}
-use Rattle.checker.proofs.Ranges.{access-fits, access-acts}
+use Rattle.theory.proofs.Ranges.{access-fits, access-acts}
 use borrow.Author.Needs.{needs}
 use Rattle.checker.proofs.history.keep.Statement.{statement}
 use Rattle.checker.proofs.history.keep.Tie as tie

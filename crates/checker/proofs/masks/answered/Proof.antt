@@ -1,7 +1,7 @@
 -- A verdict for an access, a number for another record.
 use borrow.Author.Tests.{ltb-true}
 use mathlib.Core.Path.{sym, _∙_}
-use Rattle.checker.proofs.Ranges.{access-fits, access-acts}
+use Rattle.theory.proofs.Ranges.{access-fits, access-acts}
 use borrow.Author.Needs.{needs}
 use Rattle.checker.proofs.masks.answered.Statement.{statement}
 use Rattle.checker.proofs.masks.answered.Tie as tie

@@ -2,7 +2,7 @@
 use mathlib.Core.Path.{sym}
 use Prim.Native.Nat.{_^_}
 use native.Mathlib.Nat.{zero-mul}
-use Rattle.checker.proofs.Bits.{weight-small}
+use Rattle.theory.proofs.Bits.{weight-small}
 use borrow.Author.Needs.{needs}
 use Rattle.checker.proofs.masks.weight_of.Statement.{statement}
 use Rattle.checker.proofs.masks.weight_of.Tie as tie

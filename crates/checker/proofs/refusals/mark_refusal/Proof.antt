@@ -2,9 +2,9 @@
 use mathlib.Core.Path.{_≡_, sym, _∙_}
 use Prim.Native.Nat.{ℕ, _+_}
 use lib.ListN.{drop}
-use Rattle.checker.specs.Acceptance.{firstRow}
-use Rattle.checker.specs.Control.{liveIn, unseenIn, countIn, refusalIn}
-use Rattle.checker.proofs.Acceptance.{markRows, mark-rows}
+use Rattle.theory.specs.Acceptance.{firstRow}
+use Rattle.theory.specs.Control.{liveIn, unseenIn, countIn, refusalIn}
+use Rattle.theory.proofs.Acceptance.{markRows, mark-rows}
 use borrow.Author.Needs.{needs}
 use Rattle.checker.proofs.refusals.mark_refusal.Statement.{statement}
 use Rattle.checker.proofs.refusals.mark_refusal.Tie as tie

@@ -39,19 +39,19 @@ use denote.Triple.Spec.{Meets, tripleOf}
 use denote.Triple.Table.{entered, cited}
 use denote.Triple.Walked.{says, Stays, stay-ref, stay-none, walkOf, AllGo, goes-ref, goes-none, Walks, ends-at, walked, walk-meets}
 use denote.Exit.{yes}
-use Rattle.checker.specs.Step.{stepOf}
-use Rattle.checker.specs.declared.state.State.{State}
-use Rattle.checker.specs.declared.record.Record.{Record}
-use Rattle.checker.specs.declared.state.Stepped.{Stepped}
-use Rattle.checker.specs.declared.answer.Answer.{Answer}
-use Rattle.checker.proofs.state.State as S
-use Rattle.checker.proofs.state.State.Laws as S′
-use Rattle.checker.proofs.record.Record as R
-use Rattle.checker.proofs.record.Record.Laws as R′
-use Rattle.checker.proofs.state.Stepped as Q
-use Rattle.checker.proofs.state.Stepped.Laws as Q′
-use Rattle.checker.proofs.answer.Answer as N
-use Rattle.checker.proofs.answer.Answer.Laws as N′
+use Rattle.theory.specs.Step.{stepOf}
+use Rattle.theory.specs.declared.state.State.{State}
+use Rattle.theory.specs.declared.record.Record.{Record}
+use Rattle.theory.specs.declared.state.Stepped.{Stepped}
+use Rattle.theory.specs.declared.answer.Answer.{Answer}
+use Rattle.theory.proofs.state.State as S
+use Rattle.theory.proofs.state.State.Laws as S′
+use Rattle.theory.proofs.record.Record as R
+use Rattle.theory.proofs.record.Record.Laws as R′
+use Rattle.theory.proofs.state.Stepped as Q
+use Rattle.theory.proofs.state.Stepped.Laws as Q′
+use Rattle.theory.proofs.answer.Answer as N
+use Rattle.theory.proofs.answer.Answer.Laws as N′
 use Rattle.checker.proofs.stepping.step as step
 use Rattle.checker.proofs.stepping.step.Symbol as step-def
 use Rattle.checker.proofs.stepping.step.Symbol.{name as #step}

@@ -2,9 +2,9 @@
 use Prim.Native.Nat.{_≤_, _+_, _*_, _-_}
 use mathlib.Core.Path.{refl}
 use native.Mathlib.Omega.{arith}
-use Rattle.checker.specs.Reckonings.{clearColumn}
+use Rattle.theory.specs.Reckonings.{clearColumn}
 use lib.ListN.{set}
-use Rattle.checker.proofs.Turns.{Turned, no-turn, one-turn, all-turns}
+use Rattle.theory.proofs.Turns.{Turned, no-turn, one-turn, all-turns}
 use borrow.Author.Needs.{needs}
 use Rattle.checker.proofs.sets.clear_column.Statement.{statement}
 use Rattle.checker.proofs.sets.clear_column.Tie as tie

@@ -1,5 +1,5 @@
 -- Three joins, one after the other.
-use Rattle.checker.specs.Tables.{flow}
+use Rattle.theory.specs.Tables.{flow}
 use borrow.Author.Needs.{needs}
 use Rattle.checker.proofs.sets.flow.Statement.{statement}
 use Rattle.checker.proofs.sets.flow.Tie as tie

@@ -1,8 +1,8 @@
 -- What a mark can hear is joined to the hub, row by row.
 use Prim.Native.Nat.{_≤_, _-_}
 use native.Mathlib.Omega.{arith}
-use Rattle.checker.specs.Tables.{joinRow, isHeard, rowOrHub, gather}
-use Rattle.checker.proofs.Turns.{Turned, no-turn, one-turn, all-turns}
+use Rattle.theory.specs.Tables.{joinRow, isHeard, rowOrHub, gather}
+use Rattle.theory.proofs.Turns.{Turned, no-turn, one-turn, all-turns}
 use borrow.Author.Needs.{needs}
 use Rattle.checker.proofs.sets.gather.Statement.{statement}
 use Rattle.checker.proofs.sets.gather.Tie as tie

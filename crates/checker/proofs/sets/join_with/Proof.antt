@@ -1,8 +1,8 @@
 -- A row of the sets joined with one that stands by itself, column by column.
 use Prim.Native.Nat.{_≤_, _-_}
 use native.Mathlib.Omega.{arith}
-use Rattle.checker.specs.Tables.{joinWithCell, joinWith}
-use Rattle.checker.proofs.Turns.{Turned, no-turn, one-turn, all-turns}
+use Rattle.theory.specs.Tables.{joinWithCell, joinWith}
+use Rattle.theory.proofs.Turns.{Turned, no-turn, one-turn, all-turns}
 use borrow.Author.Needs.{needs}
 use Rattle.checker.proofs.sets.join_with.Statement.{statement}
 use Rattle.checker.proofs.sets.join_with.Tie as tie

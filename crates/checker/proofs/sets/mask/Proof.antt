@@ -1,9 +1,9 @@
 -- The mask of the tasks that are apart, from the highest bit down.
 use Prim.Native.Nat.{_≤_, _<_, _+_, _*_, _-_, _^_}
 use native.Mathlib.Omega.{arith}
-use Rattle.checker.specs.Reckonings.{bitOf, maskOf, setApart}
-use Rattle.checker.proofs.Turns.{Turned, no-turn, one-turn, all-turns}
-use Rattle.checker.proofs.Bits.{mask-room, mask-next}
+use Rattle.theory.specs.Reckonings.{bitOf, maskOf, setApart}
+use Rattle.theory.proofs.Turns.{Turned, no-turn, one-turn, all-turns}
+use Rattle.theory.proofs.Bits.{mask-room, mask-next}
 use borrow.Author.Needs.{needs}
 use Rattle.checker.proofs.sets.mask.Statement.{statement}
 use Rattle.checker.proofs.sets.mask.Tie as tie

@@ -1,5 +1,5 @@
 -- Gathered, then spread.
-use Rattle.checker.specs.Tables.{mix}
+use Rattle.theory.specs.Tables.{mix}
 use borrow.Author.Needs.{needs}
 use Rattle.checker.proofs.sets.mix.Statement.{statement}
 use Rattle.checker.proofs.sets.mix.Tie as tie

@@ -1,7 +1,7 @@
 -- An access clears its column and is known to its own task.
 use borrow.Author.Tests.{ltb-true}
 use mathlib.Core.Path.{sym, _∙_}
-use Rattle.checker.proofs.Ranges.{access-fits}
+use Rattle.theory.proofs.Ranges.{access-fits}
 use borrow.Author.Needs.{needs}
 use Rattle.checker.proofs.sets.own.Statement.{statement}
 use Rattle.checker.proofs.sets.own.Tie as tie

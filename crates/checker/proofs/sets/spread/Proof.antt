@@ -2,9 +2,9 @@
 use mathlib.Core.Path.{_≡_, sym}
 use Prim.Native.Nat.{_≤_, _-_}
 use native.Mathlib.Omega.{arith}
-use Rattle.checker.specs.Tables.{joinRow, rowOf, isTold, rowOrHub, spread}
-use Rattle.checker.proofs.Turns.{Turned, no-turn, one-turn, all-turns}
-use Rattle.checker.proofs.Tables.{join-kept}
+use Rattle.theory.specs.Tables.{joinRow, rowOf, isTold, rowOrHub, spread}
+use Rattle.theory.proofs.Turns.{Turned, no-turn, one-turn, all-turns}
+use Rattle.theory.proofs.Tables.{join-kept}
 use borrow.Author.Needs.{needs}
 use Rattle.checker.proofs.sets.spread.Statement.{statement}
 use Rattle.checker.proofs.sets.spread.Tie as tie

@@ -1,4 +1,4 @@
-use Rattle.checker.specs.Step.{freshState}
+use Rattle.theory.specs.Step.{freshState}
 use borrow.Author.Needs.{needs}
 use Rattle.checker.proofs.state.fresh.Statement.{statement}
 use Rattle.checker.proofs.state.fresh.Tie as tie

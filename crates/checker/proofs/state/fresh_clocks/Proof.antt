@@ -1,4 +1,4 @@
-use Rattle.checker.specs.Step.{freshClocks}
+use Rattle.theory.specs.Step.{freshClocks}
 use borrow.Author.Needs.{needs}
 use Rattle.checker.proofs.state.fresh_clocks.Statement.{statement}
 use Rattle.checker.proofs.state.fresh_clocks.Tie as tie

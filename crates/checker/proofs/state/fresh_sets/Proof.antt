@@ -1,4 +1,4 @@
-use Rattle.checker.specs.Step.{freshSets}
+use Rattle.theory.specs.Step.{freshSets}
 use borrow.Author.Needs.{needs}
 use Rattle.checker.proofs.state.fresh_sets.Statement.{statement}
 use Rattle.checker.proofs.state.fresh_sets.Tie as tie

@@ -1,7 +1,7 @@
 -- The calls' equations put together.
 use native.Mathlib.Omega.{arith}
-use Rattle.checker.specs.Step.{clockStepOf}
-use Rattle.checker.proofs.Accepting.{accepts, clock-refused}
+use Rattle.theory.specs.Step.{clockStepOf}
+use Rattle.theory.proofs.Accepting.{accepts, clock-refused}
 use borrow.Author.Needs.{needs}
 use Rattle.checker.proofs.stepping.clock_step_in_place.Statement.{statement}
 use Rattle.checker.proofs.stepping.clock_step_in_place.Tie as tie

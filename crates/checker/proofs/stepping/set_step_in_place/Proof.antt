@@ -1,7 +1,7 @@
 -- The calls' equations put together.
 use native.Mathlib.Omega.{arith}
-use Rattle.checker.specs.Step.{setStepOf}
-use Rattle.checker.proofs.Accepting.{accepts, set-refused}
+use Rattle.theory.specs.Step.{setStepOf}
+use Rattle.theory.proofs.Accepting.{accepts, set-refused}
 use borrow.Author.Needs.{needs}
 use Rattle.checker.proofs.stepping.set_step_in_place.Statement.{statement}
 use Rattle.checker.proofs.stepping.set_step_in_place.Tie as tie

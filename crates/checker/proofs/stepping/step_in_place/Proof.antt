@@ -1,15 +1,15 @@
-use Rattle.checker.specs.Step.{stateOf}
+use Rattle.theory.specs.Step.{stateOf}
 -- The calls' equations put together.
-use Rattle.checker.proofs.Accepting.{step-accepted}
+use Rattle.theory.proofs.Accepting.{step-accepted}
 -- The calls' equations put together.
-use Rattle.checker.specs.Step.{sameMasks}
+use Rattle.theory.specs.Step.{sameMasks}
 -- The calls' equations put together.
 use borrow.Author.Tests.{not-true, not-false}
 -- The calls' equations put together.
 use mathlib.Core.Path.{sym, _∙_}
 use native.Mathlib.Omega.{arith}
-use Rattle.checker.specs.Step.{stepOf}
-use Rattle.checker.proofs.Accepting.{accepts, refused}
+use Rattle.theory.specs.Step.{stepOf}
+use Rattle.theory.proofs.Accepting.{accepts, refused}
 use borrow.Author.Needs.{needs}
 use Rattle.checker.proofs.stepping.step_in_place.Statement.{statement}
 use Rattle.checker.proofs.stepping.step_in_place.Tie as tie

@@ -1,7 +1,7 @@
 -- A line is refused, or its record is fed and the answer written.
 use mathlib.Core.Path.{sym, _∙_, ap}
 use native.Mathlib.Omega.{arith}
-use Rattle.checker.specs.declared.state.Stepped.{Stepped}
+use Rattle.theory.specs.declared.state.Stepped.{Stepped}
 use Rattle.report.proofs.RoundTrip.{only-sayable}
 use borrow.Author.Needs.{needs}
 use Rattle.report.proofs.answering.put_line.Statement.{statement}

@@ -4,7 +4,7 @@ use mathlib.Core.List.{[]}
 use Prim.Native.Nat.{_≤_, _<_, _+_, _-_}
 use native.Mathlib.Omega.{arith}
 use lib.ListN.{length, drop}
-use Rattle.checker.specs.Step.{stateOf}
+use Rattle.theory.specs.Step.{stateOf}
 use Rattle.report.specs.Pieces.{kept, saidIn, afterPiece}
 use Rattle.report.proofs.Wrote.{as-long}
 use Rattle.report.proofs.Reporting.{Left, left-start, left-room, left-taken, left-said, left-kept, ends-before, moved, past-last}

@@ -6,7 +6,7 @@ use native.Mathlib.Omega.{arith}
 use native.Mathlib.Nat.{zero-add}
 use lib.ListN.{length, take}
 use lib.Seq.{sets, length-sets}
-use Rattle.checker.specs.Step.{freshState}
+use Rattle.theory.specs.Step.{freshState}
 use Rattle.report.specs.declared.streaming.Progress.{Progress}
 use Rattle.report.specs.Wrote.{Wrote}
 use Rattle.report.specs.Pieces.{freshKept, saidIn, afterPiece}

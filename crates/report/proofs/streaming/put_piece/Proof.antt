@@ -4,7 +4,7 @@ use Prim.Native.Nat.{_≤_, _<_}
 use native.Mathlib.Omega.{arith}
 use lib.ListN.{length, take, length-take}
 use lib.Seq.{sets}
-use Rattle.checker.specs.declared.state.State.{State}
+use Rattle.theory.specs.declared.state.State.{State}
 use Rattle.report.specs.Pieces.{Kept, heldMost}
 use Rattle.report.proofs.Wrote.{as-long}
 use Rattle.report.proofs.Lines.{lines-at}

@@ -1,0 +1,274 @@
+-- Demands 1, 2 and 3 for whatever list of records is fed: of the clocks, of the sets, and of the step with both. The statements are in
+-- specs/Feeding.antt. Assumes nothing.
+use mathlib.Core.Path.{_≡_, refl, sym, _∙_, ap, subst}
+use mathlib.Core.Bool.{Bool, true, false, cond}
+use mathlib.Core.Logic.{_↔_, _⊎_, inl, inr}
+use lib.Dec.{eqb}
+use mathlib.Core.List.{List, [], _∷_, _++_, map, append-assoc, append-nil}
+use Prim.Native.Nat.{ℕ, zero, suc, _+_, _≤_, _<_, zero-le}
+use native.Mathlib.Omega.{arith}
+use lib.ListN.{length}
+use Rattle.theory.specs.declared.record.Record.{Record}
+use Rattle.theory.specs.declared.answer.Answer.{Answer}
+use Rattle.theory.specs.declared.answer.Answer.the-variants.{Refused, Accepted}
+use Rattle.theory.specs.Recording.{Op, Event, act, lost, eventOf, Unmarked}
+use Rattle.theory.specs.Acceptance.{rows, firstRow, refusalBy, refusal, joined, fedAfter, recording}
+use Rattle.theory.specs.Verdict.{Verdict, Race, Clear, Doubt, AccessAt, Unordered, With, clear, race, doubt}
+use Rattle.theory.specs.Demands.{Firm}
+use Rattle.theory.specs.Decide.{judge, isAccessEvent}
+use Rattle.theory.specs.declared.state.State.{State}
+use Rattle.theory.specs.Control.{refusalIn}
+use Rattle.theory.specs.History.{accesses}
+use Rattle.theory.specs.Step.{verdictBy, judgedBy, nextNumber, sameMasks, masksOfClocks, masksOfSets, accepted, stepOf}
+use Rattle.theory.specs.Turns.{turns}
+use Rattle.theory.specs.Completion.{rounds, round, part, onEach}
+use Rattle.theory.specs.Examples.{Example, table}
+use Rattle.theory.specs.Feeding.{recordOf, verdictsOf, FedExamples, Says, says-clear, says-race, says-doubt, isRefusal, acceptedOf, Got, got-now, got-later, got-refused, EachAccess, FedDemand2, FedDemand3, FedPartner, FedAcceptance, refusalNumber, refusalNumbers, refusalsAfter, verdictAnswer, acceptedAnswer, answerBy, answerTo, answersFrom, fed, clockFed, setFed, Meets, meets-now, meets-later, NeverRow10, Demand1, Handled, refused, access-taken, other-taken, IsVerdict, is-clear, is-race, is-doubt}
+use Rattle.theory.specs.Order.{isAccess}
+use Rattle.theory.proofs.Reflects.{by-test, is-true}
+use Rattle.theory.proofs.Places.{Ends, ends, onward, at-ends}
+use Rattle.theory.proofs.Demands.{Ruling, judge-ruling, ruling-firm, ruling-with, firm-unmarked}
+use Rattle.theory.proofs.Feeding.{fed-answers, clock-fed-answers, set-fed-answers}
+
+-- An accepted record's answer is no refusal
+
+verdict-taken : (n : ℕ) (v : Verdict) (w : ℕ) → isRefusal (verdictAnswer n v w) ≡ false
+verdict-taken n Race w = refl
+verdict-taken n Clear w = refl
+verdict-taken n Doubt w = refl
+
+verdict-number : (n : ℕ) (v : Verdict) (w : ℕ) → refusalNumber (verdictAnswer n v w) ≡ 0
+verdict-number n Race w = refl
+verdict-number n Clear w = refl
+verdict-number n Doubt w = refl
+
+-- either way that an accepted record is answered
+chosen : (P : Answer → Type 0) (b : Bool) {x y : Answer} → P x → P y → P (cond b x y)
+chosen P true p q = p
+chosen P false p q = q
+
+accepted-taken : (es : List Event) (e : Event) → isRefusal (acceptedAnswer es e) ≡ false
+accepted-taken es e = chosen (λ a. isRefusal a ≡ false) (isAccessEvent e) (verdict-taken (suc (length es)) ((judge es e) .verdict) ((judge es e) .partner)) refl
+
+accepted-number : (es : List Event) (e : Event) → refusalNumber (acceptedAnswer es e) ≡ 0
+accepted-number es e = chosen (λ a. refusalNumber a ≡ 0) (isAccessEvent e) (verdict-number (suc (length es)) ((judge es e) .verdict) ((judge es e) .partner)) refl
+
+-- Acceptance
+
+number-to : (es : List Event) (r : Record) (n : ℕ) → refusalNumber (answerBy es r n) ≡ n
+number-to es r zero = accepted-number es (eventOf r)
+number-to es r (suc n) = refl
+
+numbers-from : (es : List Event) (rs : List Record) → refusalNumbers (answersFrom es rs) ≡ refusalsAfter es rs
+numbers-from es [] = refl
+numbers-from es (r ∷ rs) = rw (number-to es r (refusal es r), numbers-from (joined es r (refusal es r)) rs)
+
+accepted-from : (es : List Event) (rs : List Record) → es ++ acceptedOf rs (answersFrom es rs) ≡ fedAfter es rs
+accepted-from es [] = append-nil es
+accepted-from es (r ∷ rs) = decided (refusal es r) (accepted-from es rs) (accepted-from (es ++ (eventOf r ∷ [])) rs)
+  where
+    decided : (n : ℕ) → es ++ acceptedOf rs (answersFrom es rs) ≡ fedAfter es rs →
+        (es ++ (eventOf r ∷ [])) ++ acceptedOf rs (answersFrom (es ++ (eventOf r ∷ [])) rs) ≡ fedAfter (es ++ (eventOf r ∷ [])) rs →
+        es ++ acceptedOf (r ∷ rs) (answerBy es r n ∷ answersFrom (joined es r n) rs) ≡ fedAfter (joined es r n) rs
+    decided zero e q = rw (accepted-taken es (eventOf r)) (sym (append-assoc es (eventOf r ∷ []) (acceptedOf rs (answersFrom (es ++ (eventOf r ∷ [])) rs))) ∙ q)
+    decided (suc n) e q = e
+
+-- The answer that each record of the recording got
+
+got-from : (es : List Event) (rs : List Record) {k : ℕ} {before : List Event} {f : Event} → Ends (acceptedOf rs (answersFrom es rs)) k before f →
+    Got (answersFrom es rs) k (acceptedAnswer (es ++ before) f)
+got-from es [] d = elim d [ ]
+got-from es (r ∷ rs) {k} {before} {f} d =
+    decided (refusal es r) (λ k before f d. got-from es rs d) (λ k before f d. got-from (es ++ (eventOf r ∷ [])) rs d) d
+  where
+    Gets : List Event → List Answer → Type 0
+    Gets es answers =
+        (k : ℕ) (before : List Event) (f : Event) → Ends (acceptedOf rs answers) k before f → Got answers k (acceptedAnswer (es ++ before) f)
+
+    decided : (n : ℕ) → Gets es (answersFrom es rs) → Gets (es ++ (eventOf r ∷ [])) (answersFrom (es ++ (eventOf r ∷ [])) rs) →
+        Ends (acceptedOf (r ∷ rs) (answerBy es r n ∷ answersFrom (joined es r n) rs)) k before f →
+        Got (answerBy es r n ∷ answersFrom (joined es r n) rs) k (acceptedAnswer (es ++ before) f)
+    decided zero same more d = taken (rw (accepted-taken es (eventOf r)) at d)
+      where
+        taken : {k : ℕ} {before : List Event} {f : Event} → Ends (eventOf r ∷ acceptedOf rs (answersFrom (es ++ (eventOf r ∷ [])) rs)) k before f →
+            Got (acceptedAnswer es (eventOf r) ∷ answersFrom (es ++ (eventOf r ∷ [])) rs) k (acceptedAnswer (es ++ before) f)
+        taken ends = rw (append-nil es) (got-now (accepted-taken es (eventOf r)))
+        taken (onward {f = f} {before = before} {k = k} d) =
+            got-later (accepted-taken es (eventOf r))
+            (subst (λ (l : List Event). Got (answersFrom (es ++ (eventOf r ∷ [])) rs) k (acceptedAnswer l f)) (append-assoc es (eventOf r ∷ []) before) (more k before f d))
+    decided (suc n) same more d = got-refused refl (same k before f d)
+
+ends-length : {es before : List Event} {k : ℕ} {f : Event} → Ends es k before f → length before ≡ k
+ends-length ends = refl
+ends-length (onward d) = ap suc (ends-length d)
+
+with-says : {es : List Event} {k n : ℕ} {v : Verdict} {w : ℕ} → With es k v w → Says (verdictAnswer n v w) n v w
+with-says clear = says-clear
+with-says (race p) = says-race
+with-says (doubt p) = says-doubt
+
+module _ (answers : List Record → List Answer) (right : (rs : List Record) → answers rs ≡ answersFrom [] rs) where
+  -- whatever the verdict and partner of the search are, the fed ones are
+  each-access : (P : List Event → ℕ → Verdict → ℕ → Type 0) → ((es : List Event) (k : ℕ) (v : Verdict) (w : ℕ) → Ruling es k v w → P es k v w) → EachAccess answers P
+  each-access P holds rs k a = subst Each (sym (right rs)) each (subst (λ (l : List Answer). AccessAt (acceptedOf rs l) k) (right rs) a)
+    where
+      Each : List Answer → Type 0
+      Each given =
+          AccessAt (acceptedOf rs (answersFrom [] rs)) k →
+          (b : Answer) × (v : Verdict) × (w : ℕ) × Got given k b × Says b (suc k) v w × P (acceptedOf rs given) k v w
+
+      each : Each (answersFrom [] rs)
+      each x =
+          let (before, d) = at-ends (x .at) in
+          let f = act (x .op) (x .task) (x .on) in
+          let j = judge before f in
+          let q = judge-ruling d in
+          (verdictAnswer (suc k) (j .verdict) (j .partner), j .verdict, j .partner, got before d, with-says (ruling-with q), holds _ k _ _ q)
+        where
+          got : (before : List Event) → Ends (acceptedOf rs (answersFrom [] rs)) k before (act (x .op) (x .task) (x .on)) →
+              Got (answersFrom [] rs) k (verdictAnswer (suc k) ((judge before (act (x .op) (x .task) (x .on))) .verdict) ((judge before (act (x .op) (x .task) (x .on))) .partner))
+          got before d = rw (is-true (by-test (isAccess (x .op))) (x .access), ends-length d) at (got-from [] rs d)
+
+  pub fed-demand3 : FedDemand3 answers
+  fed-demand3 = each-access (λ es k v w. Firm es k v) (λ es k v w r. ruling-firm r)
+
+  pub fed-partner : FedPartner answers
+  fed-partner = each-access With (λ es k v w r. ruling-with r)
+
+  pub fed-demand2 : FedDemand2 answers
+  fed-demand2 =
+      each-access (λ es k v w. Unmarked es → ((v ≡ Race) ↔ Unordered es k) × ((v ≡ Clear) ↔ (¬ Unordered es k)))
+      (λ es k v w r u. firm-unmarked u (ruling-firm r))
+
+  pub fed-acceptance : FedAcceptance answers
+  fed-acceptance rs = (
+    subst (λ (l : List Answer). acceptedOf rs l ≡ recording rs) (sym (right rs)) (accepted-from [] rs),
+    subst (λ (l : List Answer). refusalNumbers l ≡ refusalsAfter [] rs) (sym (right rs)) (numbers-from [] rs),
+  )
+
+-- Demand 3, of the step with both reckonings, of the clocks alone and of the sets alone
+
+pub demand3 : FedDemand3 fed
+demand3 = fed-demand3 fed fed-answers
+
+pub clocks-demand3 : FedDemand3 clockFed
+clocks-demand3 = fed-demand3 clockFed clock-fed-answers
+
+pub sets-demand3 : FedDemand3 setFed
+sets-demand3 = fed-demand3 setFed set-fed-answers
+
+-- Demand 2
+
+pub demand2 : FedDemand2 fed
+demand2 = fed-demand2 fed fed-answers
+
+pub clocks-demand2 : FedDemand2 clockFed
+clocks-demand2 = fed-demand2 clockFed clock-fed-answers
+
+pub sets-demand2 : FedDemand2 setFed
+sets-demand2 = fed-demand2 setFed set-fed-answers
+
+-- The partner
+
+pub partners : FedPartner fed
+partners = fed-partner fed fed-answers
+
+pub clocks-partners : FedPartner clockFed
+clocks-partners = fed-partner clockFed clock-fed-answers
+
+pub sets-partners : FedPartner setFed
+sets-partners = fed-partner setFed set-fed-answers
+
+-- Acceptance
+
+pub acceptance : FedAcceptance fed
+acceptance = fed-acceptance fed fed-answers
+
+pub clocks-acceptance : FedAcceptance clockFed
+clocks-acceptance = fed-acceptance clockFed clock-fed-answers
+
+pub sets-acceptance : FedAcceptance setFed
+sets-acceptance = fed-acceptance setFed set-fed-answers
+
+-- Row 10 and demand 1
+
+first-row-bound : (n : ℕ) (bs : List Bool) → firstRow (suc n) bs ≤ n + length bs
+first-row-bound n [] = zero-le
+first-row-bound n (b ∷ bs) = decided b (first-row-bound (suc n) bs)
+  where
+    decided : (b : Bool) → firstRow (suc (suc n)) bs ≤ suc n + length bs → cond b (suc n) (firstRow (suc (suc n)) bs) ≤ n + suc (length bs)
+    decided true h = omega arith
+    decided false h = omega arith
+
+refusal-bound : (l u : ℕ → Bool) (count : ℕ) (r : Record) → refusalBy l u count r ≤ 9
+unfolding refusalBy
+refusal-bound l u count r = first-row-bound 0 (rows l u count r)
+
+meets-cases : {n : ℕ} {a : Answer} {answers : List Answer} → Meets n (a ∷ answers) → (refusalNumber a ≡ n) ⊎ Meets n answers
+meets-cases meets-now = inl refl
+meets-cases (meets-later m) = inr m
+
+row-below-10 : (es : List Event) (rs : List Record) → ¬ Meets 10 (answersFrom es rs)
+row-below-10 es [] m = elim m [ ]
+row-below-10 es (r ∷ rs) m = cases (meets-cases m) (row-below-10 (joined es r (refusal es r)) rs)
+  where
+    cases : (refusalNumber (answerTo es r) ≡ 10) ⊎ Meets 10 (answersFrom (joined es r (refusal es r)) rs) → ¬ Meets 10 (answersFrom (joined es r (refusal es r)) rs) → ⊥
+    cases (inl e) n =
+        let h : refusal es r ≤ 9 = refusal-bound _ _ _ r in
+        let q : refusal es r ≡ 10 = sym (number-to es r (refusal es r)) ∙ e in
+        omega arith
+    cases (inr m) n = n m
+
+-- no list of records meets row 10
+pub never-row-10 : NeverRow10
+never-row-10 rs m = row-below-10 [] rs (subst (Meets 10) (fed-answers rs) m)
+
+verdict-by : (a b : Bool) (last : List ℕ) (k on number fm am : ℕ) → IsVerdict (verdictBy a b last k on number fm am)
+verdict-by true true last k on number fm am = is-clear
+verdict-by true false last k on number fm am = is-doubt
+verdict-by false true last k on number fm am = is-race
+verdict-by false false last k on number fm am = is-race
+
+judged-verdict : (last : List ℕ) (k on number fm am : ℕ) → IsVerdict (judgedBy last k on number fm am)
+unfolding judgedBy
+judged-verdict last k on number fm am = verdict-by (eqb fm 0) (eqb am 0) last k on number fm am
+
+-- demand 1 for records
+pub demand1 : Demand1
+unfolding stepOf
+demand1 s r = decided (refusalIn (s .control) r) (refusal-bound _ _ _ r) refl (sameMasks (masksOfClocks s r) (masksOfSets s r)) refl
+  where
+    taken : stepOf s r ≡ accepted s r → Handled s r
+    taken e = by-kind (accesses (r .kind)) refl
+      where
+        by-kind : (b : Bool) → accesses (r .kind) ≡ b → Handled s r
+        by-kind true q =
+            access-taken q
+            (rw (e, q) (judged-verdict (s .last) (r .kind) (r .on) (nextNumber (s .control)) _ _))
+        by-kind false q = other-taken q (rw (e, q))
+
+    decided : (n : ℕ) → refusalIn (s .control) r ≤ 9 → refusalIn (s .control) r ≡ n → (b : Bool) → sameMasks (masksOfClocks s r) (masksOfSets s r) ≡ b → Handled s r
+    decided (suc n) h e b q = refused (suc n) (omega arith) (omega arith) (rw e)
+    decided zero h e true q = taken (rw (e, q))
+    decided zero h e false q = refused 10 (omega arith) (omega arith) (rw (e, q))
+
+-- K1 to K12 come out of feeding as they come out of the definitions
+
+same-rows : (answers : List Record → List Answer) → ((rs : List Record) → answers rs ≡ answersFrom [] rs) → (xs : List Example) →
+    map (λ (x : Example). verdictsOf (answers (map recordOf (x .events)))) xs ≡ map (λ (x : Example). verdictsOf (answersFrom [] (map recordOf (x .events)))) xs
+same-rows answers right [] = refl
+same-rows answers right (x ∷ xs) = rw (right (map recordOf (x .events)), same-rows answers right xs)
+
+-- the table by computation, from the table of refusals and the search
+table-fed : map (λ (x : Example). verdictsOf (answersFrom [] (map recordOf (x .events)))) table ≡ map (λ (x : Example). x .answered) table
+unfolding turns refusalBy judge rounds round part onEach
+table-fed = refl
+
+pub examples : FedExamples fed
+examples = same-rows fed fed-answers table ∙ table-fed
+
+pub clocks-examples : FedExamples clockFed
+clocks-examples = same-rows clockFed clock-fed-answers table ∙ table-fed
+
+pub sets-examples : FedExamples setFed
+sets-examples = same-rows setFed set-fed-answers table ∙ table-fed

@@ -1,0 +1,88 @@
+-- A state that represents a recording answers as the recording does, and represents the next one: the clocks, the sets, and both.
+-- Row 10 never applies. Assumes nothing.
+use mathlib.Core.Path.{_≡_, refl, sym, _∙_, ap, subst}
+use mathlib.Core.Bool.{Bool, true, false, cond, _&&_, not}
+use mathlib.Core.Logic.{_↔_, _⊎_, inl, inr}
+use mathlib.Core.List.{List, [], _∷_, _++_}
+use mathlib.Core.Option.{Option, none, some}
+use Prim.Native.Nat.{ℕ, zero, suc, _+_, _*_, _/_, _%_, _^_, _≤_, _<_}
+use native.Mathlib.Nat.{pow-suc}
+use native.Mathlib.Numerals.{add-one}
+use native.Mathlib.Omega.{arith}
+use lib.Dec.{T, eqb}
+use lib.ListN.{length}
+use Rattle.theory.specs.declared.record.Record.{Record}
+use Rattle.theory.specs.declared.answer.Answer.{Answer}
+use Rattle.theory.specs.declared.masks.Masks.{Masks}
+use Rattle.theory.specs.Recording.{Op, read, write, take, give, look, start, join, Event, act, lost, series, kind, opOf, eventOf, ActsIn, acts}
+use Rattle.theory.specs.Order.{isAccess}
+use Rattle.theory.specs.Completion.{Named, rounds, nothing}
+use Rattle.theory.specs.History.{accesses, latestNumber}
+use Rattle.theory.specs.Reckonings.{maskOf, clockApart, setApart, clockMask, setMask, masksBy, clockMasks, setMasks, lowestTask}
+use Rattle.theory.specs.Decide.{Found, Judgement, judged, judge, partner}
+use Rattle.theory.specs.Step.{verdictBy, judgedBy, answeredBy, recordNumber}
+use Rattle.theory.specs.Feeding.{verdictAnswer}
+use Rattle.theory.proofs.Reflects.{Reflects, right, wrong, by-test}
+use Rattle.theory.proofs.Reach.{Filling, arrived, full, filling}
+use Rattle.theory.proofs.Bits.{mask-ext}
+use Rattle.theory.proofs.Places.{Occurs}
+use Rattle.theory.proofs.Decide.{Candidate}
+use Rattle.theory.proofs.ExactClocks.{ExactClocks}
+use Rattle.theory.proofs.ExactSets.{ExactSets}
+use Rattle.theory.proofs.Slots.{ExactHistory, access-on}
+use Rattle.theory.proofs.Conflicts.{Ranged}
+use Rattle.theory.proofs.Reckoned.{clock-sound, clock-complete, set-sound, set-complete}
+use Rattle.theory.proofs.Masked.{foundBy, mask-partner}
+
+-- The masks of an access
+
+same-test : {a b : Bool} → (T a → T b) → (T b → T a) → a ≡ b
+same-test {a} {b} f g = decided (by-test a) (by-test b)
+  where
+    decided : {c d : Bool} → Reflects (T a) c → Reflects (T b) d → c ≡ d
+    decided (right x) (right y) = refl
+    decided (right x) (wrong n) = absurd (n (f x))
+    decided (wrong n) (right y) = absurd (n (g y))
+    decided (wrong n) (wrong m) = refl
+
+-- a candidate's task is one of the sixteen
+task-of : {g : ℕ → List Event} {f : Event} {es : List Event} {u i : ℕ} → Ranged es → Candidate g f es u i → u < 16
+task-of {es = es} r c = acting (c .apart .acting) (c .occurs)
+  where
+    acting : {u i : ℕ} {e : Event} {after : List Event} → ActsIn u e → Occurs es i e after → u < 16
+    acting acts o = r .in-range _ _ _ _ _ o .0
+
+module _ {w : Filling} {es : List Event} {last : List ℕ} (p : Op) (t v : ℕ) (h : ExactHistory es last) (r : Ranged es) (ap : T (isAccess p)) (ht : t < 16) (hv : v < 64) where
+  pub clock-finds : {b : List ℕ} → ExactClocks w es b → foundBy (latestNumber last (kind p) v) (clockMask b last (kind p) t v) ≡ partner (filling w) (act p t v) 1 es
+  clock-finds {b} x =
+      mask-partner (clockApart b last (kind p) t v) (latestNumber last (kind p) v) (clock-sound p t v x h ap ht hv)
+      (λ u i c. (task-of r c, clock-complete p t v x h ap ht hv u i (task-of r c) c))
+
+  pub set-finds : {b : List ℕ} → ExactSets w es b → foundBy (latestNumber last (kind p) v) (setMask b last (kind p) t v) ≡ partner (filling w) (act p t v) 1 es
+  set-finds {b} x =
+      mask-partner (setApart b last (kind p) t v) (latestNumber last (kind p) v) (set-sound p t v x h ap ht hv)
+      (λ u i c. (task-of r c, set-complete p t v x h ap ht hv u i (task-of r c) c))
+
+  -- clocks and sets have the same mask
+  pub masks-same : {b b′ : List ℕ} → ExactClocks w es b → ExactSets w es b′ → clockMask b last (kind p) t v ≡ setMask b′ last (kind p) t v
+  masks-same {b} {b′} x y =
+      mask-ext (clockApart b last (kind p) t v) (setApart b′ last (kind p) t v)
+      (λ u hu. same-test (λ a. let (i, c, e) = clock-sound p t v x h ap ht hv u hu a in set-complete p t v y h ap ht hv u i hu c) (λ a. let (i, c, e) = set-sound p t v y h ap ht hv u hu a in clock-complete p t v x h ap ht hv u i hu c))
+
+-- the answer that masks make is that of what they find
+answer-found : (a b : Bool) (last : List ℕ) (k on number fm am : ℕ) →
+    verdictBy a b last k on number fm am
+    ≡ verdictAnswer number
+    ((judged (cond a none (some (record { task = lowestTask fm; number = latestNumber last k on (lowestTask fm) }))) (cond b none (some (record { task = lowestTask am; number = latestNumber last k on (lowestTask am) })))) .verdict)
+    ((judged (cond a none (some (record { task = lowestTask fm; number = latestNumber last k on (lowestTask fm) }))) (cond b none (some (record { task = lowestTask am; number = latestNumber last k on (lowestTask am) })))) .partner)
+answer-found true true last k on number fm am = refl
+answer-found true false last k on number fm am = refl
+answer-found false true last k on number fm am = refl
+answer-found false false last k on number fm am = refl
+
+pub judged-found : (last : List ℕ) (k on number fm am : ℕ) (f : Event) (es : List Event) →
+    foundBy (latestNumber last k on) fm ≡ partner rounds f 1 es →
+    foundBy (latestNumber last k on) am ≡ partner nothing f 1 es →
+    judgedBy last k on number fm am ≡ verdictAnswer number ((judge es f) .verdict) ((judge es f) .partner)
+unfolding judgedBy judge
+judged-found last k on number fm am f es e q = rw (← e, ← q) (answer-found (eqb fm 0) (eqb am 0) last k on number fm am)

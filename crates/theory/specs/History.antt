@@ -1,0 +1,36 @@
+-- The kept accesses: the latest of each variable, task and kind of access, by its record number; 0 where there is none.
+use Prim.Native.Nat.{ℕ, zero, suc, _+_, _*_}
+use mathlib.Core.Bool.{Bool, true, false, cond, _&&_, not}
+use mathlib.Core.List.{List}
+use lib.Dec.{ltb, leb, eqb}
+use lib.ListN.{getD, set}
+use Rattle.theory.specs.Recording.{Op, kind}
+
+-- the kind is an access: a read or a write
+abbrev pub accesses : ℕ → Bool
+accesses k = ltb k 2
+
+abbrev pub slotCount : ℕ
+slotCount = 2048
+
+-- where the latest access of a kind to variable v by task u is kept
+abbrev pub slot : ℕ → ℕ → ℕ → ℕ
+slot k v u = (k * 64 + v) * 16 + u
+
+abbrev pub lastOf : List ℕ → ℕ → ℕ
+lastOf last s = getD last s 0
+
+-- the slot of task u's latest access to v that conflicts with one of kind k: a write conflicts with reads and writes, a read with writes
+abbrev pub latestSlot : List ℕ → ℕ → ℕ → ℕ → ℕ
+latestSlot last k v u =
+    cond (eqb k (kind Op.write) && ltb (lastOf last (slot (kind Op.write) v u)) (lastOf last (slot (kind Op.read) v u)))
+    (slot (kind Op.read) v u)
+    (slot (kind Op.write) v u)
+
+-- its record number
+abbrev pub latestNumber : List ℕ → ℕ → ℕ → ℕ → ℕ
+latestNumber last k v u = lastOf last (latestSlot last k v u)
+
+-- the history after an accepted record
+abbrev pub lastAfter : ℕ → ℕ → ℕ → ℕ → List ℕ → List ℕ
+lastAfter k task on number last = cond (accesses k) (set last (slot k on task) number) last
