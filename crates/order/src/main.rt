@@ -3,7 +3,7 @@ mod blocks;
 
 use blocks::answer_input;
 use blocks::finish;
-use report::Progress;
+use text::Progress;
 
 fn main() {
     let mut control = [0u32; 17];

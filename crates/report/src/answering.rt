@@ -1,21 +1,21 @@
 // Lines answered: each is fed, and what the report has for it is written.
-use crate::parsing::Parsed;
 use crate::parsing::parse_line;
 use crate::reader::take_line;
 use crate::scan::rest_start;
 use crate::writing::put_answer;
 use crate::writing::put_refused;
 use checker::step_in_place;
+use text::Parsed;
 ghost use mathlib.Core.Path.{_≡_};
 ghost use mathlib.Core.List.{[]};
 ghost use Prim.Native.Nat.{_<_, _≤_, _+_, _-_, _*_, _^_};
 ghost use lib.ListN.{length, take, drop};
 ghost use Rattle.theory.specs.Step.{stateOf};
-ghost use Rattle.report.specs.Lines.{linesOf};
-ghost use Rattle.report.specs.LineForm.{parseOf};
-ghost use Rattle.report.specs.Wrote.{Wrote};
-ghost use Rattle.report.specs.Report.{saidFor, stateAfter};
-ghost use Rattle.report.specs.Pieces.{heldMost, kept, saidIn, afterPiece};
+ghost use Rattle.text.specs.Lines.{linesOf};
+ghost use Rattle.text.specs.LineForm.{parseOf};
+ghost use Rattle.text.specs.Wrote.{Wrote};
+ghost use Rattle.text.specs.Report.{saidFor, stateAfter};
+ghost use Rattle.text.specs.Pieces.{heldMost, kept, saidIn, afterPiece};
 
 // Feeds one line and writes what the report has for it.
 pub(crate) fn put_line(

@@ -1,14 +1,9 @@
 // Numbers in base ten: 1 to 5 digits and no needless leading zero.
+use text::Number;
 ghost use mathlib.Core.Path.{_≡_};
 ghost use Prim.Native.Nat.{_≤_, _<_};
 ghost use lib.ListN.{length};
-ghost use Rattle.report.specs.LineForm.{isDigit, isPlain, digits, digitsFrom, decimalOf};
-
-// What a part of a line says as a number.
-pub enum Number {
-    Value(u32),
-    Nothing,
-}
+ghost use Rattle.text.specs.LineForm.{isDigit, isPlain, digits, digitsFrom, decimalOf};
 
 const DIGITS: usize = 5;
 

@@ -2,14 +2,14 @@
 
 use crate::answering::put_line;
 use crate::scan::line_count;
-use crate::streaming::Progress;
 use crate::streaming::put_piece;
+use text::Progress;
 ghost use mathlib.Core.Path.{_≡_};
 ghost use Prim.Native.Nat.{_≤_, _*_};
 ghost use lib.ListN.{length};
-ghost use Rattle.report.specs.Lines.{linesOf};
-ghost use Rattle.report.specs.Wrote.{Wrote};
-ghost use Rattle.report.specs.Report.{reportOf, countOf, memoryOf};
+ghost use Rattle.text.specs.Lines.{linesOf};
+ghost use Rattle.text.specs.Wrote.{Wrote};
+ghost use Rattle.text.specs.Report.{reportOf, countOf, memoryOf};
 
 // Writes the report of a text, from its start on: the whole text is one piece, and a rest without LF is a line too.
 fn write_report(text: &[u8], report: &mut [u8]) -> usize

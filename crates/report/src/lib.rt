@@ -9,13 +9,10 @@ mod streaming;
 mod words;
 mod writing;
 
-pub use decimal::Number;
 pub use entry::order_report;
-pub use parsing::Parsed;
 pub use parsing::parse_line;
 pub use reader::LineReader;
 pub use reader::next_line;
 pub use reader::reader_at;
 pub use reader::take_line;
-pub use streaming::Progress;
 pub use streaming::report_piece;

@@ -1,20 +1,15 @@
 // A line as a record: `op=W task=T on=N`, or `op=lost tasks=M`.
-use crate::decimal::Number;
 use crate::words::field;
 use crate::words::op;
 use crate::words::op_end;
 use crate::words::task_end;
+use text::Number;
+use text::Parsed;
 use theory::Record;
 ghost use mathlib.Core.Path.{_≡_};
 ghost use Prim.Native.Nat.{ℕ, suc, _≤_, _<_};
 ghost use lib.ListN.{length, drop};
-ghost use Rattle.report.specs.LineForm.{actOf, markOf, parseOf};
-
-// What a line says.
-pub enum Parsed {
-    Record(Record),
-    Nothing,
-}
+ghost use Rattle.text.specs.LineForm.{actOf, markOf, parseOf};
 
 const LOST: u8 = 8;
 

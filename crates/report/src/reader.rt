@@ -2,7 +2,7 @@
 use crate::scan::line_at;
 use crate::scan::place_after;
 ghost use mathlib.Core.Path.{_≡_};
-ghost use Rattle.report.specs.Reading.{lineAt, nextAt};
+ghost use Rattle.text.specs.Reading.{lineAt, nextAt};
 
 pub struct LineReader<'a> {
     text: &'a [u8],

@@ -4,9 +4,9 @@ ghost use mathlib.Core.Bool.{true, cond};
 ghost use Prim.Native.Nat.{_+_, _-_, _≤_, _<_};
 ghost use lib.Dec.{eqb, ltb};
 ghost use lib.ListN.{length, drop, getD};
-ghost use Rattle.report.specs.Bytes.{indexOf};
-ghost use Rattle.report.specs.Lines.{lf, lineEnd, linesOf, lfBit, lfCount};
-ghost use Rattle.report.specs.Reading.{lineAt, placeAfter};
+ghost use Rattle.text.specs.Bytes.{indexOf};
+ghost use Rattle.text.specs.Lines.{lf, lineEnd, linesOf, lfBit, lfCount};
+ghost use Rattle.text.specs.Reading.{lineAt, placeAfter};
 
 const LF: u8 = 10;
 

@@ -3,6 +3,7 @@ use crate::answering::put_line;
 use crate::answering::put_lines;
 use crate::scan::line_end;
 use crate::writing::put_bytes;
+use text::Progress;
 ghost use mathlib.Core.Path.{_≡_};
 ghost use mathlib.Core.Bool.{cond};
 ghost use mathlib.Core.List.{_++_};
@@ -10,18 +11,11 @@ ghost use Prim.Native.Nat.{_<_, _≤_, _+_, _*_, _^_, min};
 ghost use lib.ListN.{length, take};
 ghost use lib.Seq.{sets as written};
 ghost use Rattle.theory.specs.Step.{stateOf};
-ghost use Rattle.report.specs.Lines.{linesOf};
-ghost use Rattle.report.specs.LineForm.{parseOf};
-ghost use Rattle.report.specs.Wrote.{Wrote};
-ghost use Rattle.report.specs.Report.{saidFor, stateAfter};
-ghost use Rattle.report.specs.Pieces.{heldMost, keptOf, fits, refused, progressAfter, saidIn, afterPiece};
-
-// How far a text is answered: the lines so far, how many bytes are held of the line that has begun, and the next place in the report.
-pub struct Progress {
-    pub lines: u64,
-    pub held: usize,
-    pub at: usize,
-}
+ghost use Rattle.text.specs.Lines.{linesOf};
+ghost use Rattle.text.specs.LineForm.{parseOf};
+ghost use Rattle.text.specs.Wrote.{Wrote};
+ghost use Rattle.text.specs.Report.{saidFor, stateAfter};
+ghost use Rattle.text.specs.Pieces.{heldMost, keptOf, fits, refused, progressAfter, saidIn, afterPiece};
 
 // So many bytes of a line are held at most: a line of more than 64 is refused, whatever else it says.
 const HELD_MOST: usize = 65;

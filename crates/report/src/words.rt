@@ -1,7 +1,7 @@
 // The words of a line: the op that its first one names, and the fields after it.
-use crate::decimal::Number;
 use crate::decimal::decimal;
 use crate::scan::place_of;
+use text::Number;
 ghost use mathlib.Core.Path.{_≡_};
 ghost use mathlib.Core.Bool.{cond};
 ghost use mathlib.Core.List.{_++_};
@@ -9,8 +9,8 @@ ghost use Prim.Native.Nat.{_+_, _≤_, _<_};
 ghost use lib.Dec.{eqb};
 ghost use lib.ListN.{length, getD, take, drop};
 ghost use Rattle.theory.specs.Recording.{lossMark};
-ghost use Rattle.report.specs.Bytes.{indexOf, upTo, startsWith, isWord, little};
-ghost use Rattle.report.specs.LineForm.{fieldOf, kindOf, placeOf, words, wordOf, opName, space};
+ghost use Rattle.text.specs.Bytes.{indexOf, upTo, startsWith, isWord, little};
+ghost use Rattle.text.specs.LineForm.{fieldOf, kindOf, placeOf, words, wordOf, opName, space};
 
 const SPACE: u8 = 32;
 

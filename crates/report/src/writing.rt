@@ -7,9 +7,9 @@ ghost use mathlib.Core.Bool.{cond};
 ghost use mathlib.Core.List.{[], _∷_};
 ghost use lib.Dec.{ltb};
 ghost use lib.ListN.{length};
-ghost use Rattle.report.specs.Printing.{lastDigit, decimal, fiveDigits};
-ghost use Rattle.report.specs.ReportLines.{accessPart, accessLine, refusedLine, reportLine};
-ghost use Rattle.report.specs.Wrote.{Wrote};
+ghost use Rattle.text.specs.Printing.{lastDigit, decimal, fiveDigits};
+ghost use Rattle.text.specs.ReportLines.{accessPart, accessLine, refusedLine, reportLine};
+ghost use Rattle.text.specs.Wrote.{Wrote};
 
 // The bytes as they are.
 pub(crate) fn put_bytes(out: &mut [u8], at: usize, bytes: &[u8]) -> usize

@@ -2,7 +2,7 @@
 use mathlib.Core.Path.{sym, _∙_, ap}
 use native.Mathlib.Omega.{arith}
 use Rattle.theory.specs.declared.state.Stepped.{Stepped}
-use Rattle.report.proofs.RoundTrip.{only-sayable}
+use Rattle.text.proofs.RoundTrip.{only-sayable}
 use borrow.Author.Needs.{needs}
 use Rattle.report.proofs.answering.put_line.Statement.{statement}
 use Rattle.report.proofs.answering.put_line.Tie as tie

@@ -5,9 +5,9 @@ use Prim.Native.Nat.{_≤_, _<_, _+_, _-_}
 use native.Mathlib.Omega.{arith}
 use lib.ListN.{length, drop}
 use Rattle.theory.specs.Step.{stateOf}
-use Rattle.report.specs.Pieces.{kept, saidIn, afterPiece}
-use Rattle.report.proofs.Wrote.{as-long}
-use Rattle.report.proofs.Reporting.{Left, left-start, left-room, left-taken, left-said, left-kept, ends-before, moved, past-last}
+use Rattle.text.specs.Pieces.{kept, saidIn, afterPiece}
+use Rattle.text.proofs.Wrote.{as-long}
+use Rattle.text.proofs.Reporting.{Left, left-start, left-room, left-taken, left-said, left-kept, ends-before, moved, past-last}
 use borrow.Author.Needs.{needs}
 use Rattle.report.proofs.answering.put_lines.Statement.{statement}
 use Rattle.report.proofs.answering.put_lines.Tie as tie

@@ -1,7 +1,7 @@
 -- `report::decimal::decimal`: one or two bytes are read at once, and a plain part of more digit by digit. Assumes nothing.
 use mathlib.Core.Path.{sym, _∙_}
 use borrow.Author.Needs.{needs}
-use Rattle.report.proofs.Numerals.{plain-none, plain-fits, decimal-plain, decimal-other}
+use Rattle.text.proofs.Numerals.{plain-none, plain-fits, decimal-plain, decimal-other}
 use Rattle.report.proofs.decimal.decimal.Statement.{statement}
 use Rattle.report.proofs.decimal.decimal.Tie as tie
 

@@ -2,7 +2,7 @@
 use mathlib.Core.Path.{sym}
 use native.Mathlib.Omega.{arith}
 use borrow.Author.Needs.{needs}
-use Rattle.report.proofs.Numerals.{plain-none, plain-one, plain-long, plain-some}
+use Rattle.text.proofs.Numerals.{plain-none, plain-one, plain-long, plain-some}
 use Rattle.report.proofs.decimal.is_plain.Statement.{statement}
 use Rattle.report.proofs.decimal.is_plain.Tie as tie
 

@@ -6,8 +6,8 @@ use native.Mathlib.Omega.{arith}
 use lib.ListN.{length, getD, drop}
 use borrow.Author.Needs.{needs}
 use borrow.Author.Tests.{not-true, not-false}
-use Rattle.report.specs.LineForm.{digits, isDigit, digitsFrom}
-use Rattle.report.proofs.Numerals.{Digit, a-digit, digit-fits, power-fits, read-digit, read-other, read-all}
+use Rattle.text.specs.LineForm.{digits, isDigit, digitsFrom}
+use Rattle.text.proofs.Numerals.{Digit, a-digit, digit-fits, power-fits, read-digit, read-other, read-all}
 use Rattle.report.proofs.decimal.read_digits.Statement.{statement}
 use Rattle.report.proofs.decimal.read_digits.Tie as tie
 

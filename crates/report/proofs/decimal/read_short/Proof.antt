@@ -6,8 +6,8 @@ use native.Mathlib.Omega.{arith}
 use lib.ListN.{length, getD}
 use borrow.Author.Needs.{needs}
 use borrow.Author.Tests.{not-true, not-false}
-use Rattle.report.specs.LineForm.{isDigit}
-use Rattle.report.proofs.Numerals.{Digit, a-digit, shortValue, short-fits, short-first, short-last, short-low, short-read}
+use Rattle.text.specs.LineForm.{isDigit}
+use Rattle.text.proofs.Numerals.{Digit, a-digit, shortValue, short-fits, short-first, short-last, short-low, short-read}
 use Rattle.report.proofs.decimal.read_short.Statement.{statement}
 use Rattle.report.proofs.decimal.read_short.Tie as tie
 

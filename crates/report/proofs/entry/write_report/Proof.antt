@@ -7,10 +7,10 @@ use native.Mathlib.Nat.{zero-add}
 use lib.ListN.{length, take}
 use lib.Seq.{sets, length-sets}
 use Rattle.theory.specs.Step.{freshState}
-use Rattle.report.specs.declared.streaming.Progress.{Progress}
-use Rattle.report.specs.Wrote.{Wrote}
-use Rattle.report.specs.Pieces.{freshKept, saidIn, afterPiece}
-use Rattle.report.proofs.Held.{counted, lines-after, held-within, held-stands, ended, ended-by}
+use Rattle.text.specs.declared.progress.Progress.{Progress}
+use Rattle.text.specs.Wrote.{Wrote}
+use Rattle.text.specs.Pieces.{freshKept, saidIn, afterPiece}
+use Rattle.text.proofs.Held.{counted, lines-after, held-within, held-stands, ended, ended-by}
 use borrow.Author.Needs.{needs}
 use Rattle.report.proofs.entry.write_report.Statement.{statement}
 use Rattle.report.proofs.entry.write_report.Tie as tie

@@ -2,7 +2,7 @@
 use mathlib.Core.Path.{sym, _∙_}
 use lib.Seq.{length-take-le}
 use borrow.Author.Needs.{needs}
-use Rattle.report.proofs.LineForm.{act-no-task, act-no-on, act-whole}
+use Rattle.text.proofs.LineForm.{act-no-task, act-no-on, act-whole}
 use Rattle.report.proofs.parsing.act.Statement.{statement}
 use Rattle.report.proofs.parsing.act.Tie as tie
 

@@ -1,7 +1,7 @@
 -- `report::parsing::mark`: the record is made of what the field says. Assumes nothing.
 use mathlib.Core.Path.{sym, ap, _∙_}
 use borrow.Author.Needs.{needs}
-use Rattle.report.specs.LineForm.{markBy, markOf}
+use Rattle.text.specs.LineForm.{markBy, markOf}
 use Rattle.report.proofs.parsing.mark.Statement.{statement}
 use Rattle.report.proofs.parsing.mark.Tie as tie
 

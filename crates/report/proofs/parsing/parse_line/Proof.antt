@@ -3,11 +3,11 @@ use mathlib.Core.Path.{_≡_, sym, ap, _∙_}
 use Prim.Native.Nat.{_+_}
 use native.Mathlib.Omega.{arith}
 use borrow.Author.Needs.{needs}
-use Rattle.report.specs.Bytes.{indexOf}
-use Rattle.report.specs.LineForm.{space, kindOf}
-use Rattle.report.proofs.Bytes.{index-fits}
-use Rattle.report.proofs.LineForm.{cut-before, parsed-by, rest-act, rest-mark}
-use Rattle.report.proofs.Ops.{op-ends, no-op-read}
+use Rattle.text.specs.Bytes.{indexOf}
+use Rattle.text.specs.LineForm.{space, kindOf}
+use Rattle.text.proofs.Bytes.{index-fits}
+use Rattle.text.proofs.LineForm.{cut-before, parsed-by, rest-act, rest-mark}
+use Rattle.text.proofs.Ops.{op-ends, no-op-read}
 use Rattle.report.proofs.parsing.parse_line.Statement.{statement}
 use Rattle.report.proofs.parsing.parse_line.Tie as tie
 

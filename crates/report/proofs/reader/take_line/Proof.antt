@@ -44,7 +44,7 @@ use denote.Triple.Spec.{Meets, tripleOf}
 use denote.Triple.Table.{entered, cited}
 use denote.Triple.Walked.{says, Stays, stay-none-slice, stay-ref, walkOf, goes-none-slice, goes-ref, Walks, ends-at, walked, walk-meets}
 use denote.Exit.{yes}
-use Rattle.report.specs.Reading.{lineAt, nextAt}
+use Rattle.text.specs.Reading.{lineAt, nextAt}
 use Rattle.report.specs.declared.reader.LineReader.{LineReader}
 use Rattle.report.proofs.reader.LineReader as T
 use Rattle.report.proofs.reader.LineReader.Laws as T′

@@ -4,8 +4,8 @@ use Prim.Native.Nat.{_-_, _≤_}
 use lib.Dec.{ltb}
 use lib.ListN.{length}
 use borrow.Author.Needs.{needs}
-use Rattle.report.specs.Bytes.{indexOf}
-use Rattle.report.proofs.Bytes.{seenFrom, seen-none, seen-next, seen-all}
+use Rattle.text.specs.Bytes.{indexOf}
+use Rattle.text.proofs.Bytes.{seenFrom, seen-none, seen-next, seen-all}
 use Rattle.report.proofs.scan.has.Statement.{statement}
 use Rattle.report.proofs.scan.has.Tie as tie
 

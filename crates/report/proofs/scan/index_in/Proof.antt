@@ -4,8 +4,8 @@ use Prim.Native.Nat.{_+_, _*_, _-_, _≤_}
 use native.Mathlib.Omega.{arith}
 use lib.ListN.{length, drop}
 use borrow.Author.Needs.{needs}
-use Rattle.report.specs.Bytes.{indexOf}
-use Rattle.report.proofs.Bytes.{count-next, count-all}
+use Rattle.text.specs.Bytes.{indexOf}
+use Rattle.text.proofs.Bytes.{count-next, count-all}
 use Rattle.report.proofs.scan.index_in.Statement.{statement}
 use Rattle.report.proofs.scan.index_in.Tie as tie
 

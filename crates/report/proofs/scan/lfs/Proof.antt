@@ -4,8 +4,8 @@ use Prim.Native.Nat.{_+_, _-_, _≤_}
 use native.Mathlib.Omega.{arith}
 use lib.ListN.{length, drop}
 use borrow.Author.Needs.{needs}
-use Rattle.report.specs.Lines.{lfCount}
-use Rattle.report.proofs.Lines.{lf-cut, lf-ended, cut-fits}
+use Rattle.text.specs.Lines.{lfCount}
+use Rattle.text.proofs.Lines.{lf-cut, lf-ended, cut-fits}
 use Rattle.report.proofs.scan.lfs.Statement.{statement}
 use Rattle.report.proofs.scan.lfs.Tie as tie
 

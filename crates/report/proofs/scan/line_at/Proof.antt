@@ -1,6 +1,6 @@
 -- `report::scan::line_at`: the part up to the line's end. Assumes nothing.
 use borrow.Author.Needs.{needs}
-use Rattle.report.proofs.Reading.{line-part, line-past}
+use Rattle.text.proofs.Reading.{line-part, line-past}
 use Rattle.report.proofs.scan.line_at.Statement.{statement}
 use Rattle.report.proofs.scan.line_at.Tie as tie
 

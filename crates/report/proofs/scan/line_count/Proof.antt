@@ -4,8 +4,8 @@ use Prim.Native.Nat.{_+_}
 use native.Mathlib.Omega.{arith}
 use lib.ListN.{length}
 use borrow.Author.Needs.{needs}
-use Rattle.report.specs.Lines.{linesOf}
-use Rattle.report.proofs.Lines.{lines-fit, lines-ended, lines-open}
+use Rattle.text.specs.Lines.{linesOf}
+use Rattle.text.proofs.Lines.{lines-fit, lines-ended, lines-open}
 use Rattle.report.proofs.scan.line_count.Statement.{statement}
 use Rattle.report.proofs.scan.line_count.Tie as tie
 

@@ -1,6 +1,6 @@
 -- `report::scan::place_after`: no sum that overflows is made. Assumes nothing.
 use borrow.Author.Needs.{needs}
-use Rattle.report.specs.Reading.{placeAfter}
+use Rattle.text.specs.Reading.{placeAfter}
 use Rattle.report.proofs.scan.place_after.Statement.{statement}
 use Rattle.report.proofs.scan.place_after.Tie as tie
 

@@ -3,8 +3,8 @@ use mathlib.Core.Path.{_≡_, refl, sym, _∙_}
 use Prim.Native.Nat.{_+_, _-_, _≤_}
 use lib.ListN.{length, drop}
 use borrow.Author.Needs.{needs}
-use Rattle.report.specs.Bytes.{indexOf}
-use Rattle.report.proofs.Bytes.{found-at, passed-at, ended-at}
+use Rattle.text.specs.Bytes.{indexOf}
+use Rattle.text.proofs.Bytes.{found-at, passed-at, ended-at}
 use Rattle.report.proofs.scan.place_in.Statement.{statement}
 use Rattle.report.proofs.scan.place_in.Tie as tie
 

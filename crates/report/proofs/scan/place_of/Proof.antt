@@ -6,9 +6,9 @@ use native.Mathlib.Omega.{arith}
 use lib.ListN.{length, take, drop}
 use borrow.Author.Needs.{needs}
 use borrow.Author.Tests.{le-ltb}
-use Rattle.report.specs.Bytes.{indexOf}
-use Rattle.report.proofs.Bytes.{passed-over, found-in}
-use Rattle.report.proofs.Lines.{cut-fits}
+use Rattle.text.specs.Bytes.{indexOf}
+use Rattle.text.proofs.Bytes.{passed-over, found-in}
+use Rattle.text.proofs.Lines.{cut-fits}
 use Rattle.report.proofs.scan.place_of.Statement.{statement}
 use Rattle.report.proofs.scan.place_of.Tie as tie
 

@@ -3,8 +3,8 @@ use mathlib.Core.Path.{_≡_, refl}
 use Prim.Native.Nat.{_≤_}
 use native.Mathlib.Omega.{arith}
 use lib.ListN.{length, drop}
-use Rattle.report.specs.Lines.{lf, lineEnd}
-use Rattle.report.proofs.Reporting.{one-before, none-at-end}
+use Rattle.text.specs.Lines.{lf, lineEnd}
+use Rattle.text.proofs.Reporting.{one-before, none-at-end}
 use borrow.Author.Needs.{needs}
 use Rattle.report.proofs.scan.rest_start.Statement.{statement}
 use Rattle.report.proofs.scan.rest_start.Tie as tie

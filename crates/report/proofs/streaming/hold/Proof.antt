@@ -1,7 +1,7 @@
 -- What is held is written over with itself and as much of the part as there is room for.
 use native.Mathlib.Omega.{arith}
 use lib.ListN.{length-take}
-use Rattle.report.proofs.Held.{counted, holds}
+use Rattle.text.proofs.Held.{counted, holds}
 use borrow.Author.Needs.{needs}
 use Rattle.report.proofs.streaming.hold.Statement.{statement}
 use Rattle.report.proofs.streaming.hold.Tie as tie

@@ -3,8 +3,8 @@ use mathlib.Core.Path.{sym}
 use native.Mathlib.Omega.{arith}
 use lib.ListN.{take, length-take}
 use mathlib.Core.List.{_++_}
-use Rattle.report.proofs.Wrote.{as-long}
-use Rattle.report.proofs.Held.{counted, held-fits, still-fits, line-joined}
+use Rattle.text.proofs.Wrote.{as-long}
+use Rattle.text.proofs.Held.{counted, held-fits, still-fits, line-joined}
 use borrow.Author.Needs.{needs}
 use Rattle.report.proofs.streaming.put_first.Statement.{statement}
 use Rattle.report.proofs.streaming.put_first.Tie as tie

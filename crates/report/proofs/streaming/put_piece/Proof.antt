@@ -5,11 +5,11 @@ use native.Mathlib.Omega.{arith}
 use lib.ListN.{length, take, length-take}
 use lib.Seq.{sets}
 use Rattle.theory.specs.declared.state.State.{State}
-use Rattle.report.specs.Pieces.{Kept, heldMost}
-use Rattle.report.proofs.Wrote.{as-long}
-use Rattle.report.proofs.Lines.{lines-at}
-use Rattle.report.proofs.Reporting.{rest-without}
-use Rattle.report.proofs.Held.{counted, some-lines, room-held, piece-held, piece-said, piece-kept, progress-said, short-held, held-rest}
+use Rattle.text.specs.Pieces.{Kept, heldMost}
+use Rattle.text.proofs.Wrote.{as-long}
+use Rattle.text.proofs.Lines.{lines-at}
+use Rattle.text.proofs.Reporting.{rest-without}
+use Rattle.text.proofs.Held.{counted, some-lines, room-held, piece-held, piece-said, piece-kept, progress-said, short-held, held-rest}
 use borrow.Author.Needs.{needs}
 use Rattle.report.proofs.streaming.put_piece.Statement.{statement}
 use Rattle.report.proofs.streaming.put_piece.Tie as tie

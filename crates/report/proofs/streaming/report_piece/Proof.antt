@@ -3,8 +3,8 @@ use mathlib.Core.Path.{_≡_, sym, _∙_}
 use Prim.Native.Nat.{_≤_}
 use native.Mathlib.Omega.{arith}
 use lib.ListN.{length}
-use Rattle.report.proofs.Lines.{lines-fit}
-use Rattle.report.proofs.Held.{room-enough}
+use Rattle.text.proofs.Lines.{lines-fit}
+use Rattle.text.proofs.Held.{room-enough}
 use borrow.Author.Tests.{not-true, not-false}
 use borrow.Author.Needs.{needs}
 use Rattle.report.proofs.streaming.report_piece.Statement.{statement}

@@ -4,7 +4,7 @@ use Prim.Native.Nat.{ℕ, _+_, _≤_}
 use native.Mathlib.Omega.{arith}
 use lib.ListN.{length, drop}
 use borrow.Author.Needs.{needs}
-use Rattle.report.proofs.Bytes.{little-next, little-none}
+use Rattle.text.proofs.Bytes.{little-next, little-none}
 use Rattle.report.proofs.words.eight.Statement.{statement}
 use Rattle.report.proofs.words.eight.Tie as tie
 

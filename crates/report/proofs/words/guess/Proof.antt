@@ -2,7 +2,7 @@
 use Prim.Native.Nat.{_+_, _/_, _%_}
 use native.Mathlib.Omega.{arith}
 use borrow.Author.Needs.{needs}
-use Rattle.report.proofs.Ops.{guess-known}
+use Rattle.text.proofs.Ops.{guess-known}
 use Rattle.report.proofs.words.guess.Statement.{statement}
 use Rattle.report.proofs.words.guess.Tie as tie
 

@@ -1,7 +1,7 @@
 -- `report::words::is_word` is both tests. Assumes nothing.
 use borrow.Author.Needs.{needs}
 use borrow.Author.Tests.{eq-eqb, ne-eqb}
-use Rattle.report.specs.Bytes.{isWord}
+use Rattle.text.specs.Bytes.{isWord}
 use Rattle.report.proofs.words.is_word.Statement.{statement}
 use Rattle.report.proofs.words.is_word.Tie as tie
 

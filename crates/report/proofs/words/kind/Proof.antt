@@ -3,9 +3,9 @@ use mathlib.Core.Path.{sym, ap, _∙_}
 use Prim.Native.Nat.{_≤_}
 use lib.ListN.{length}
 use borrow.Author.Needs.{needs}
-use Rattle.report.specs.LineForm.{words, placeOf}
-use Rattle.report.proofs.Bytes.{word-fits}
-use Rattle.report.proofs.LineForm.{is-op, no-op, part-from}
+use Rattle.text.specs.LineForm.{words, placeOf}
+use Rattle.text.proofs.Bytes.{word-fits}
+use Rattle.text.proofs.LineForm.{is-op, no-op, part-from}
 use Rattle.report.proofs.words.kind.Statement.{statement}
 use Rattle.report.proofs.words.kind.Tie as tie
 

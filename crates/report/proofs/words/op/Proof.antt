@@ -2,7 +2,7 @@
 use mathlib.Core.Path.{sym, _∙_}
 use native.Mathlib.Omega.{arith}
 use borrow.Author.Needs.{needs}
-use Rattle.report.proofs.Ops.{op-long, op-seen}
+use Rattle.text.proofs.Ops.{op-long, op-seen}
 use Rattle.report.proofs.words.op.Statement.{statement}
 use Rattle.report.proofs.words.op.Tie as tie
 

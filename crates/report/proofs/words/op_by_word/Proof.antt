@@ -2,8 +2,8 @@
 use mathlib.Core.Path.{sym, ap, _∙_}
 use lib.Seq.{length-take-le}
 use borrow.Author.Needs.{needs}
-use Rattle.report.specs.LineForm.{kindOf}
-use Rattle.report.proofs.LineForm.{cut-before}
+use Rattle.text.specs.LineForm.{kindOf}
+use Rattle.text.proofs.LineForm.{cut-before}
 use Rattle.report.proofs.words.op_by_word.Statement.{statement}
 use Rattle.report.proofs.words.op_by_word.Tie as tie
 

@@ -1,7 +1,7 @@
 -- `report::words::op_end`: the table has the lengths. Assumes nothing.
 use mathlib.Core.Path.{_∙_}
 use borrow.Author.Needs.{needs}
-use Rattle.report.proofs.Ops.{end-at}
+use Rattle.text.proofs.Ops.{end-at}
 use Rattle.report.proofs.words.op_end.Statement.{statement}
 use Rattle.report.proofs.words.op_end.Tie as tie
 

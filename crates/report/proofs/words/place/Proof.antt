@@ -4,8 +4,8 @@ use Prim.Native.Nat.{ℕ, _+_}
 use native.Mathlib.Omega.{arith}
 use lib.ListN.{drop}
 use borrow.Author.Needs.{needs}
-use Rattle.report.specs.LineForm.{words, placeOf}
-use Rattle.report.proofs.LineForm.{past-word, at-word, no-words}
+use Rattle.text.specs.LineForm.{words, placeOf}
+use Rattle.text.proofs.LineForm.{past-word, at-word, no-words}
 use Rattle.report.proofs.words.place.Statement.{statement}
 use Rattle.report.proofs.words.place.Tie as tie
 

@@ -4,8 +4,8 @@ use Prim.Native.Nat.{_-_, _≤_}
 use native.Mathlib.Omega.{arith}
 use lib.ListN.{length, drop}
 use borrow.Author.Needs.{needs}
-use Rattle.report.specs.Bytes.{startsWith}
-use Rattle.report.proofs.Bytes.{starts-short, same-at, differs-at, word-ended}
+use Rattle.text.specs.Bytes.{startsWith}
+use Rattle.text.proofs.Bytes.{starts-short, same-at, differs-at, word-ended}
 use Rattle.report.proofs.words.starts_with.Statement.{statement}
 use Rattle.report.proofs.words.starts_with.Tie as tie
 

@@ -4,7 +4,7 @@ use native.Mathlib.Omega.{arith}
 use lib.ListN.{getD}
 use borrow.Author.Needs.{needs}
 use borrow.Author.Tests.{not-false}
-use Rattle.report.proofs.Ops.{task-empty, within-seven, task-ends}
+use Rattle.text.proofs.Ops.{task-empty, within-seven, task-ends}
 use Rattle.report.proofs.words.task_end.Statement.{statement}
 use Rattle.report.proofs.words.task_end.Tie as tie
 

@@ -4,8 +4,8 @@ use native.Mathlib.Omega.{arith}
 use borrow.Author.Needs.{needs}
 use borrow.Fn.Kinds.{In}
 use borrow.Fn.PlainCycle.{Measures, is, falls, and}
-use Rattle.report.proofs.Wrote.{_then_}
-use Rattle.report.proofs.Digits.{decimal-small, decimal-more, length-small, length-more}
+use Rattle.text.proofs.Wrote.{_then_}
+use Rattle.text.proofs.Digits.{decimal-small, decimal-more, length-small, length-more}
 use Rattle.report.proofs.writing.put_long.Reads as put-long
 use Rattle.report.proofs.writing.put_long.Kinds as put-long-kinds
 use Rattle.report.proofs.writing.+put_long.Lts-put_long as put-long-lts

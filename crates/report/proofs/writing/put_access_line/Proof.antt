@@ -1,10 +1,10 @@
 -- The line of an access: which access it is, then the words and numbers of its verdict. Each has room, since all together have.
 use native.Mathlib.Omega.{arith}
 use borrow.Author.Needs.{needs}
-use Rattle.report.specs.Printing.{digitsOf}
-use Rattle.report.specs.ReportLines.{accessLine}
-use Rattle.report.proofs.Wrote.{_then_}
-use Rattle.report.proofs.Lengths.{length-access-part, length-access-line}
+use Rattle.text.specs.Printing.{digitsOf}
+use Rattle.text.specs.ReportLines.{accessLine}
+use Rattle.text.proofs.Wrote.{_then_}
+use Rattle.text.proofs.Lengths.{length-access-part, length-access-line}
 use Rattle.report.proofs.writing.put_access_line.Statement.{statement}
 use Rattle.report.proofs.writing.put_access_line.Tie as tie
 

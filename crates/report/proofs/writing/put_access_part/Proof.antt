@@ -1,10 +1,10 @@
 -- The words and numbers of an access, one after the other; each has room, since all together have.
 use native.Mathlib.Omega.{arith}
 use borrow.Author.Needs.{needs}
-use Rattle.report.specs.Printing.{digitsOf}
-use Rattle.report.specs.ReportLines.{accessPart}
-use Rattle.report.proofs.Wrote.{_then_}
-use Rattle.report.proofs.Lengths.{length-access-part}
+use Rattle.text.specs.Printing.{digitsOf}
+use Rattle.text.specs.ReportLines.{accessPart}
+use Rattle.text.proofs.Wrote.{_then_}
+use Rattle.text.proofs.Lengths.{length-access-part}
 use Rattle.report.proofs.writing.put_access_part.Statement.{statement}
 use Rattle.report.proofs.writing.put_access_part.Tie as tie
 

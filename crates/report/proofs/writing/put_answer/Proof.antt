@@ -1,8 +1,8 @@
 -- The line by the answer's case; an access has room, since its line has at most 64 bytes.
 use lib.Dec.{lit≤}
 use borrow.Author.Needs.{needs}
-use Rattle.report.proofs.Wrote.{wrote-nothing, at-most}
-use Rattle.report.proofs.Lengths.{access-room, access-line-fits}
+use Rattle.text.proofs.Wrote.{wrote-nothing, at-most}
+use Rattle.text.proofs.Lengths.{access-room, access-line-fits}
 use Rattle.report.proofs.writing.put_answer.Statement.{statement}
 use Rattle.report.proofs.writing.put_answer.Tie as tie
 

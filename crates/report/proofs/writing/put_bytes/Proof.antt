@@ -3,8 +3,8 @@ use Prim.Native.Nat.{_+_, _≤_, _-_}
 use mathlib.Core.Path.{_≡_}
 use borrow.Author.Needs.{needs}
 use lib.ListN.{length, take}
-use Rattle.report.specs.Wrote.{Wrote}
-use Rattle.report.proofs.Wrote.{wrote-none, one-more, wrote-all}
+use Rattle.text.specs.Wrote.{Wrote}
+use Rattle.text.proofs.Wrote.{wrote-none, one-more, wrote-all}
 use Rattle.report.proofs.writing.put_bytes.Statement.{statement}
 use Rattle.report.proofs.writing.put_bytes.Tie as tie
 

@@ -1,7 +1,7 @@
 -- Five digits, one after the other.
 use borrow.Author.Needs.{needs}
-use Rattle.report.proofs.Digits.{five-digits}
-use Rattle.report.proofs.Wrote.{_then_}
+use Rattle.text.proofs.Digits.{five-digits}
+use Rattle.text.proofs.Wrote.{_then_}
 use Rattle.report.proofs.writing.put_five.Statement.{statement}
 use Rattle.report.proofs.writing.put_five.Tie as tie
 

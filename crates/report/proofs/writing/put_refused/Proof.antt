@@ -1,10 +1,10 @@
 -- The words and numbers of a refused line, one after the other. The line number has at most 20 digits and the refusal's at most 10.
 use native.Mathlib.Omega.{arith}
 use borrow.Author.Needs.{needs}
-use Rattle.report.specs.ReportLines.{refusedLine}
-use Rattle.report.proofs.Wrote.{_then_, at-most}
-use Rattle.report.proofs.Digits.{decimal-fits}
-use Rattle.report.proofs.Lengths.{refused-line-fits}
+use Rattle.text.specs.ReportLines.{refusedLine}
+use Rattle.text.proofs.Wrote.{_then_, at-most}
+use Rattle.text.proofs.Digits.{decimal-fits}
+use Rattle.text.proofs.Lengths.{refused-line-fits}
 use Rattle.report.proofs.writing.put_refused.Statement.{statement}
 use Rattle.report.proofs.writing.put_refused.Tie as tie
 

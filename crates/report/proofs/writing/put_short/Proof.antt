@@ -8,10 +8,10 @@ use lib.Dec.{ltb}
 use lib.ListN.{length}
 use borrow.Author.Needs.{needs}
 use borrow.Author.Tests.{ltb-true, ltb-false}
-use Rattle.report.specs.Printing.{lastDigit, decimal}
-use Rattle.report.specs.Wrote.{Wrote}
-use Rattle.report.proofs.Wrote.{_then_, wrote-over}
-use Rattle.report.proofs.Digits.{decimal-small, decimal-more, length-small}
+use Rattle.text.specs.Printing.{lastDigit, decimal}
+use Rattle.text.specs.Wrote.{Wrote}
+use Rattle.text.proofs.Wrote.{_then_, wrote-over}
+use Rattle.text.proofs.Digits.{decimal-small, decimal-more, length-small}
 use Rattle.report.proofs.writing.put_short.Statement.{statement}
 use Rattle.report.proofs.writing.put_short.Tie as tie
 

@@ -7,17 +7,17 @@ use native.Mathlib.Omega.{arith}
 use lib.ListN.{length, take, drop, getD, length-append, length-drop, drop-of-length-le}
 use lib.Seq.{sets, length-sets, drop-drop, drop-cons, getD-drop}
 use Rattle.theory.specs.declared.state.State.{State}
-use Rattle.report.specs.Lines.{lf, linesOf, lineEnd}
-use Rattle.report.specs.LineForm.{parseOf}
-use Rattle.report.specs.Wrote.{Wrote}
-use Rattle.report.specs.Report.{saidFor, stateAfter}
-use Rattle.report.specs.Pieces.{Kept, kept, heldMost, saidIn, afterPiece}
-use Rattle.report.proofs.Bytes.{Without, index-none, split-first, before-without, index-bound, without-cons, without-drop}
-use Rattle.report.specs.Reading.{lineAt, nextAt}
-use Rattle.report.proofs.Reading.{line-part, next-place}
-use Rattle.report.proofs.Wrote.{sets-append}
-use Rattle.report.proofs.Lines.{lines-at}
-use Rattle.report.proofs.Pieces.{keptWith, line-said, line-after, rest-held}
+use Rattle.text.specs.Lines.{lf, linesOf, lineEnd}
+use Rattle.text.specs.LineForm.{parseOf}
+use Rattle.text.specs.Wrote.{Wrote}
+use Rattle.text.specs.Report.{saidFor, stateAfter}
+use Rattle.text.specs.Pieces.{Kept, kept, heldMost, saidIn, afterPiece}
+use Rattle.text.proofs.Bytes.{Without, index-none, split-first, before-without, index-bound, without-cons, without-drop}
+use Rattle.text.specs.Reading.{lineAt, nextAt}
+use Rattle.text.proofs.Reading.{line-part, next-place}
+use Rattle.text.proofs.Wrote.{sets-append}
+use Rattle.text.proofs.Lines.{lines-at}
+use Rattle.text.proofs.Pieces.{keptWith, line-said, line-after, rest-held}
 
 -- `said` was to be written over `memory` from `start` on, and `last` to be kept then. `report` holds what is written, up to `at`; the state
 -- is s, so many lines are answered, and `piece` is still to be answered from p on.

@@ -8,9 +8,9 @@ use Rattle.theory.specs.declared.record.Record.{Record}
 use Rattle.theory.specs.declared.answer.Answer.{Answer}
 use Rattle.theory.specs.declared.answer.Answer.the-variants.{Refused, Accepted, Clear, Race, Doubt}
 use Rattle.theory.specs.Feeding.{refusalNumber}
-use Rattle.report.specs.Printing.{bytes, digitsOf, decimal}
-use Rattle.report.specs.ReportLines.{accessPart, accessLine, refusedLine, reportLine}
-use Rattle.report.proofs.Digits.{decimal-fits}
+use Rattle.text.specs.Printing.{bytes, digitsOf, decimal}
+use Rattle.text.specs.ReportLines.{accessPart, accessLine, refusedLine, reportLine}
+use Rattle.text.proofs.Digits.{decimal-fits}
 
 -- the lengths of the lines: the words and the numbers of five digits are of fixed length
 pub length-access-part : (number task variable : ℕ) → length (accessPart number task variable) ≡ 20 + length (decimal task) + length (decimal variable)

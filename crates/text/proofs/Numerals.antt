@@ -10,11 +10,11 @@ use lib.Dec.{leb, ltb, eqb}
 use lib.ListN.{length, getD, drop, drop-of-length-le}
 use lib.Seq.{drop-cons}
 use borrow.Author.Tests.{leb-true, eqb-true, le-leb, lt-leb, lt-ltb, le-ltb, eq-eqb, ne-eqb, eqb-false, not-true}
-use Rattle.report.specs.declared.decimal.Number.{Number}
-use Rattle.report.specs.LineForm.{digits, isDigit, isPlain, digitsFrom, decimalOf}
-use Rattle.report.specs.Printing.{lastDigit, digitsOf, decimal}
-use Rattle.report.proofs.Bytes.{and-true}
-use Rattle.report.proofs.Digits.{divide-more, none-above, some-above, digits-long, fills, width-of}
+use Rattle.text.specs.declared.number.Number.{Number}
+use Rattle.text.specs.LineForm.{digits, isDigit, isPlain, digitsFrom, decimalOf}
+use Rattle.text.specs.Printing.{lastDigit, digitsOf, decimal}
+use Rattle.text.proofs.Bytes.{and-true}
+use Rattle.text.proofs.Digits.{divide-more, none-above, some-above, digits-long, fills, width-of}
 
 -- Digits
 

@@ -9,10 +9,10 @@ use lib.Seq.{take-all}
 use borrow.Author.Tests.{lt-ltb, le-ltb, eq-eqb, ne-eqb}
 use Rattle.theory.specs.declared.record.Record.{Record}
 use Rattle.theory.specs.Recording.{lossMark}
-use Rattle.report.specs.declared.decimal.Number.{Number}
-use Rattle.report.specs.declared.parsing.Parsed.{Parsed}
-use Rattle.report.specs.Bytes.{indexOf, upTo, after, startsWith, isWord}
-use Rattle.report.specs.LineForm.{decimalOf, words, opName, taskName, onName, space, placeOf, kindOf, fieldOf, actOf, markOf, restOf, parseOf}
+use Rattle.text.specs.declared.number.Number.{Number}
+use Rattle.text.specs.declared.parsed.Parsed.{Parsed}
+use Rattle.text.specs.Bytes.{indexOf, upTo, after, startsWith, isWord}
+use Rattle.text.specs.LineForm.{decimalOf, words, opName, taskName, onName, space, placeOf, kindOf, fieldOf, actOf, markOf, restOf, parseOf}
 
 -- Words
 

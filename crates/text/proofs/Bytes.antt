@@ -10,7 +10,7 @@ use lib.Dec.{eqb, ltb}
 use lib.ListN.{length, getD, take, drop, drop-of-length-le, length-append, length-drop, take-append-drop}
 use lib.Seq.{drop-cons, drop-drop, length-take-le}
 use borrow.Author.Tests.{eq-eqb, ne-eqb, eqb-true, eqb-false, lt-ltb, le-ltb, ltb-true, ltb-false}
-use Rattle.report.specs.Bytes.{indexOf, upTo, after, startsWith, isWord, little}
+use Rattle.text.specs.Bytes.{indexOf, upTo, after, startsWith, isWord, little}
 
 -- The first place of a byte
 

@@ -11,17 +11,17 @@ use lib.Dec.{leb, eqb}
 use borrow.Author.Tests.{leb-true, leb-false, eq-eqb, ne-eqb}
 use native.Mathlib.Numerals.{add-one}
 use Rattle.theory.specs.declared.state.State.{State}
-use Rattle.report.specs.declared.streaming.Progress.{Progress}
-use Rattle.report.specs.Lines.{lf, linesOf, lineEnd}
-use Rattle.report.specs.LineForm.{parseOf}
-use Rattle.report.specs.Wrote.{Wrote}
-use Rattle.report.specs.Report.{saidFor, stateAfter, reportOf}
-use Rattle.report.specs.Pieces.{Kept, kept, freshKept, heldMost, saidAt, afterByte, saidIn, afterPiece, saidAtEnd, saidInAll, joined, progressAfter, fits}
-use Rattle.report.proofs.Bytes.{Without, and-true}
-use Rattle.report.proofs.Wrote.{sets-append, _then_, front, as-long}
-use Rattle.report.proofs.Lines.{lines-of, lines-fit}
-use Rattle.report.proofs.Pieces.{keptWith, parse-held, rest-held, line-said, line-after, any-cut}
-use Rattle.report.proofs.Reporting.{from-place, line-without}
+use Rattle.text.specs.declared.progress.Progress.{Progress}
+use Rattle.text.specs.Lines.{lf, linesOf, lineEnd}
+use Rattle.text.specs.LineForm.{parseOf}
+use Rattle.text.specs.Wrote.{Wrote}
+use Rattle.text.specs.Report.{saidFor, stateAfter, reportOf}
+use Rattle.text.specs.Pieces.{Kept, kept, freshKept, heldMost, saidAt, afterByte, saidIn, afterPiece, saidAtEnd, saidInAll, joined, progressAfter, fits}
+use Rattle.text.proofs.Bytes.{Without, and-true}
+use Rattle.text.proofs.Wrote.{sets-append, _then_, front, as-long}
+use Rattle.text.proofs.Lines.{lines-of, lines-fit}
+use Rattle.text.proofs.Pieces.{keptWith, parse-held, rest-held, line-said, line-after, any-cut}
+use Rattle.text.proofs.Reporting.{from-place, line-without}
 
 -- What is held
 

@@ -9,10 +9,10 @@ use lib.Seq.{sets}
 use Rattle.theory.specs.declared.record.Record.{Record}
 use Rattle.theory.specs.declared.state.State.{State}
 use Rattle.theory.specs.Step.{stepOf, freshState}
-use Rattle.report.specs.declared.parsing.Parsed.{Parsed}
-use Rattle.report.specs.Lines.{linesOf}
-use Rattle.report.specs.LineForm.{parseOf}
-use Rattle.report.specs.ReportLines.{reportLine, refusedLine}
+use Rattle.text.specs.declared.parsed.Parsed.{Parsed}
+use Rattle.text.specs.Lines.{linesOf}
+use Rattle.text.specs.LineForm.{parseOf}
+use Rattle.text.specs.ReportLines.{reportLine, refusedLine}
 
 -- what the report has for a line: "A line that yields no record is refused with 1"
 abbrev pub saidFor : ℕ → State → Parsed → List ℕ

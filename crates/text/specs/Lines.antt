@@ -3,7 +3,7 @@ use Prim.Native.Nat.{ℕ, _+_}
 use mathlib.Core.Bool.{cond}
 use mathlib.Core.List.{List, [], _∷_}
 use lib.Dec.{eqb}
-use Rattle.report.specs.Bytes.{indexOf}
+use Rattle.text.specs.Bytes.{indexOf}
 
 -- LF, which ends a line
 abbrev pub lf : ℕ

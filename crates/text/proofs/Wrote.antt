@@ -7,7 +7,7 @@ use native.Mathlib.Numerals.{add-one}
 use native.Mathlib.Omega.{arith}
 use lib.ListN.{length, take, drop, set, getD, length-append, length-take}
 use lib.Seq.{sets, length-sets, sets-eq, take-suc, take-all, take-at, drop-at, set-set}
-use Rattle.report.specs.Wrote.{Wrote}
+use Rattle.text.specs.Wrote.{Wrote}
 
 pub sets-append : (l : List ℕ) (i : ℕ) (a b : List ℕ) → sets l i (a ++ b) ≡ sets (sets l i a) (i + length a) b
 sets-append l i [] b = rw (add-zero i)

@@ -20,15 +20,15 @@ use Rattle.theory.specs.Control.{refusalIn}
 use Rattle.theory.specs.History.{accesses}
 use Rattle.theory.specs.Step.{verdictBy, judgedBy, nextNumber, sameMasks, masksOfClocks, masksOfSets, accepted, stepOf, freshState}
 use Rattle.theory.specs.Feeding.{Says, says-clear, says-race, says-doubt, fedTo}
-use Rattle.report.specs.declared.parsing.Parsed.{Parsed}
-use Rattle.report.specs.Lines.{linesOf}
-use Rattle.report.specs.LineForm.{parseOf}
-use Rattle.report.specs.ReportLines.{accessLine, refusedLine, reportLine}
-use Rattle.report.specs.Report.{saidFor, stateAfter, reportFrom, reportOf, tooSmall}
-use Rattle.report.specs.TextDemands.{TextForm, rowOf, wordFor, LineGot, no-record, refused, judged, taken, Answered, no-lines, a-line, TextHandled, refused-whole, reported, TextDemand1, OneReport, Tells, tells-nothing, tells-no-record, tells-answer, TextFed}
-use Rattle.report.proofs.Lines.{lines-fit}
-use Rattle.report.proofs.RoundTrip.{text-taken, only-text, only-sayable}
-use Rattle.report.proofs.Lengths.{refused-line-fits, access-line-fits}
+use Rattle.text.specs.declared.parsed.Parsed.{Parsed}
+use Rattle.text.specs.Lines.{linesOf}
+use Rattle.text.specs.LineForm.{parseOf}
+use Rattle.text.specs.ReportLines.{accessLine, refusedLine, reportLine}
+use Rattle.text.specs.Report.{saidFor, stateAfter, reportFrom, reportOf, tooSmall}
+use Rattle.text.specs.TextDemands.{TextForm, rowOf, wordFor, LineGot, no-record, refused, judged, taken, Answered, no-lines, a-line, TextHandled, refused-whole, reported, TextDemand1, OneReport, Tells, tells-nothing, tells-no-record, tells-answer, TextFed}
+use Rattle.text.proofs.Lines.{lines-fit}
+use Rattle.text.proofs.RoundTrip.{text-taken, only-text, only-sayable}
+use Rattle.text.proofs.Lengths.{refused-line-fits, access-line-fits}
 
 -- The step by cases, from its definition
 

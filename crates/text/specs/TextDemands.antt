@@ -14,11 +14,11 @@ use Rattle.theory.specs.Control.{refusalIn}
 use Rattle.theory.specs.History.{accesses}
 use Rattle.theory.specs.Step.{recordNumber, nextNumber, masksOfClocks, masksOfSets, sameMasks, stepOf, freshState}
 use Rattle.theory.specs.Feeding.{Says, fed}
-use Rattle.report.specs.Lines.{linesOf}
-use Rattle.report.specs.LineForm.{textOf, Sayable}
-use Rattle.report.specs.Printing.{bytes}
-use Rattle.report.specs.ReportLines.{accessLine, refusedLine, reportLine}
-use Rattle.report.specs.Report.{reportOf, countOf, memoryOf}
+use Rattle.text.specs.Lines.{linesOf}
+use Rattle.text.specs.LineForm.{textOf, Sayable}
+use Rattle.text.specs.Printing.{bytes}
+use Rattle.text.specs.ReportLines.{accessLine, refusedLine, reportLine}
+use Rattle.text.specs.Report.{reportOf, countOf, memoryOf}
 
 -- A line
 

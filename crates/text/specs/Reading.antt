@@ -3,7 +3,7 @@ use mathlib.Core.Path.{_≡_}
 use Prim.Native.Nat.{ℕ, suc, _+_, _<_, min}
 use mathlib.Core.List.{List, _∷_}
 use lib.ListN.{length, take, drop}
-use Rattle.report.specs.Lines.{linesOf, lineEnd}
+use Rattle.text.specs.Lines.{linesOf, lineEnd}
 
 -- the line that begins at a place, without its LF; empty from the end of the text on
 unfoldable pub lineAt : List ℕ → ℕ → List ℕ

@@ -7,10 +7,10 @@ use lib.ListN.{length, getD, drop}
 use lib.Dec.{leb, ltb, eqb}
 use Rattle.theory.specs.declared.record.Record.{Record}
 use Rattle.theory.specs.Recording.{lossMark}
-use Rattle.report.specs.declared.decimal.Number.{Number}
-use Rattle.report.specs.declared.parsing.Parsed.{Parsed}
-use Rattle.report.specs.Bytes.{upTo, after, startsWith, isWord}
-use Rattle.report.specs.Printing.{decimal}
+use Rattle.text.specs.declared.number.Number.{Number}
+use Rattle.text.specs.declared.parsed.Parsed.{Parsed}
+use Rattle.text.specs.Bytes.{upTo, after, startsWith, isWord}
+use Rattle.text.specs.Printing.{decimal}
 
 -- Numbers
 

@@ -9,14 +9,14 @@ use lib.ListN.{length, take, drop, length-take, length-append}
 use lib.Seq.{take-all}
 use borrow.Author.Tests.{ne-eqb, eqb-true, eqb-false, leb-true, leb-false}
 use Rattle.theory.specs.declared.state.State.{State}
-use Rattle.report.specs.declared.parsing.Parsed.{Parsed}
-use Rattle.report.specs.Lines.{lf, linesOf}
-use Rattle.report.specs.LineForm.{parseOf}
-use Rattle.report.specs.Report.{saidFor, stateAfter, reportFrom, reportOf}
-use Rattle.report.specs.Pieces.{Kept, kept, freshKept, heldMost, saidAt, afterByte, saidIn, afterPiece, saidAtEnd, saidInAll, joined, AnyCut}
-use Rattle.report.proofs.Bytes.{Without, index-none, without-append, without-cons, without-head}
-use Rattle.report.proofs.Lines.{no-lines, line-first, line-last}
-use Rattle.report.proofs.RoundTrip.{long-refused}
+use Rattle.text.specs.declared.parsed.Parsed.{Parsed}
+use Rattle.text.specs.Lines.{lf, linesOf}
+use Rattle.text.specs.LineForm.{parseOf}
+use Rattle.text.specs.Report.{saidFor, stateAfter, reportFrom, reportOf}
+use Rattle.text.specs.Pieces.{Kept, kept, freshKept, heldMost, saidAt, afterByte, saidIn, afterPiece, saidAtEnd, saidInAll, joined, AnyCut}
+use Rattle.text.proofs.Bytes.{Without, index-none, without-append, without-cons, without-head}
+use Rattle.text.proofs.Lines.{no-lines, line-first, line-last}
+use Rattle.text.proofs.RoundTrip.{long-refused}
 
 -- What is held of a line
 

@@ -8,10 +8,10 @@ use lib.Dec.{eqb, leb}
 use lib.ListN.{length, take}
 use Rattle.theory.specs.declared.state.State.{State}
 use Rattle.theory.specs.Step.{freshState}
-use Rattle.report.specs.declared.streaming.Progress.{Progress}
-use Rattle.report.specs.Lines.{lf}
-use Rattle.report.specs.LineForm.{parseOf}
-use Rattle.report.specs.Report.{saidFor, stateAfter, reportOf}
+use Rattle.text.specs.declared.progress.Progress.{Progress}
+use Rattle.text.specs.Lines.{lf}
+use Rattle.text.specs.LineForm.{parseOf}
+use Rattle.text.specs.Report.{saidFor, stateAfter, reportOf}
 
 -- what is kept between pieces: the running state, how many lines are answered, and what is held of the line that has begun
 pub record Kept : Type 0 where

@@ -9,16 +9,16 @@ use lib.ListN.{length, getD, drop, length-append}
 use borrow.Author.Tests.{ltb-true, eqb-true, eqb-false, ne-eqb}
 use Rattle.theory.specs.declared.record.Record.{Record}
 use Rattle.theory.specs.Recording.{lossMark}
-use Rattle.report.specs.declared.decimal.Number.{Number}
-use Rattle.report.specs.declared.parsing.Parsed.{Parsed}
-use Rattle.report.specs.Bytes.{indexOf, upTo, after, startsWith, isWord}
-use Rattle.report.specs.LineForm.{digits, decimalOf, words, opName, taskName, onName, tasksName, space, placeOf, kindOf, fieldOf, actBy, markBy}
-use Rattle.report.specs.LineForm.{actOf, markOf, restOf, parseOf, wordOf, textOf, Sayable, TextTaken, OnlyText, OnlySayable, LongRefused}
-use Rattle.report.specs.Printing.{lastDigit, digitsOf, width, decimal}
-use Rattle.report.proofs.Bytes.{Without, without-cons, without-append, before-seam, after-seam, rejoined, word-split, word-starts, word-dropped, is-the-word}
-use Rattle.report.proofs.Digits.{decimal-fits}
-use Rattle.report.proofs.Numerals.{let-through, decimal-read, read-decimal}
-use Rattle.report.proofs.LineForm.{rest-act}
+use Rattle.text.specs.declared.number.Number.{Number}
+use Rattle.text.specs.declared.parsed.Parsed.{Parsed}
+use Rattle.text.specs.Bytes.{indexOf, upTo, after, startsWith, isWord}
+use Rattle.text.specs.LineForm.{digits, decimalOf, words, opName, taskName, onName, tasksName, space, placeOf, kindOf, fieldOf, actBy, markBy}
+use Rattle.text.specs.LineForm.{actOf, markOf, restOf, parseOf, wordOf, textOf, Sayable, TextTaken, OnlyText, OnlySayable, LongRefused}
+use Rattle.text.specs.Printing.{lastDigit, digitsOf, width, decimal}
+use Rattle.text.proofs.Bytes.{Without, without-cons, without-append, before-seam, after-seam, rejoined, word-split, word-starts, word-dropped, is-the-word}
+use Rattle.text.proofs.Digits.{decimal-fits}
+use Rattle.text.proofs.Numerals.{let-through, decimal-read, read-decimal}
+use Rattle.text.proofs.LineForm.{rest-act}
 
 -- What is taken
 

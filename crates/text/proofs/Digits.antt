@@ -8,7 +8,7 @@ use native.Mathlib.Omega.{arith}
 use lib.Dec.{leb, ltb}
 use lib.ListN.{length, length-append}
 use borrow.Author.Tests.{leb-true, leb-false, lt-ltb, le-ltb, ltb-true, ltb-false}
-use Rattle.report.specs.Printing.{lastDigit, digitsOf, widthIn, width, decimal, fiveDigits}
+use Rattle.text.specs.Printing.{lastDigit, digitsOf, widthIn, width, decimal, fiveDigits}
 
 -- Division by powers of ten
 

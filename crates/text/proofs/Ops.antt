@@ -9,13 +9,13 @@ use lib.ListN.{length, getD, take, drop, take-append-drop}
 use lib.Seq.{drop-cons, length-take-le}
 use borrow.Author.Tests.{eqb-true, eqb-false}
 use Rattle.theory.specs.Recording.{lossMark}
-use Rattle.report.specs.declared.parsing.Parsed.{Parsed}
-use Rattle.report.specs.Bytes.{indexOf, upTo, after, startsWith, little}
-use Rattle.report.specs.LineForm.{opName, taskName, wordOf, space, kindOf, restOf, parseOf}
-use Rattle.report.specs.Printing.{bytes}
-use Rattle.report.proofs.Bytes.{Without, before-seam, index-append, index-fits, found-at, passed-at, word-split, Below, allBelow, all-below, same-eight}
-use Rattle.report.proofs.LineForm.{rest-none}
-use Rattle.report.proofs.RoundTrip.{each-kind, op-is, op-kind, op-whole}
+use Rattle.text.specs.declared.parsed.Parsed.{Parsed}
+use Rattle.text.specs.Bytes.{indexOf, upTo, after, startsWith, little}
+use Rattle.text.specs.LineForm.{opName, taskName, wordOf, space, kindOf, restOf, parseOf}
+use Rattle.text.specs.Printing.{bytes}
+use Rattle.text.proofs.Bytes.{Without, before-seam, index-append, index-fits, found-at, passed-at, word-split, Below, allBelow, all-below, same-eight}
+use Rattle.text.proofs.LineForm.{rest-none}
+use Rattle.text.proofs.RoundTrip.{each-kind, op-is, op-kind, op-whole}
 
 -- Tables
 

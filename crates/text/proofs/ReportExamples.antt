@@ -3,8 +3,8 @@ use mathlib.Core.Path.{_≡_, refl}
 use Prim.Native.Nat.{ℕ, _^_, _-_}
 use Rattle.theory.specs.declared.record.Record.{Record}
 use Rattle.theory.specs.declared.answer.Answer.the-variants.{Refused, Accepted, Clear, Race, Doubt}
-use Rattle.report.specs.Printing.{bytes, digitsOf, widthIn, width, decimal, fiveDigits}
-use Rattle.report.specs.ReportLines.{accessPart, accessLine, refusedLine, reportLine}
+use Rattle.text.specs.Printing.{bytes, digitsOf, widthIn, width, decimal, fiveDigits}
+use Rattle.text.specs.ReportLines.{accessPart, accessLine, refusedLine, reportLine}
 
 abbrev record-of : ℕ → ℕ → ℕ → Record
 record-of kind task on = record { kind = kind; task = task; on = on }

@@ -9,9 +9,9 @@ use lib.Dec.{eqb}
 use lib.ListN.{length, getD, take, drop, length-take, length-drop, drop-of-length-le}
 use lib.Seq.{drop-drop, drop-cons, take-length}
 use borrow.Author.Tests.{eq-eqb, ne-eqb}
-use Rattle.report.specs.Bytes.{indexOf}
-use Rattle.report.specs.Lines.{lf, begunBy, linesOf, lineEnd, lfBit, lfCount}
-use Rattle.report.proofs.Bytes.{Without, before-seam, after-seam}
+use Rattle.text.specs.Bytes.{indexOf}
+use Rattle.text.specs.Lines.{lf, begunBy, linesOf, lineEnd, lfBit, lfCount}
+use Rattle.text.proofs.Bytes.{Without, before-seam, after-seam}
 
 pub no-lines : linesOf [] ≡ []
 unfolding linesOf

@@ -1,7 +1,7 @@
 -- The lines of the report ("Text and report").
 use Prim.Native.Nat.{ℕ}
 use mathlib.Core.List.{List, [], _++_}
-use Rattle.report.specs.Printing.{bytes, decimal, fiveDigits}
+use Rattle.text.specs.Printing.{bytes, decimal, fiveDigits}
 use Rattle.theory.specs.declared.record.Record.{Record}
 use Rattle.theory.specs.declared.answer.Answer.{Answer}
 use Rattle.theory.specs.declared.answer.Answer.the-variants.{Refused, Accepted, Clear, Race, Doubt}

@@ -6,10 +6,10 @@ use native.Mathlib.Nat.{min-zero, suc-min-suc}
 use native.Mathlib.Omega.{arith}
 use lib.ListN.{length, take, drop, length-drop, drop-of-length-le}
 use lib.Seq.{take-nil, drop-nil, drop-drop, length-take-le}
-use Rattle.report.specs.Lines.{lf, linesOf, lineEnd}
-use Rattle.report.specs.Reading.{lineAt, placeAfter, nextAt, ReadsLines}
-use Rattle.report.proofs.Bytes.{index-fits}
-use Rattle.report.proofs.Lines.{lines-of}
+use Rattle.text.specs.Lines.{lf, linesOf, lineEnd}
+use Rattle.text.specs.Reading.{lineAt, placeAfter, nextAt, ReadsLines}
+use Rattle.text.proofs.Bytes.{index-fits}
+use Rattle.text.proofs.Lines.{lines-of}
 
 -- the part up to the line's end
 pub line-part : (s : List ℕ) (at e : ℕ) → e ≡ at + lineEnd (drop at s) → take (e - at) (drop at s) ≡ lineAt s at

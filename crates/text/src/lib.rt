@@ -1,0 +1,9 @@
+// What the text layer is judged by: specs/ says what lines, records' text forms and reports are, proofs/ what is known of them.
+// No code stands here, only the types that the definitions speak of.
+mod number;
+mod parsed;
+mod progress;
+
+pub use number::Number;
+pub use parsed::Parsed;
+pub use progress::Progress;
