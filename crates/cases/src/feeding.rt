@@ -6,7 +6,7 @@ use crate::text::begins;
 use crate::text::record_at;
 use theory::Record;
 
-fn tell_as(a: checker::Answer, numbered: bool) {
+fn tell_as(a: theory::Answer, numbered: bool) {
     if numbered {
         tell_numbered(a);
     } else {
