@@ -15,11 +15,11 @@ use Rattle.theory.specs.declared.state.Stepped.{Stepped}
 use Rattle.theory.specs.declared.answer.Answer.{Answer}
 use Rattle.theory.specs.declared.answer.Answer.the-variants.{Refused, Accepted}
 use Rattle.theory.specs.Verdict.{Verdict, Race, Clear, Doubt}
-use Rattle.theory.specs.Acceptance.{rows, firstRow, refusalBy}
 use Rattle.theory.specs.Control.{refusalIn}
 use Rattle.theory.specs.History.{accesses}
-use Rattle.theory.specs.Step.{verdictBy, judgedBy, nextNumber, sameMasks, masksOfClocks, masksOfSets, accepted, stepOf, freshState}
+use Rattle.theory.specs.Step.{nextNumber, sameMasks, masksOfClocks, masksOfSets, accepted, stepOf, freshState}
 use Rattle.theory.specs.Feeding.{Says, says-clear, says-race, says-doubt, fedTo}
+use Rattle.theory.proofs.Cases.{refusal-bound, Judged, judged-by}
 use Rattle.text.specs.declared.parsed.Parsed.{Parsed}
 use Rattle.text.specs.Lines.{linesOf}
 use Rattle.text.specs.LineForm.{parseOf}
@@ -29,34 +29,6 @@ use Rattle.text.specs.TextDemands.{TextForm, rowOf, wordFor, LineGot, no
 use Rattle.text.proofs.Lines.{lines-fit}
 use Rattle.text.proofs.RoundTrip.{text-taken, only-text, only-sayable}
 use Rattle.text.proofs.Lengths.{refused-line-fits, access-line-fits}
-
--- The step by cases, from its definition
-
-first-row-bound : (n : ℕ) (bs : List Bool) → firstRow (suc n) bs ≤ n + length bs
-first-row-bound n [] = zero-le
-first-row-bound n (b ∷ bs) = decided b (first-row-bound (suc n) bs)
-  where
-    decided : (b : Bool) → firstRow (suc (suc n)) bs ≤ suc n + length bs → cond b (suc n) (firstRow (suc (suc n)) bs) ≤ n + suc (length bs)
-    decided true h = omega arith
-    decided false h = omega arith
-
-refusal-bound : (l u : ℕ → Bool) (count : ℕ) (r : Record) → refusalBy l u count r ≤ 9
-unfolding refusalBy
-refusal-bound l u count r = first-row-bound 0 (rows l u count r)
-
--- an answer that gives record n a verdict with a partner
-abbrev Judged : Answer → ℕ → Type 0
-Judged a n = (v : Verdict) × (w : ℕ) × Says a n v w
-
-verdict-by : (a b : Bool) (last : List ℕ) (k on number full arrived : ℕ) → Judged (verdictBy a b last k on number full arrived) number
-verdict-by true true last k on number full arrived = (_, _, says-clear)
-verdict-by true false last k on number full arrived = (_, _, says-doubt)
-verdict-by false true last k on number full arrived = (_, _, says-race)
-verdict-by false false last k on number full arrived = (_, _, says-race)
-
-judged-by : (last : List ℕ) (k on number full arrived : ℕ) → Judged (judgedBy last k on number full arrived) number
-unfolding judgedBy
-judged-by last k on number full arrived = verdict-by (eqb full 0) (eqb arrived 0) last k on number full arrived
 
 -- A line
 

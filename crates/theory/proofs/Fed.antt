@@ -12,7 +12,7 @@ use Rattle.theory.specs.declared.record.Record.{Record}
 use Rattle.theory.specs.declared.answer.Answer.{Answer}
 use Rattle.theory.specs.declared.answer.Answer.the-variants.{Refused, Accepted}
 use Rattle.theory.specs.Recording.{Op, Event, act, lost, eventOf, Unmarked}
-use Rattle.theory.specs.Acceptance.{rows, firstRow, refusalBy, refusal, joined, fedAfter, recording}
+use Rattle.theory.specs.Acceptance.{refusalBy, refusal, joined, fedAfter, recording}
 use Rattle.theory.specs.Verdict.{Verdict, Race, Clear, Doubt, AccessAt, Unordered, With, clear, race, doubt}
 use Rattle.theory.specs.Demands.{Firm}
 use Rattle.theory.specs.Decide.{judge, isAccessEvent}
@@ -23,12 +23,13 @@ use Rattle.theory.specs.Step.{verdictBy, judgedBy, nextNumber, sameMasks
 use Rattle.theory.specs.Turns.{turns}
 use Rattle.theory.specs.Completion.{rounds, round, part, onEach}
 use Rattle.theory.specs.Examples.{Example, table}
-use Rattle.theory.specs.Feeding.{recordOf, verdictsOf, FedExamples, Says, says-clear, says-race, says-doubt, isRefusal, acceptedOf, Got, got-now, got-later, got-refused, EachAccess, FedDemand2, FedDemand3, FedPartner, FedAcceptance, refusalNumber, refusalNumbers, refusalsAfter, verdictAnswer, acceptedAnswer, answerBy, answerTo, answersFrom, fed, clockFed, setFed, Meets, meets-now, meets-later, NeverRow10, Demand1, Handled, refused, access-taken, other-taken, IsVerdict, is-clear, is-race, is-doubt}
+use Rattle.theory.specs.Feeding.{recordOf, verdictsOf, FedExamples, Says, says-clear, says-race, says-doubt, isRefusal, acceptedOf, Got, got-now, got-later, got-refused, EachAccess, FedDemand2, FedDemand3, FedPartner, FedAcceptance, refusalNumber, refusalNumbers, refusalsAfter, verdictAnswer, acceptedAnswer, answerBy, answerTo, answersFrom, fed, clockFed, setFed, Meets, meets-now, meets-later, NeverRow10, Demand1, Handled, refused, access-taken, other-taken}
 use Rattle.theory.specs.Order.{isAccess}
 use Rattle.theory.proofs.Reflects.{by-test, is-true}
 use Rattle.theory.proofs.Places.{Ends, ends, onward, at-ends}
 use Rattle.theory.proofs.Demands.{Ruling, judge-ruling, ruling-firm, ruling-with, firm-unmarked}
 use Rattle.theory.proofs.Feeding.{fed-answers, clock-fed-answers, set-fed-answers}
+use Rattle.theory.proofs.Cases.{refusal-bound, judged-by, says-verdict}
 
 -- An accepted record's answer is no refusal
 
@@ -192,18 +193,6 @@ sets-acceptance = fed-acceptance setFed set-fed-answers
 
 -- Row 10 and demand 1
 
-first-row-bound : (n : ℕ) (bs : List Bool) → firstRow (suc n) bs ≤ n + length bs
-first-row-bound n [] = zero-le
-first-row-bound n (b ∷ bs) = decided b (first-row-bound (suc n) bs)
-  where
-    decided : (b : Bool) → firstRow (suc (suc n)) bs ≤ suc n + length bs → cond b (suc n) (firstRow (suc (suc n)) bs) ≤ n + suc (length bs)
-    decided true h = omega arith
-    decided false h = omega arith
-
-refusal-bound : (l u : ℕ → Bool) (count : ℕ) (r : Record) → refusalBy l u count r ≤ 9
-unfolding refusalBy
-refusal-bound l u count r = first-row-bound 0 (rows l u count r)
-
 meets-cases : {n : ℕ} {a : Answer} {answers : List Answer} → Meets n (a ∷ answers) → (refusalNumber a ≡ n) ⊎ Meets n answers
 meets-cases meets-now = inl refl
 meets-cases (meets-later m) = inr m
@@ -223,16 +212,6 @@ row-below-10 es (r ∷ rs) m = cases (meets-cases m) (row-below-10 (joined es r 
 pub never-row-10 : NeverRow10
 never-row-10 rs m = row-below-10 [] rs (subst (Meets 10) (fed-answers rs) m)
 
-verdict-by : (a b : Bool) (last : List ℕ) (k on number fm am : ℕ) → IsVerdict (verdictBy a b last k on number fm am)
-verdict-by true true last k on number fm am = is-clear
-verdict-by true false last k on number fm am = is-doubt
-verdict-by false true last k on number fm am = is-race
-verdict-by false false last k on number fm am = is-race
-
-judged-verdict : (last : List ℕ) (k on number fm am : ℕ) → IsVerdict (judgedBy last k on number fm am)
-unfolding judgedBy
-judged-verdict last k on number fm am = verdict-by (eqb fm 0) (eqb am 0) last k on number fm am
-
 -- demand 1 for records
 pub demand1 : Demand1
 unfolding stepOf
@@ -244,7 +223,7 @@ demand1 s r = decided (refusalIn (s .control) r) (refusal-bound _ _ _ r) refl (s
         by-kind : (b : Bool) → accesses (r .kind) ≡ b → Handled s r
         by-kind true q =
             access-taken q
-            (rw (e, q) (judged-verdict (s .last) (r .kind) (r .on) (nextNumber (s .control)) _ _))
+            (rw (e, q) (says-verdict ((judged-by (s .last) (r .kind) (r .on) (nextNumber (s .control)) _ _) .2)))
         by-kind false q = other-taken q (rw (e, q))
 
     decided : (n : ℕ) → refusalIn (s .control) r ≤ 9 → refusalIn (s .control) r ≡ n → (b : Bool) → sameMasks (masksOfClocks s r) (masksOfSets s r) ≡ b → Handled s r

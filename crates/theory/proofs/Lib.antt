@@ -32,5 +32,6 @@ pub mod Latest
 pub mod Decide
 pub mod Demands
 pub mod Examples
+pub mod Cases
 pub mod Fed
 pub mod Paths
