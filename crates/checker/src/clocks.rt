@@ -15,7 +15,7 @@ ghost use mathlib.Core.Path.{_≡_};
 ghost use mathlib.Core.Bool.{false};
 ghost use lib.Dec.{eqb};
 ghost use Prim.Native.Nat.{_<_, max};
-ghost use Rattle.theory.specs.Tables.{joinRow, rowOf, joinWith, heardWith, flow, gather, spread, mix};
+ghost use Rattle.theory.specs.Tables.{joinRow, rowOf, joinWith, heardWith, putRow, flow, gather, spread, mix};
 ghost use Rattle.theory.specs.Reckonings.{clockAct, clocksArrived, clocksFull, clockApart, clockMask, clockMasks, masksBy};
 ghost use Rattle.theory.specs.Acceptance.{Fitting};
 
@@ -66,14 +66,27 @@ fn join_with(cells: &mut [u32; 1536], to: usize, row: &[u32; 16])
     }
 }
 
-// Order over an act: the task's next act knows what the heard row knows, and passes it on, from a copy that stays in registers.
+// Row `to` with the cells of a row that stands by itself.
+fn put_row(cells: &mut [u32; 1536], to: usize, row: &[u32; 16])
+    requires { ⌜ to < 96 ⌝ }
+    ensures { λ _. ⌜ now (cells .exit) ≡ putRow 16 to (now (row .entry)) (now (cells .entry)) ⌝ }
+{
+    let mut c = 0;
+    while c < 16 {
+        cells[to * 16 + c] = row[c];
+        c += 1;
+    }
+}
+
+// Order over an act: the task's next act knows what the heard row knows; from a copy that stays in registers, that it has acted knows it,
+// and it is passed on.
 fn flow(cells: &mut [u32; 1536], heard: usize, told: usize, task: usize)
     requires { ⌜ (heard < 96) × (told < 96) × (task < 16) ⌝ }
     ensures { λ _. ⌜ now (cells .exit) ≡ flow 16 heard told task (now (cells .entry)) ⌝ }
 {
     join_row(cells, task, heard);
     let row = row_of(cells, task);
-    join_with(cells, 16 + task, &row);
+    put_row(cells, 16 + task, &row);
     if told != task {
         join_with(cells, told, &row);
     }

@@ -19,7 +19,7 @@ ghost use mathlib.Core.Path.{_≡_};
 ghost use mathlib.Core.Bool.{false};
 ghost use lib.Dec.{eqb};
 ghost use Prim.Native.Nat.{_<_, max};
-ghost use Rattle.theory.specs.Tables.{rowOf, joinWith, joinRow, flow, gather, spread, mix};
+ghost use Rattle.theory.specs.Tables.{rowOf, joinWith, putRow, joinRow, flow, gather, spread, mix};
 ghost use Rattle.theory.specs.Reckonings.{clearColumn, setOwn, setAct, setsArrived, setsFull, setApart, setMask, setMasks};
 ghost use Rattle.theory.specs.Acceptance.{Fitting};
 
@@ -83,13 +83,26 @@ fn join_copied(cells: &mut [u8; 196608], to: usize, from: usize)
     join_with(cells, to, &row);
 }
 
-// Order over an act: the task's next act knows what the heard row knows, and passes it on.
+// Row `to` with the cells of a row that stands by itself.
+fn put_row(cells: &mut [u8; 196608], to: usize, row: &[u8; 2048])
+    requires { ⌜ to < 96 ⌝ }
+    ensures { λ _. ⌜ now (cells .exit) ≡ putRow 2048 to (now (row .entry)) (now (cells .entry)) ⌝ }
+{
+    let mut c = 0;
+    while c < 2048 {
+        cells[to * 2048 + c] = row[c];
+        c += 1;
+    }
+}
+
+// Order over an act: the task's next act knows what the heard row knows; that it has acted knows the same, and it is passed on.
 fn flow(cells: &mut [u8; 196608], heard: usize, told: usize, task: usize)
     requires { ⌜ (heard < 96) × (told < 96) × (task < 16) ⌝ }
     ensures { λ _. ⌜ now (cells .exit) ≡ flow 2048 heard told task (now (cells .entry)) ⌝ }
 {
     join_row(cells, task, heard);
-    join_row(cells, 16 + task, task);
+    let row = row_of(cells, task);
+    put_row(cells, 16 + task, &row);
     join_row(cells, told, task);
 }
 

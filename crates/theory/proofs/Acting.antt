@@ -8,21 +8,22 @@ use Prim.Native.Nat.{ℕ, zero, suc, _+_, _*_, _≤_, _<_}
 use native.Mathlib.Omega.{arith}
 use lib.ListN.{set}
 use Rattle.theory.specs.Turns.{turns}
-use Rattle.theory.specs.Tables.{cell, joinRow, flow}
+use Rattle.theory.specs.Tables.{cell, joinRow, copyRow, flow}
 use Rattle.theory.specs.Reckonings.{clockOwn, clearColumn}
 use Rattle.theory.proofs.Reflects.{Reflects, right, wrong, equal}
-use Rattle.theory.proofs.Tables.{Sized, Above, sized-set, sized-turns, sized-join, cell-set-same, cell-set-other, join-above}
+use Rattle.theory.proofs.Tables.{Sized, Above, sized-set, sized-turns, sized-join, sized-copy, cell-set-same, cell-set-other, join-above, copy-above}
 
 -- Rows
 
 pub sized-flow : {w : ℕ} {b : List ℕ} → Sized w b → (heard told task : ℕ) → Sized w (flow w heard told task b)
 unfolding flow
-sized-flow s heard told task = sized-join (sized-join (sized-join s _ _) _ _) _ _
+sized-flow s heard told task = sized-join (sized-copy (sized-join s _ _) _ _) _ _
 
--- order over an act: its task's next act, the fact that it has acted and the told row know what its next act or the heard row knew
+-- order over an act: its task's next act, the fact that it has acted and the told row know what its next act or the heard row knew, and the
+-- rows know what they knew, but for the fact that it has acted
 pub flow-above : {w : ℕ} {b : List ℕ} {heard told task i r c : ℕ} → Sized w b → heard < 96 → told < 96 → task < 16 → r < 96 → c < w →
     Above w (flow w heard told task b) i r c
-    ↔ (Above w b i r c ⊎ (((r ≡ task) ⊎ ((r ≡ 16 + task) ⊎ (r ≡ told))) × (Above w b i task c ⊎ Above w b i heard c)))
+    ↔ (((¬ (r ≡ 16 + task)) × Above w b i r c) ⊎ (((r ≡ task) ⊎ ((r ≡ 16 + task) ⊎ (r ≡ told))) × (Above w b i task c ⊎ Above w b i heard c)))
 unfolding flow
 flow-above {w} {b} {heard} {told} {task} {i} {r} {c} s h k l m n = (to, from)
   where
@@ -30,19 +31,23 @@ flow-above {w} {b} {heard} {told} {task} {i} {r} {c} s h k l m n = (to, from)
     first = joinRow w task heard b
 
     second : List ℕ
-    second = joinRow w (16 + task) task first
+    second = copyRow w (16 + task) task first
 
     on-first : {q : ℕ} → q < 96 → Above w first i q c ↔ (Above w b i q c ⊎ ((q ≡ task) × Above w b i heard c))
     on-first g = join-above s (omega arith) h g n
 
-    on-second : {q : ℕ} → q < 96 → Above w second i q c ↔ (Above w first i q c ⊎ ((q ≡ 16 + task) × Above w first i task c))
-    on-second g = join-above (sized-join s _ _) (omega arith) (omega arith) g n
+    on-second : {q : ℕ} → q < 96 → Above w second i q c ↔ (((¬ (q ≡ 16 + task)) × Above w first i q c) ⊎ ((q ≡ 16 + task) × Above w first i task c))
+    on-second g = copy-above (sized-join s _ _) (omega arith) g n
 
     on-third : Above w (joinRow w told task second) i r c ↔ (Above w second i r c ⊎ ((r ≡ told) × Above w second i task c))
-    on-third = join-above (sized-join (sized-join s _ _) _ _) k (omega arith) m n
+    on-third = join-above (sized-copy (sized-join s _ _) _ _) k (omega arith) m n
 
     near : task < 96
     near = omega arith
+
+    -- a task's next act is not that it has acted
+    apart : {q : ℕ} → q ≡ task → ¬ (q ≡ 16 + task)
+    apart e f = omega arith
 
     -- what the next act knows after the first join
     known : Above w first i task c ↔ (Above w b i task c ⊎ Above w b i heard c)
@@ -52,20 +57,20 @@ flow-above {w} {b} {heard} {told} {task} {i} {r} {c} s h k l m n = (to, from)
     )
 
     to : Above w (joinRow w told task second) i r c →
-        Above w b i r c ⊎ (((r ≡ task) ⊎ ((r ≡ 16 + task) ⊎ (r ≡ told))) × (Above w b i task c ⊎ Above w b i heard c))
+        ((¬ (r ≡ 16 + task)) × Above w b i r c) ⊎ (((r ≡ task) ⊎ ((r ≡ 16 + task) ⊎ (r ≡ told))) × (Above w b i task c ⊎ Above w b i heard c))
     to a =
         ⊎-elim
         (λ a₂.
-        ⊎-elim (λ a₁. ⊎-elim inl (λ x. inr (inl (x .0), inr (x .1))) (on-first m .0 a₁)) (λ x. inr (inr (inl (x .0)), known .0 (x .1))) (on-second m .0 a₂))
-        (λ x. inr (inr (inr (x .0)), known .0 (⊎-elim (λ y. y) (λ y. y .1) (on-second near .0 (x .1)))))
+        ⊎-elim (λ x. ⊎-elim (λ a₁. inl (x .0, a₁)) (λ y. inr (inl (y .0), inr (y .1))) (on-first m .0 (x .1))) (λ x. inr (inr (inl (x .0)), known .0 (x .1))) (on-second m .0 a₂))
+        (λ x. inr (inr (inr (x .0)), known .0 (⊎-elim (λ y. y .1) (λ y. y .1) (on-second near .0 (x .1)))))
         (on-third .0 a)
 
-    from : Above w b i r c ⊎ (((r ≡ task) ⊎ ((r ≡ 16 + task) ⊎ (r ≡ told))) × (Above w b i task c ⊎ Above w b i heard c)) →
+    from : ((¬ (r ≡ 16 + task)) × Above w b i r c) ⊎ (((r ≡ task) ⊎ ((r ≡ 16 + task) ⊎ (r ≡ told))) × (Above w b i task c ⊎ Above w b i heard c)) →
         Above w (joinRow w told task second) i r c
-    from (inl a) = on-third .1 (inl (on-second m .1 (inl (on-first m .1 (inl a)))))
-    from (inr (inl e, a)) = on-third .1 (inl (on-second m .1 (inl (rw e (known .1 a)))))
+    from (inl (d, a)) = on-third .1 (inl (on-second m .1 (inl (d, on-first m .1 (inl a)))))
+    from (inr (inl e, a)) = on-third .1 (inl (on-second m .1 (inl (apart e, rw e (known .1 a)))))
     from (inr (inr (inl e), a)) = on-third .1 (inl (on-second m .1 (inr (e, known .1 a))))
-    from (inr (inr (inr e), a)) = on-third .1 (inr (e, on-second near .1 (inl (known .1 a))))
+    from (inr (inr (inr e), a)) = on-third .1 (inr (e, on-second near .1 (inl (apart refl, known .1 a))))
 
 -- Clocks: an act's own cell has its number
 

@@ -6,8 +6,8 @@ use mathlib.Core.List.{List, [], _∷_, _++_}
 use Prim.Native.Nat.{ℕ, zero, suc, _≤_, _<_, suc-le-suc, zero-le}
 use lib.ListN.{length}
 use Rattle.theory.specs.Recording.{Event, act, lost}
-use Rattle.theory.proofs.Carry.{Node, Tells}
-use Rattle.theory.proofs.Reach.{Filling, Flow, Reach, reach-start, reach-next}
+use Rattle.theory.proofs.Carry.{Node, due, acted, Tells}
+use Rattle.theory.proofs.Reach.{Filling, Flow, Reach, reach-start, reach-next, reach-acted}
 use Rattle.theory.proofs.Places.{Occurs, first, next}
 
 -- Definition
@@ -21,6 +21,10 @@ pub record Came (w : Filling) (Chosen : Event → List Event → Type 0) (es : L
   pub occurs : Occurs es j e after
   pub chosen : Chosen e after
   pub reach : Reach w e after n
+
+-- what has come to a task's having acted has come to its next act
+pub came-acted : {w : Filling} {Chosen : Event → List Event → Type 0} {es : List Event} {i t : ℕ} → Came w Chosen es i (acted t) → Came w Chosen es i (due t)
+came-acted d = record { j = d .j; e = d .e; after = d .after; recent = d .recent; occurs = d .occurs; chosen = d .chosen; reach = reach-acted (d .reach) }
 
 -- One more event
 

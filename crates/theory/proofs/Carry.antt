@@ -1,7 +1,8 @@
 -- What carries order onward after an event: nodes. An event hears some nodes and tells some, and a step is a node that one event
 -- tells and the other hears. So order goes along a list from node to node, and each new op is one more row of `Hears` or `Tells`.
 -- Assumes nothing.
-use mathlib.Core.Logic.{_↔_, _⊎_, inl, inr}
+use mathlib.Core.Path.{_≡_, refl, subst}
+use mathlib.Core.Logic.{_↔_, _⊎_, inl, inr, ⊎-elim}
 use mathlib.Core.List.{List, [], _∷_, _++_}
 use Prim.Native.Nat.{ℕ, zero, suc, _<_}
 use native.Mathlib.Nat.{le-of-suc-le-suc, not-suc-le-zero}
@@ -66,6 +67,16 @@ pub carry-split : {n m : Node} (xs : List Event) {ys : List Event} → Carry n (
 carry-split [] d = (_, stay, d)
 carry-split (x ∷ xs) (pass d) = let (p, c, r) = carry-split xs d in (p, pass c, r)
 carry-split (x ∷ xs) (move h t d) = let (p, c, r) = carry-split xs d in (p, move h t c, r)
+
+-- what tells that a task has acted tells its next act
+pub acted-next : {x : Event} {t : ℕ} → Tells x (acted t) → Tells x (due t)
+acted-next own-acted = own-next
+
+-- so order that comes to the one along a list comes to the other
+pub carry-acted : {n : Node} {t : ℕ} {xs : List Event} → Carry n xs (acted t) → (n ≡ acted t) ⊎ Carry n xs (due t)
+carry-acted stay = inl refl
+carry-acted (pass c) = ⊎-elim inl (λ d. inr (pass d)) (carry-acted c)
+carry-acted {t = t} (move {p = p} {x = x} {xs = xs} h y c) = inr (⊎-elim (λ e. move h (acted-next (subst (Tells x) e y)) (carry-skip xs)) (λ d. move h y d) (carry-acted c))
 
 -- one event that hears n and tells m carries the one to the other
 pub carry-one : {n m : Node} {x : Event} → Hears n x → Tells x m → Carry n (x ∷ []) m

@@ -1,6 +1,7 @@
 -- A column of a table is exact if its cells say to which nodes order has come. Acts and marks keep it so, in either filling, for
 -- clocks and sets alike and at any width. Assumes nothing.
 use mathlib.Core.Path.{_≡_, refl, sym, subst}
+use mathlib.Core.Bool.{Bool}
 use mathlib.Core.Logic.{_↔_, _⊎_, inl, inr}
 use mathlib.Core.List.{List, [], _∷_, _++_}
 use Prim.Native.Nat.{ℕ, _+_, _≤_, _<_}
@@ -17,7 +18,8 @@ use Rattle.theory.proofs.Acting.{flow-above}
 use Rattle.theory.proofs.Mixing.{mix-above}
 use Rattle.theory.proofs.Nodes.{row, InRange, due-in, acted-in, row-below, row-one, row-node, heardNode, toldNode, heard-row, told-row, heard-in, told-in, heard-hears, told-tells, hears-cases, tells-cases}
 use Rattle.theory.proofs.Marks.{heard-test, told-test, test-heard, test-told, heard-in-range}
-use Rattle.theory.proofs.Came.{Came, Newly, Onward, came-next}
+use Rattle.theory.proofs.Came.{Came, came-acted, Newly, Onward, came-next}
+use Rattle.theory.proofs.Reflects.{Reflects, right, wrong, equal}
 
 -- Definition
 
@@ -64,13 +66,13 @@ module _ {w : Filling} {Chosen : Event → List Event → Type 0} {Stays : Type 
   exact-act = record { cells = λ m r. (λ a. came-next es (act o t n) keeps .1 (to m r (flowed m r .0 a)), λ d. flowed m r .1 (from m r (came-next es (act o t n) keeps .0 d))) }
     where
       flowed : (m : Node) → InRange m → Above width (flow width (heardRow (kind o) t n) (toldRow (kind o) t n) t b) i (row m) c
-          ↔ (Above width b i (row m) c ⊎ (((row m ≡ t) ⊎ ((row m ≡ 16 + t) ⊎ (row m ≡ toldRow (kind o) t n))) × (Above width b i t c ⊎ Above width b i (heardRow (kind o) t n) c)))
+          ↔ (((¬ (row m ≡ 16 + t)) × Above width b i (row m) c) ⊎ (((row m ≡ t) ⊎ ((row m ≡ 16 + t) ⊎ (row m ≡ toldRow (kind o) t n))) × (Above width b i t c ⊎ Above width b i (heardRow (kind o) t n) c)))
       flowed m r = flow-above sized (rw (heard-row o t n) (row-below (heard-in o ht hn))) (rw (told-row o t n) (row-below (told-in o ht hn))) ht (row-below r) hc
 
       to : (m : Node) → InRange m →
-          Above width b i (row m) c ⊎ (((row m ≡ t) ⊎ ((row m ≡ 16 + t) ⊎ (row m ≡ toldRow (kind o) t n))) × (Above width b i t c ⊎ Above width b i (heardRow (kind o) t n) c)) →
+          ((¬ (row m ≡ 16 + t)) × Above width b i (row m) c) ⊎ (((row m ≡ t) ⊎ ((row m ≡ 16 + t) ⊎ (row m ≡ toldRow (kind o) t n))) × (Above width b i t c ⊎ Above width b i (heardRow (kind o) t n) c)) →
           (Stays × Onward w Chosen es (act o t n) i m) ⊎ (Newly Chosen es (act o t n) i × Tells (act o t n) m)
-      to m r (inl a) = stayed (owned .cells m r .0 a)
+      to m r (inl (_, a)) = stayed (owned .cells m r .0 a)
         where
           stayed : (Stays × Came w Chosen es i m) ⊎ (Newly Chosen es (act o t n) i × (m ≡ due t)) →
               (Stays × Onward w Chosen es (act o t n) i m) ⊎ (Newly Chosen es (act o t n) i × Tells (act o t n) m)
@@ -80,8 +82,14 @@ module _ {w : Filling} {Chosen : Event → List Event → Type 0} {Stays : Type 
       to m r (inr (q, inr a)) = from-heard (heard-in o ht hn) (heard-hears o t n) (told-by r q) (heard-row-in a)
 
       from : (m : Node) → InRange m → (Stays × Onward w Chosen es (act o t n) i m) ⊎ (Newly Chosen es (act o t n) i × Tells (act o t n) m) →
-          Above width b i (row m) c ⊎ (((row m ≡ t) ⊎ ((row m ≡ 16 + t) ⊎ (row m ≡ toldRow (kind o) t n))) × (Above width b i t c ⊎ Above width b i (heardRow (kind o) t n) c))
-      from m r (inl (s, inl d)) = inl (owned .cells m r .1 (inl (s, d)))
+          ((¬ (row m ≡ 16 + t)) × Above width b i (row m) c) ⊎ (((row m ≡ t) ⊎ ((row m ≡ 16 + t) ⊎ (row m ≡ toldRow (kind o) t n))) × (Above width b i t c ⊎ Above width b i (heardRow (kind o) t n) c))
+      from m r (inl (s, inl d)) = kept (equal (row m) (16 + t))
+        where
+          -- what had come to the task's having acted had come to this act
+          kept : {p : Bool} → Reflects (row m ≡ 16 + t) p →
+              ((¬ (row m ≡ 16 + t)) × Above width b i (row m) c) ⊎ (((row m ≡ t) ⊎ ((row m ≡ 16 + t) ⊎ (row m ≡ toldRow (kind o) t n))) × (Above width b i t c ⊎ Above width b i (heardRow (kind o) t n) c))
+          kept (right e) = inr (inr (inl e), inl (owned .cells (due t) (due-in ht) .1 (inl (s, came-acted (subst (Came w Chosen es i) (row-one r (acted-in ht) e) d)))))
+          kept (wrong f) = inl (f, owned .cells m r .1 (inl (s, d)))
       from m r (inl (s, inr (p, d, (h, x)))) = inr (by-told x, heard (hears-cases h))
         where
           heard : (p ≡ due t) ⊎ (p ≡ heardNode o t n) → Above width b i t c ⊎ Above width b i (heardRow (kind o) t n) c

@@ -9,7 +9,7 @@ use Rattle.theory.specs.Limits.{semaphores, flags}
 use Rattle.theory.specs.Recording.{Op, take, give, look, set, start, join, Event, act, lost}
 use Rattle.theory.specs.Completion.{Named, Loses, takes, gives, looks, sets, Filler, filler, fillWith, nothing, rounds}
 use Rattle.theory.proofs.Leads.{Leads}
-use Rattle.theory.proofs.Carry.{Node, due, acted, semaphore, flag, Hears, own, by-take, by-look, by-join, Tells, own-next, own-acted, by-give, by-set, by-start, Carry, stay, pass, move, carry-append, carry-split, leads-carried, carried-leads}
+use Rattle.theory.proofs.Carry.{Node, due, acted, semaphore, flag, Hears, own, by-take, by-look, by-join, Tells, own-next, own-acted, by-give, by-set, by-start, Carry, stay, pass, move, carry-skip, carry-append, carry-split, acted-next, carry-acted, leads-carried, carried-leads}
 use Rattle.theory.proofs.Fullest.{Heard, Told, Mix, same, mixed, carry-mix, mix-rounds, filler-rounds}
 
 -- Definition
@@ -95,6 +95,14 @@ module _ {w : Filling} {e : Event} where
       from : Reach w e xs m ⊎ ((p : Node) × Reach w e xs p × Flow w x p m) → Reach w e (xs ++ (x ∷ [])) m
       from (inl r) = step r (inl refl)
       from (inr (p, r, f)) = step r (inr f)
+
+  -- where it has come to a task's having acted, it has come to the task's next act
+  pub reach-acted : {t : ℕ} {xs : List Event} → Reach w e xs (acted t) → Reach w e xs (due t)
+  reach-acted {t} {xs} r = cases (carry-acted (r .carried))
+    where
+      cases : (r .n ≡ acted t) ⊎ Carry (r .n) (fillWith (filling w) xs) (due t) → Reach w e xs (due t)
+      cases (inl q) = record { n = due t; told = acted-next (subst (Tells e) q (r .told)); carried = carry-skip _ }
+      cases (inr c) = record { n = r .n; told = r .told; carried = c }
 
   -- a path is a node that order has come to and that the later event hears
   pub leads-reach : {f : Event} {xs : List Event} → Leads e (fillWith (filling w) xs) f ↔ ((m : Node) × Reach w e xs m × Hears m f)

@@ -10,7 +10,7 @@ use native.Mathlib.Omega.{arith}
 use lib.ListN.{length, getD, set, length-set, replicate, length-replicate, getD-replicate}
 use lib.Seq.{set-getD, getD-set-same, getD-set-other, ext-getD}
 use Rattle.theory.specs.Turns.{turns}
-use Rattle.theory.specs.Tables.{cell, joinCell, joinRow, rowOf, joinWithCell, joinWith, heardWith}
+use Rattle.theory.specs.Tables.{cell, joinCell, joinRow, rowOf, joinWithCell, joinWith, heardWith, putRow, copyRow}
 use Rattle.theory.proofs.Reflects.{Reflects, right, wrong, equal, at-most}
 
 -- a row knows what it knows
@@ -310,6 +310,50 @@ join-nothing w to b = steps w (omega arith)
     steps : (n : ℕ) → n ≤ w → turns n (joinWithCell w to (replicate w 0)) b ≡ b
     steps zero h = refl
     steps (suc n) h = rw (steps n (omega arith), nothing (cell w b to n) n h) (set-getD b (to * w + n) 0)
+
+-- Copying a row
+
+pub sized-copy : {w : ℕ} {b : List ℕ} → Sized w b → (to from : ℕ) → Sized w (copyRow w to from b)
+unfolding copyRow putRow
+sized-copy {w} s to from = sized-turns w (λ k x t. sized-set t _ _) s
+
+put-same : {w : ℕ} {b : List ℕ} → Sized w b → (to c : ℕ) (row : List ℕ) → to < 96 → c < w → cell w (putRow w to row b) to c ≡ getD row c 0
+unfolding putRow
+put-same {w} {b} s to c row h l = stores-at (to * w) (λ c x. getD row c 0) b w c l (in-table s h l)
+
+put-other : (w : ℕ) (b row : List ℕ) (to r c : ℕ) → c < w → ¬ (r ≡ to) → cell w (putRow w to row b) r c ≡ cell w b r c
+unfolding putRow
+put-other w b row to r c l d = stores-other (to * w) (λ c x. getD row c 0) b w (r * w + c) (λ k h e. d ((one-place w r to c k l h e) .0))
+
+pub copy-above : {w : ℕ} {b : List ℕ} {to from i r c : ℕ} → Sized w b → to < 96 → r < 96 → c < w →
+    Above w (copyRow w to from b) i r c ↔ (((¬ (r ≡ to)) × Above w b i r c) ⊎ ((r ≡ to) × Above w b i from c))
+unfolding copyRow
+copy-above {w} {b} {to} {from} {i} {r} {c} s h k l = decided (equal r to)
+  where
+    decided : {p : Bool} → Reflects (r ≡ to) p → Above w (putRow w to (rowOf w from b) b) i r c ↔ (((¬ (r ≡ to)) × Above w b i r c) ⊎ ((r ≡ to) × Above w b i from c))
+    decided (right e) =
+        let q : cell w (putRow w to (rowOf w from b) b) r c ≡ cell w b from c = rw e (put-same s to c (rowOf w from b) h l ∙ row-cell w from b c l) in
+        (λ a. inr (e, record { above = rw q at (a .above) }), ⊎-elim (λ a. absurd (a .0 e)) (λ a. record { above = rw q (a .1 .above) }))
+    decided (wrong f) =
+        let q = put-other w b (rowOf w from b) to r c l f in
+        (λ a. inl (f, record { above = rw q at (a .above) }), ⊎-elim (λ a. record { above = rw q (a .1 .above) }) (λ a. absurd (f (a .0))))
+
+-- a row stays as it is where another is overwritten
+put-kept : (w to from : ℕ) (b row : List ℕ) → ¬ (from ≡ to) → rowOf w from (putRow w to row b) ≡ rowOf w from b
+unfolding rowOf turns
+put-kept w to from b row d = steps w (omega arith)
+  where
+    steps : (n : ℕ) → n ≤ w →
+        turns n (λ c x. set x c (cell w (putRow w to row b) from c)) (replicate w 0)
+        ≡ turns n (λ c x. set x c (cell w b from c)) (replicate w 0)
+    steps zero h = refl
+    steps (suc n) h = rw (steps n (omega arith), put-other w b row to from n h d)
+
+-- so the copy serves afterwards, too
+pub copy-kept : (w to from : ℕ) (b : List ℕ) {x row : List ℕ} → ¬ (from ≡ to) → rowOf w from b ≡ row → x ≡ putRow w to row b →
+    (x ≡ copyRow w to from b) × (rowOf w from x ≡ row)
+unfolding copyRow
+copy-kept w to from b {x} {row} d e h = (h ∙ ap (λ (l : List ℕ). putRow w to l b) (sym e), ap (rowOf w from) h ∙ (put-kept w to from b row d ∙ e))
 
 above-max : (i x y : ℕ) → i < max x y → (i < x) ⊎ (i < y)
 above-max i x y g = decided (at-most (suc i) x)

@@ -64,9 +64,18 @@ joinWith w to row b = turns w (joinWithCell w to row) b
 unfoldable pub heardWith : ℕ → ℕ → List ℕ → List ℕ → List ℕ
 heardWith w from row b = turns w (λ c x. set x c (max (getD row c 0) (cell w b from c))) (replicate w 0)
 
--- order over an act of a task: its next act knows what the heard row knows, and passes it on
+-- row `to` with the cells of such a row
+unfoldable pub putRow : ℕ → ℕ → List ℕ → List ℕ → List ℕ
+putRow w to row b = turns w (λ c b. set b (to * w + c) (getD row c 0)) b
+
+-- row `to` knows what row `from` knows, and nothing else
+unfoldable pub copyRow : ℕ → ℕ → ℕ → List ℕ → List ℕ
+copyRow w to from b = putRow w to (rowOf w from b) b
+
+-- order over an act of a task: its next act knows what the heard row knows; that it has acted knows the same, since whatever a former act
+-- knew came to this one; and it is passed on
 unfoldable pub flow : ℕ → ℕ → ℕ → ℕ → List ℕ → List ℕ
-flow w heard told task b = joinRow w told (dueRow task) (joinRow w (actedRow task) (dueRow task) (joinRow w (dueRow task) heard b))
+flow w heard told task b = joinRow w told (dueRow task) (copyRow w (actedRow task) (dueRow task) (joinRow w (dueRow task) heard b))
 
 -- what a mark's lost records can hear, by rows: the named tasks' next acts and the objects
 abbrev pub isHeard : ℕ → ℕ → Bool
