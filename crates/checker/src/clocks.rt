@@ -126,18 +126,19 @@ fn gather(cells: &mut [u32; 1536], mask: u32)
     join_with(cells, 32, &known);
 }
 
-// What the hub knows goes to all that they can tell, from a copy that stays in the processor's registers.
+// What the hub knows, all that they can tell knows, from a copy that stays in the processor's registers. Every object is told, so that
+// nothing is asked of the rows from the hub on.
 fn spread(cells: &mut [u32; 1536], mask: u32)
     ensures { λ _. ⌜ now (cells .exit) ≡ spread 16 mask (now (cells .entry)) ⌝ }
 {
     let hub = row_of(cells, 32);
     let mut r = 0;
     while r < 32 {
-        join_with(cells, told_by(mask, r), &hub);
+        put_row(cells, told_by(mask, r), &hub);
         r += 1;
     }
     while r < 96 {
-        join_with(cells, r, &hub);
+        put_row(cells, r, &hub);
         r += 1;
     }
 }

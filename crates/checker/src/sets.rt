@@ -117,14 +117,14 @@ fn gather(cells: &mut [u8; 196608], mask: u32)
     }
 }
 
-// What the hub knows goes to all that they can tell, from one copy.
+// What the hub knows, all that they can tell knows, from one copy.
 fn spread(cells: &mut [u8; 196608], mask: u32)
     ensures { λ _. ⌜ now (cells .exit) ≡ spread 2048 mask (now (cells .entry)) ⌝ }
 {
     let hub = row_of(cells, 32);
     let mut r = 0;
     while r < 96 {
-        join_with(cells, told_by(mask, r), &hub);
+        put_row(cells, told_by(mask, r), &hub);
         r += 1;
     }
 }

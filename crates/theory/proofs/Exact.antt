@@ -10,16 +10,16 @@ use lib.Dec.{T}
 use Rattle.theory.specs.Recording.{Op, Event, act, lost, series, kind}
 use Rattle.theory.specs.Completion.{Named}
 use Rattle.theory.specs.Tables.{heardRow, toldRow, flow, isHeard, isTold, mix}
-use Rattle.theory.proofs.Carry.{Node, due, acted, Hears, own, Tells, own-next, own-acted}
+use Rattle.theory.proofs.Carry.{Node, due, acted, semaphore, flag, Hears, own, Tells, own-next, own-acted}
 use Rattle.theory.proofs.Fullest.{Heard, Told}
-use Rattle.theory.proofs.Reach.{Filling, arrived, full}
+use Rattle.theory.proofs.Reach.{Filling, arrived, full, heard-due, heard-semaphore, heard-flag, told-due, told-acted, told-semaphore, told-flag}
 use Rattle.theory.proofs.Tables.{Sized, Above}
 use Rattle.theory.proofs.Acting.{flow-above}
 use Rattle.theory.proofs.Mixing.{mix-above}
 use Rattle.theory.proofs.Nodes.{row, InRange, due-in, acted-in, row-below, row-one, row-node, heardNode, toldNode, heard-row, told-row, heard-in, told-in, heard-hears, told-tells, hears-cases, tells-cases}
 use Rattle.theory.proofs.Marks.{heard-test, told-test, test-heard, test-told, heard-in-range}
 use Rattle.theory.proofs.Came.{Came, came-acted, Newly, Onward, came-next}
-use Rattle.theory.proofs.Reflects.{Reflects, right, wrong, equal}
+use Rattle.theory.proofs.Reflects.{Reflects, right, wrong, equal, by-test}
 
 -- Definition
 
@@ -99,6 +99,14 @@ module _ {w : Filling} {Chosen : Event → List Event → Type 0} {Stays : Type 
 
 -- Marks
 
+-- what has come to a node that a mark tells has come to one that it hears
+told-heard : {Chosen : Event → List Event → Type 0} {es : List Event} {i mask : ℕ} (m : Node) → Told mask m → Came full Chosen es i m →
+    (p : Node) × Heard mask p × Came full Chosen es i p
+told-heard (due t) y d = (due t, heard-due .1 (told-due .0 y), d)
+told-heard (acted t) y d = (due t, heard-due .1 (told-acted .0 y), came-acted d)
+told-heard (semaphore s) y d = (semaphore s, heard-semaphore .1 (told-semaphore .0 y), d)
+told-heard (flag f) y d = (flag f, heard-flag .1 (told-flag .0 y), d)
+
 no-tells : {mask : ℕ} {m : Node} → ¬ Tells (lost mask) m
 no-tells x = elim x [ ]
 
@@ -120,21 +128,26 @@ module _ {Chosen : Event → List Event → Type 0} {Stays : Type 0} {es : List 
       record { cells = λ m r. (λ a. came-next es (lost mask) keeps .1 (inl (stays, to m r (mixed m r .0 a))), λ d. mixed m r .1 (from m r (came-next es (lost mask) keeps .0 d))) }
     where
       mixed : (m : Node) → InRange m → Above width (mix width mask b) i (row m) c
-          ↔ (Above width b i (row m) c ⊎ (T (isTold mask (row m)) × ((q : ℕ) × (q < 96) × T (isHeard mask q) × Above width b i q c)))
+          ↔ (((¬ T (isTold mask (row m))) × Above width b i (row m) c) ⊎ (T (isTold mask (row m)) × ((q : ℕ) × (q < 96) × T (isHeard mask q) × Above width b i q c)))
       mixed m r = mix-above sized mask (row-below r) hc
 
-      to : (m : Node) → InRange m → Above width b i (row m) c ⊎ (T (isTold mask (row m)) × ((q : ℕ) × (q < 96) × T (isHeard mask q) × Above width b i q c)) →
+      to : (m : Node) → InRange m → ((¬ T (isTold mask (row m))) × Above width b i (row m) c) ⊎ (T (isTold mask (row m)) × ((q : ℕ) × (q < 96) × T (isHeard mask q) × Above width b i q c)) →
           Onward full Chosen es (lost mask) i m
-      to m r (inl a) = inl (x .cells m r .0 a)
+      to m r (inl (_, a)) = inl (x .cells m r .0 a)
       to m r (inr (y, (q, l, h, a))) =
           let (p, k, e) = row-node q l in
           inr (p, x .cells p k .0 (rw e a), (test-heard some k (rw e h), test-told some r y))
 
+      heard-from : (p : Node) → Heard mask p → Came full Chosen es i p → (q : ℕ) × (q < 96) × T (isHeard mask q) × Above width b i q c
+      heard-from p h d = let k = heard-in-range h in (row p, row-below k, heard-test k h, x .cells p k .1 d)
+
       from : (m : Node) → InRange m → (Stays × Onward full Chosen es (lost mask) i m) ⊎ (Newly Chosen es (lost mask) i × Tells (lost mask) m) →
-          Above width b i (row m) c ⊎ (T (isTold mask (row m)) × ((q : ℕ) × (q < 96) × T (isHeard mask q) × Above width b i q c))
-      from m r (inl (s, inl d)) = inl (x .cells m r .1 d)
-      from m r (inl (s, inr (p, d, (h, y)))) = inr (told-test r y, heard-from p h d)
+          ((¬ T (isTold mask (row m))) × Above width b i (row m) c) ⊎ (T (isTold mask (row m)) × ((q : ℕ) × (q < 96) × T (isHeard mask q) × Above width b i q c))
+      from m r (inl (s, inl d)) = kept (by-test (isTold mask (row m)))
         where
-          heard-from : (p : Node) → Heard mask p → Came full Chosen es i p → (q : ℕ) × (q < 96) × T (isHeard mask q) × Above width b i q c
-          heard-from p h d = let k = heard-in-range h in (row p, row-below k, heard-test k h, x .cells p k .1 d)
+          kept : {p : Bool} → Reflects (T (isTold mask (row m))) p →
+              ((¬ T (isTold mask (row m))) × Above width b i (row m) c) ⊎ (T (isTold mask (row m)) × ((q : ℕ) × (q < 96) × T (isHeard mask q) × Above width b i q c))
+          kept (right y) = let (p, h, e) = told-heard m (test-told some r y) d in inr (y, heard-from p h e)
+          kept (wrong f) = inl (f, x .cells m r .1 d)
+      from m r (inl (s, inr (p, d, (h, y)))) = inr (told-test r y, heard-from p h d)
       from m r (inr (d, y)) = absurd (no-tells y)

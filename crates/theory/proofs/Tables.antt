@@ -144,7 +144,7 @@ filled (suc m) f r c h l = decided (equal c m) (λ k. filled m f r c k (omega ar
     decided (right e) ih = rw e (getD-set-same before m (f m) 0 (omega (arith, same-length m)))
     decided (wrong d) ih = getD-set-other before m c (f m) 0 (λ e. d e) ∙ ih (omega arith)
 
-row-cell : (w from : ℕ) (b : List ℕ) (c : ℕ) → c < w → getD (rowOf w from b) c 0 ≡ cell w b from c
+pub row-cell : (w from : ℕ) (b : List ℕ) (c : ℕ) → c < w → getD (rowOf w from b) c 0 ≡ cell w b from c
 unfolding rowOf
 row-cell w from b c h = filled w (λ k. cell w b from k) (replicate w 0) c h (omega (arith, length-replicate {A = ℕ} w 0))
 
@@ -313,15 +313,19 @@ join-nothing w to b = steps w (omega arith)
 
 -- Copying a row
 
-pub sized-copy : {w : ℕ} {b : List ℕ} → Sized w b → (to from : ℕ) → Sized w (copyRow w to from b)
-unfolding copyRow putRow
-sized-copy {w} s to from = sized-turns w (λ k x t. sized-set t _ _) s
+pub sized-put : {w : ℕ} {b : List ℕ} → Sized w b → (to : ℕ) (row : List ℕ) → Sized w (putRow w to row b)
+unfolding putRow
+sized-put {w} s to row = sized-turns w (λ k x t. sized-set t _ _) s
 
-put-same : {w : ℕ} {b : List ℕ} → Sized w b → (to c : ℕ) (row : List ℕ) → to < 96 → c < w → cell w (putRow w to row b) to c ≡ getD row c 0
+pub sized-copy : {w : ℕ} {b : List ℕ} → Sized w b → (to from : ℕ) → Sized w (copyRow w to from b)
+unfolding copyRow
+sized-copy s to from = sized-put s to _
+
+pub put-same : {w : ℕ} {b : List ℕ} → Sized w b → (to c : ℕ) (row : List ℕ) → to < 96 → c < w → cell w (putRow w to row b) to c ≡ getD row c 0
 unfolding putRow
 put-same {w} {b} s to c row h l = stores-at (to * w) (λ c x. getD row c 0) b w c l (in-table s h l)
 
-put-other : (w : ℕ) (b row : List ℕ) (to r c : ℕ) → c < w → ¬ (r ≡ to) → cell w (putRow w to row b) r c ≡ cell w b r c
+pub put-other : (w : ℕ) (b row : List ℕ) (to r c : ℕ) → c < w → ¬ (r ≡ to) → cell w (putRow w to row b) r c ≡ cell w b r c
 unfolding putRow
 put-other w b row to r c l d = stores-other (to * w) (λ c x. getD row c 0) b w (r * w + c) (λ k h e. d ((one-place w r to c k l h e) .0))
 

@@ -96,8 +96,9 @@ rowOrHub false r = hub
 unfoldable pub gather : ℕ → ℕ → List ℕ → List ℕ
 gather w mask b = turns rowCount (λ r b. joinRow w hub (rowOrHub (isHeard mask r) r) b) b
 
+-- each row that they can tell knows what the hub knows then, which has heard what the row knew, and nothing else
 unfoldable pub spread : ℕ → ℕ → List ℕ → List ℕ
-spread w mask b = turns rowCount (λ r b. joinRow w (rowOrHub (isTold mask r) r) hub b) b
+spread w mask b = turns rowCount (λ r x. putRow w (rowOrHub (isTold mask r) r) (rowOf w hub b) x) b
 
 -- the fullest filling of a mark, in closed form: whatever a lost record can hear goes on to all that one can tell
 unfoldable pub mix : ℕ → ℕ → List ℕ → List ℕ

@@ -1,55 +1,53 @@
--- A copy of the hub is joined to what a mark can tell, row by row; every object is told.
+-- A copy of the hub is put into what a mark can tell, row by row; every object is told.
 use mathlib.Core.Path.{_≡_, sym}
 use mathlib.Core.List.{List}
 use Prim.Native.Nat.{ℕ, _≤_, _-_}
 use native.Mathlib.Omega.{arith}
-use Rattle.theory.specs.Tables.{joinRow, rowOf, isTold, rowOrHub, spread}
+use Rattle.theory.specs.Tables.{putRow, isTold, rowOrHub, spread}
 use Rattle.theory.proofs.Turns.{Turned, no-turn, one-turn, all-turns}
-use Rattle.theory.proofs.Tables.{join-kept}
 use Rattle.theory.proofs.Marks.{told-at-object}
 use borrow.Author.Needs.{needs}
 use Rattle.checker.proofs.clocks.spread.Statement.{statement}
 use Rattle.checker.proofs.clocks.spread.Tie as tie
 
+-- one turn: a copy of the hub for row q, if it is told
+abbrev told : ℕ → List ℕ → ℕ → List ℕ → List ℕ
+told mask hub q x = putRow 16 (rowOrHub (isTold mask q) q) hub x
+
 abbrev Inv-loop : tie.InvT-loop
-Inv-loop cells₀ mask hub r₀ cells r = (r ≤ 32) × (rowOf 16 32 cells ≡ hub) × Turned (λ q b. joinRow 16 (rowOrHub (isTold mask q) q) 32 b) cells₀ r cells
+Inv-loop cells₀ mask hub r₀ cells r = (r ≤ 32) × Turned (told mask hub) cells₀ r cells
 
 abbrev μ-loop : tie.MeasureT-loop
 μ-loop cells₀ mask hub r₀ cells r = 32 - r
 
 abbrev Inv-loop2 : tie.InvT-loop2
 Inv-loop2 cells₀ mask hub r₀ cells r =
-    (32 ≤ r)
-    × (r ≤ 96)
-    × (rowOf 16 32 cells ≡ hub)
-    × ((b : List ℕ) →
-    Turned (λ q x. joinRow 16 (rowOrHub (isTold mask q) q) 32 x) b r₀ cells₀ → Turned (λ q x. joinRow 16 (rowOrHub (isTold mask q) q) 32 x) b r cells)
+    (32 ≤ r) × (r ≤ 96) × ((b : List ℕ) → Turned (told mask hub) b r₀ cells₀ → Turned (told mask hub) b r cells)
 
 abbrev μ-loop2 : tie.MeasureT-loop2
 μ-loop2 cells₀ mask hub r₀ cells r = 96 - r
 
 loop-holds : tie.Need-loop-holds Inv-loop μ-loop Inv-loop2 μ-loop2
-loop-holds c = (search needs, sym (c .row-of .ensures), no-turn)
+loop-holds c = (search needs, no-turn)
 
 loop-again : tie.Need-loop-again Inv-loop μ-loop Inv-loop2 μ-loop2
 loop-again c =
-    let i = c .before .before .before .before .before .loop .inv in
-    let j = join-kept 16 _ 32 _ (i .1) (c .join-with .ensures) in
-    (search needs, j .1, one-turn (i .2) (rw (← c .before .before .told-by .ensures .0) (j .0)))
+    (search needs, one-turn (c .before .before .before .before .before .loop .inv .1) (rw (← c .before .before .told-by .ensures .0) (c .put-row .ensures)))
 
 loop2-holds : tie.Need-loop2-holds Inv-loop μ-loop Inv-loop2 μ-loop2
-loop2-holds c = (search needs, search needs, c .before .loop .inv .1, λ b t. t)
+loop2-holds c = (search needs, search needs, λ b t. t)
 
 loop2-again : tie.Need-loop2-again Inv-loop μ-loop Inv-loop2 μ-loop2
 loop2-again c =
     let i = c .before .before .before .before .loop2 .inv in
-    let j = join-kept 16 _ 32 _ (i .2) (c .join-with2 .ensures) in
     let mask = c .before .before .before .before .before .before .before .before .before .args .mask in
-    (search needs, search needs, j .1, λ b t. one-turn (i .3 b t) (rw (told-at-object mask _ (i .0)) (j .0)))
+    (search needs, search needs, λ b t. one-turn (i .2 b t) (rw (told-at-object mask _ (i .0)) (c .put-row2 .ensures)))
 
 returns : tie.Need-returns Inv-loop μ-loop Inv-loop2 μ-loop2
 unfolding spread
-returns c = all-turns 96 (c .before .loop2 .inv .3 _ (c .before .before .before .loop .inv .2)) (omega arith) (omega arith)
+returns c =
+    rw (← c .before .before .before .before .row-of .ensures)
+    (all-turns 96 (c .before .loop2 .inv .2 _ (c .before .before .before .loop .inv .1)) (omega arith) (omega arith))
 
 pub spread-spec : {M : Type 1} → statement M
 spread-spec =

@@ -1,33 +1,31 @@
--- A copy of the hub is joined to what a mark can tell, row by row.
+-- A copy of the hub is put into what a mark can tell, row by row.
 use mathlib.Core.Path.{_≡_, sym}
 use Prim.Native.Nat.{_≤_, _-_}
 use native.Mathlib.Omega.{arith}
-use Rattle.theory.specs.Tables.{joinRow, rowOf, isTold, rowOrHub, spread}
+use Rattle.theory.specs.Tables.{putRow, isTold, rowOrHub, spread}
 use Rattle.theory.proofs.Turns.{Turned, no-turn, one-turn, all-turns}
-use Rattle.theory.proofs.Tables.{join-kept}
 use borrow.Author.Needs.{needs}
 use Rattle.checker.proofs.sets.spread.Statement.{statement}
 use Rattle.checker.proofs.sets.spread.Tie as tie
 
 abbrev Inv-loop : tie.InvT-loop
-Inv-loop cells₀ mask hub r₀ cells r =
-    (r ≤ 96) × (rowOf 2048 32 cells ≡ hub) × Turned (λ q b. joinRow 2048 (rowOrHub (isTold mask q) q) 32 b) cells₀ r cells
+Inv-loop cells₀ mask hub r₀ cells r = (r ≤ 96) × Turned (λ q x. putRow 2048 (rowOrHub (isTold mask q) q) hub x) cells₀ r cells
 
 abbrev μ-loop : tie.MeasureT-loop
 μ-loop cells₀ mask hub r₀ cells r = 96 - r
 
 loop-holds : tie.Need-loop-holds Inv-loop μ-loop
-loop-holds c = (search needs, sym (c .row-of .ensures), no-turn)
+loop-holds c = (search needs, no-turn)
 
 loop-again : tie.Need-loop-again Inv-loop μ-loop
 loop-again c =
-    let i = c .before .before .before .before .before .loop .inv in
-    let j = join-kept 2048 _ 32 _ (i .1) (c .join-with .ensures) in
-    (search needs, j .1, one-turn (i .2) (rw (← c .before .before .told-by .ensures .0) (j .0)))
+    (search needs, one-turn (c .before .before .before .before .before .loop .inv .1) (rw (← c .before .before .told-by .ensures .0) (c .put-row .ensures)))
 
 returns : tie.Need-returns Inv-loop μ-loop
 unfolding spread
-returns c = all-turns 96 (c .before .loop .inv .2) (omega arith) (omega arith)
+returns c =
+    rw (← c .before .before .row-of .ensures)
+    (all-turns 96 (c .before .loop .inv .1) (omega arith) (omega arith))
 
 pub spread-spec : {M : Type 1} → statement M
 spread-spec =
