@@ -1,15 +1,18 @@
+-- Bytes, lines and numbers
 pub mod Bytes
 pub mod Lines
 pub mod Digits
-pub mod Reading
 pub mod Numerals
+pub mod Reading
+-- The line form, both ways, and the lines of a report
 pub mod LineForm
 pub mod RoundTrip
 pub mod Ops
 pub mod Wrote
 pub mod Lengths
 pub mod ReportExamples
-pub mod Reporting
+-- Texts in pieces, what the functions over them need, and the demand
 pub mod Pieces
+pub mod Reporting
 pub mod Held
 pub mod TextDemands

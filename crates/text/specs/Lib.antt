@@ -1,10 +1,12 @@
+-- Lines, the text form of records and reports, as document 01 has them
 pub mod Bytes
 pub mod Lines
-pub mod Reading
 pub mod Printing
 pub mod LineForm
-pub mod Wrote
 pub mod ReportLines
 pub mod Report
 pub mod Pieces
 pub mod TextDemands
+-- As memory: what is written, and how a reader moves
+pub mod Wrote
+pub mod Reading

@@ -1,37 +1,42 @@
-pub mod Turns
+-- Tests, turns and acceptance
 pub mod Reflects
+pub mod Tests
+pub mod Turns
 pub mod Acceptance
+-- Paths: by what lies between, by nodes, by places; and that the fullest completion has them all
 pub mod Leads
 pub mod Carry
+pub mod Places
 pub mod Fullest
 pub mod Reach
-pub mod Tables
-pub mod Acting
-pub mod Mixing
-pub mod Bits
-pub mod Nodes
-pub mod Marks
 pub mod Came
-pub mod Exact
-pub mod ExactClocks
-pub mod Slots
-pub mod ExactSets
-pub mod Conflicts
-pub mod Reckoned
-pub mod Masked
-pub mod Represents
-pub mod Feeding
-pub mod Ranges
-pub mod Accepting
-pub mod ExactControl
-pub mod Places
 pub mod Between
 pub mod Bounds
-pub mod Tests
+-- The search, and the demands for it
+pub mod Conflicts
 pub mod Latest
 pub mod Decide
 pub mod Demands
 pub mod Examples
+-- Tables of any width are exact: rows and columns, acts, marks, and clocks and sets by them
+pub mod Tables
+pub mod Acting
+pub mod Mixing
+pub mod Nodes
+pub mod Marks
+pub mod Exact
+pub mod ExactClocks
+pub mod Slots
+pub mod ExactSets
+pub mod ExactControl
+-- The step finds what the search finds: masks, the running state, feeding, and the demands for it
+pub mod Bits
+pub mod Ranges
+pub mod Reckoned
+pub mod Masked
+pub mod Represents
+pub mod Accepting
+pub mod Feeding
 pub mod Cases
 pub mod Fed
 pub mod Paths

@@ -1,3 +1,4 @@
+-- The number that the latest slot keeps.
 use borrow.Author.Needs.{needs}
 use Rattle.checker.proofs.history.latest_number.Statement.{statement}
 use Rattle.checker.proofs.history.latest_number.Tie as tie

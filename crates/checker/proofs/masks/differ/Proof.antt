@@ -1,3 +1,4 @@
+-- Two pairs of masks, compared one after the other.
 use borrow.Author.Tests.{eq-eqb, ne-eqb}
 use Rattle.checker.proofs.masks.differ.Statement.{statement}
 use Rattle.checker.proofs.masks.differ.Tie as tie

@@ -1,3 +1,4 @@
+-- The row that a mark hears in turn r, by the three ranges of rows.
 use mathlib.Core.Path.{sym, _∙_}
 use borrow.Author.Tests.{lt-ltb, le-ltb, lt-leb, le-leb}
 use borrow.Author.Needs.{needs}

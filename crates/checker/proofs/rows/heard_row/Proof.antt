@@ -1,3 +1,4 @@
+-- The row that an act hears, kind by kind.
 use borrow.Author.Tests.{ne-eqb}
 use borrow.Author.Needs.{needs}
 use Rattle.checker.proofs.rows.heard_row.Statement.{statement}

@@ -1,3 +1,4 @@
+-- The row that a mark tells in turn r, by the two ranges of rows.
 use mathlib.Core.Path.{sym, _∙_}
 use borrow.Author.Tests.{lt-ltb, le-ltb}
 use borrow.Author.Needs.{needs}

@@ -1,3 +1,4 @@
+-- The row that an act tells, kind by kind.
 use borrow.Author.Tests.{ne-eqb}
 use borrow.Author.Needs.{needs}
 use Rattle.checker.proofs.rows.told_row.Statement.{statement}

@@ -1,3 +1,4 @@
+-- Tables of zeros, and task 0 live.
 use Rattle.theory.specs.Step.{freshState}
 use borrow.Author.Needs.{needs}
 use Rattle.checker.proofs.state.fresh.Statement.{statement}
