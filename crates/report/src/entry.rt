@@ -1,8 +1,8 @@
 // The C entry: a text and report memory in, the count of bytes written out.
 
-use crate::answering::put_line;
 use crate::scan::line_count;
 use crate::streaming::put_piece;
+use crate::streaming::put_rest;
 use text::Progress;
 ghost use mathlib.Core.Path.{_≡_};
 ghost use Prim.Native.Nat.{_≤_, _*_};
@@ -41,15 +41,10 @@ fn write_report(text: &[u8], report: &mut [u8]) -> usize
         &mut sets,
         &mut fullsets,
     );
-    let n = r.held;
-    if n == 0 {
-        return r.at;
-    }
-    put_line(
+    put_rest(
         report,
-        r.at,
-        r.lines + 1,
-        &held[..n],
+        &held,
+        r,
         &mut control,
         &mut last,
         &mut clocks,

@@ -15,7 +15,7 @@ ghost use Rattle.text.specs.Lines.{linesOf};
 ghost use Rattle.text.specs.LineForm.{parseOf};
 ghost use Rattle.text.specs.Wrote.{Wrote};
 ghost use Rattle.text.specs.Report.{saidFor, stateAfter};
-ghost use Rattle.text.specs.Pieces.{heldMost, keptOf, fits, refused, progressAfter, saidIn, afterPiece};
+ghost use Rattle.text.specs.Pieces.{heldMost, keptOf, fits, refused, progressAfter, saidIn, afterPiece, saidAtEnd, stateAtEnd};
 
 // So many bytes of a line are held at most: a line of more than 64 is refused, whatever else it says.
 const HELD_MOST: usize = 65;
@@ -140,6 +140,43 @@ pub(crate) fn put_piece(
         held: n,
         at: answered.at,
     }
+}
+
+// Answers what is held at the end of a text, as if LF ended it.
+pub(crate) fn put_rest(
+    out: &mut [u8],
+    held: &[u8],
+    begun: Progress,
+    control: &mut [u32; 17],
+    last: &mut [u32; 2048],
+    clocks: &mut [u32; 1536],
+    fullclocks: &mut [u32; 1536],
+    sets: &mut [u8; 196608],
+    fullsets: &mut [u8; 196608],
+) -> usize
+    requires { ⌜ (begun .held ≤ length (now held)) × (0 < begun .held → begun .at + 64 ≤ length (now out)) × (begun .lines + 1 < 2 ^ 64) ⌝ }
+    ensures said { λ to. ⌜ Wrote (now (out .entry)) (begun .at)
+        (saidAtEnd (keptOf (stateOf (now (control .entry)) (now (last .entry)) (now (clocks .entry)) (now (fullclocks .entry)) (now (sets .entry)) (now (fullsets .entry))) begun (now (held .entry))))
+        (now (out .exit)) to ⌝ }
+    ensures fed { λ _. ⌜ stateOf (now (control .exit)) (now (last .exit)) (now (clocks .exit)) (now (fullclocks .exit)) (now (sets .exit)) (now (fullsets .exit))
+        ≡ stateAtEnd (keptOf (stateOf (now (control .entry)) (now (last .entry)) (now (clocks .entry)) (now (fullclocks .entry)) (now (sets .entry)) (now (fullsets .entry))) begun (now (held .entry))) ⌝ }
+{
+    let n = begun.held;
+    if n == 0 {
+        return begun.at;
+    }
+    put_line(
+        out,
+        begun.at,
+        begun.lines + 1,
+        &held[..n],
+        control,
+        last,
+        clocks,
+        fullclocks,
+        sets,
+        fullsets,
+    )
 }
 
 // What `at` is where a piece was not taken in: 64 one-bits.

@@ -16,9 +16,9 @@ use Rattle.text.specs.Lines.{lf, linesOf, lineEnd}
 use Rattle.text.specs.LineForm.{parseOf}
 use Rattle.text.specs.Wrote.{Wrote}
 use Rattle.text.specs.Report.{saidFor, stateAfter, reportOf}
-use Rattle.text.specs.Pieces.{Kept, kept, freshKept, heldMost, saidAt, afterByte, saidIn, afterPiece, saidAtEnd, saidInAll, joined, progressAfter, fits}
+use Rattle.text.specs.Pieces.{Kept, kept, freshKept, heldMost, saidAt, afterByte, saidIn, afterPiece, saidAtEnd, stateAtEnd, saidInAll, joined, keptOf, progressAfter, fits}
 use Rattle.text.proofs.Bytes.{Without, and-true}
-use Rattle.text.proofs.Wrote.{sets-append, _then_, front, as-long}
+use Rattle.text.proofs.Wrote.{sets-append, wrote-nothing, _then_, front, as-long}
 use Rattle.text.proofs.Lines.{lines-of, lines-fit}
 use Rattle.text.proofs.Pieces.{keptWith, parse-held, rest-held, line-said, line-after, any-cut}
 use Rattle.text.proofs.Reporting.{from-place, line-without}
@@ -175,7 +175,7 @@ pub progress-said : (k : Kept) (piece : List ℕ) (at : ℕ) {to n lines : ℕ} 
     → record { lines = lines; held = n; at = to } ≡ progressAfter k at piece
 progress-said k piece at e f g = rw (e, f, g)
 
--- The whole text as one piece
+-- After a piece
 
 pub lines-kept : (k : Kept) (s : List ℕ) → (afterPiece k s) .lines ≤ k .lines + length s
 unfolding afterPiece afterByte
@@ -195,7 +195,7 @@ held-short k (b ∷ s) h = held-short (afterByte k b) s (picked (eqb b lf) refl)
     picked true e = rw e (omega arith)
     picked false e = rw e (omega (arith, length-take heldMost (k .held ++ (b ∷ []))))
 
--- after a piece: so many lines at most are answered, and the memory holds what is held
+-- so many lines at most are answered, and the memory holds what is held
 module _ (k : Kept) (piece : List ℕ) (at : ℕ) {r : Progress} (e : r ≡ progressAfter k at piece) where
   pub lines-after : r .lines ≤ k .lines + length piece
   lines-after = rw e (lines-kept k piece)
@@ -204,25 +204,38 @@ module _ (k : Kept) (piece : List ℕ) (at : ℕ) {r : Progress} (e : r ≡ prog
     pub held-within : r .held ≤ length memory′
     held-within = rw (e, f) (omega (arith, held-short k piece short, length-sets memory 0 ((afterPiece k piece) .held)))
 
-    pub held-stands : take (r .held) memory′ ≡ (afterPiece k piece) .held
-    held-stands = rw (e, f) (front-held memory ((afterPiece k piece) .held) (omega (arith, held-short k piece short)))
+    pub kept-after : {s : State} → s ≡ (afterPiece k piece) .state → keptOf s r memory′ ≡ afterPiece k piece
+    kept-after g = rw (e, f, g, front-held memory ((afterPiece k piece) .held) (omega (arith, held-short k piece short)))
+
+-- The end of a text
+
+module _ (s : State) (begun : Progress) (memory out : List ℕ) where
+  -- nothing is held, and nothing is said
+  pub nothing-held : begun .held ≡ 0
+      → Wrote out (begun .at) (saidAtEnd (keptOf s begun memory)) out (begun .at) × (s ≡ stateAtEnd (keptOf s begun memory))
+  nothing-held e =
+      let q : length (take (begun .held) memory) ≡ 0 = omega (arith, length-take (begun .held) memory) in
+      let t = eq-eqb (length (take (begun .held) memory)) 0 q in
+      (rw t wrote-nothing, rw t)
+
+  -- what is held is a line
+  pub line-held : {out′ : List ℕ} {to : ℕ} {s′ : State} → (let line = take (begun .held) memory in
+      begun .held ≤ length memory → (begun .held ≡ 0 → ⊥) → Wrote out (begun .at) (saidFor (begun .lines + 1) s (parseOf line)) out′ to → s′ ≡ stateAfter s (parseOf line)
+      → Wrote out (begun .at) (saidAtEnd (keptOf s begun memory)) out′ to × (s′ ≡ stateAtEnd (keptOf s begun memory)))
+  unfolding saidAt afterByte
+  line-held h d w f =
+      let t = ne-eqb (length (take (begun .held) memory)) 0 (λ z. d (counted (begun .held) memory h ∙ z)) in
+      (rw t (rw (add-one (begun .lines)) at w), rw t f)
 
 whole-text : (text : List ℕ) → reportOf text ≡ saidIn freshKept text ++ saidAtEnd (afterPiece freshKept text)
 unfolding joined saidInAll
 whole-text text = ap reportOf (sym (append-nil text)) ∙ sym (any-cut (text ∷ []))
 
-module _ (text : List ℕ) {report report′ : List ℕ} {at : ℕ} (w : Wrote report 0 (saidIn freshKept text) report′ at) where
-  -- nothing is held at the end
-  pub ended : length ((afterPiece freshKept text) .held) ≡ 0 → Wrote report 0 (reportOf text) report′ at
-  ended e = rw (whole-text text, eq-eqb (length ((afterPiece freshKept text) .held)) 0 e, append-nil (saidIn freshKept text)) w
-
-  -- what is held is a line
-  pub ended-by : {report″ l : List ℕ} {to n : ℕ} {s : State} → (let k = afterPiece freshKept text in
-      (length (k .held) ≡ 0 → ⊥) → n ≡ k .lines → s ≡ k .state → l ≡ k .held → Wrote report′ at (saidFor (n + 1) s (parseOf l)) report″ to
-      → Wrote report 0 (reportOf text) report″ to)
-  unfolding saidAt
-  ended-by {n = n} d e f g v =
-      rw (whole-text text, ne-eqb (length ((afterPiece freshKept text) .held)) 0 d, ← e, ← f, ← g) (w then rw (add-one n) at v)
+-- the whole text as one piece, and what is held at its end
+pub text-said : (text : List ℕ) {k k′ : Kept} {report report′ report″ : List ℕ} {at to : ℕ}
+    → Wrote report 0 (saidIn k text) report′ at → k′ ≡ afterPiece k text → Wrote report′ at (saidAtEnd k′) report″ to → k ≡ freshKept
+    → Wrote report 0 (reportOf text) report″ to
+text-said text w e v f = rw (whole-text text, ← f, ← e) (w then v)
 
 -- Room
 

@@ -54,6 +54,10 @@ afterPiece k (b ∷ s) = afterPiece (afterByte k b) s
 abbrev pub saidAtEnd : Kept → List ℕ
 saidAtEnd k = cond (eqb (length (k .held)) 0) [] (saidAt k lf)
 
+-- the running state after the text's end
+abbrev pub stateAtEnd : Kept → State
+stateAtEnd k = cond (eqb (length (k .held)) 0) (k .state) ((afterByte k lf) .state)
+
 -- what the report has for pieces and for the text's end after them
 unfoldable pub saidInAll : Kept → List (List ℕ) → List ℕ
 saidInAll k [] = saidAtEnd k

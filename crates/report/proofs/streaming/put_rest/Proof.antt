@@ -1,0 +1,29 @@
+-- Nothing is held, and nothing is said; or what is held is answered as a line.
+use native.Mathlib.Omega.{arith}
+use Rattle.text.proofs.Held.{counted, nothing-held, line-held}
+use borrow.Author.Needs.{needs}
+use Rattle.report.proofs.streaming.put_rest.Statement.{statement}
+use Rattle.report.proofs.streaming.put_rest.Tie as tie
+
+returns : tie.Need-returns
+returns c = nothing-held _ (c .before .before .before .args .begun) (c .before .before .before .args .held .now) _ (c .if1 .taken)
+
+slice-aggregate-put-line : tie.Need-slice-aggregate-put-line
+slice-aggregate-put-line c = counted _ _ (c .before .before .before .before .before .before .pre .0)
+
+put-line-requires : tie.Need-put-line-requires
+put-line-requires c κs = c .before .before .before .before .before .before .before .before .before .before .before .before .pre .1 (omega (arith, c .before .before .before .before .before .before .before .before .before .if1 .left))
+
+returns-2 : tie.Need-returns-2
+returns-2 c = line-held _ (c .before .before .before .before .before .before .before .before .before .before .before .before .before .before .before .args .begun) (c .before .before .before .before .before .before .before .before .before .before .before .before .before .before .before .args .held .now) _ (c .before .before .before .before .before .before .before .before .before .before .before .before .before .before .before .pre .0) (c .before .before .before .before .before .before .before .before .before .before .before .before .if1 .left) (c .before .before .put-line .ensures .0 .1) (c .before .before .put-line .ensures .1)
+
+pub put-rest-spec : {M : Type 1} → statement M
+put-rest-spec =
+    tie.close
+    (tie.spec
+    returns
+    (λ c. search needs)
+    slice-aggregate-put-line
+    put-line-requires
+    (λ c. search needs)
+    returns-2)
