@@ -39,6 +39,7 @@ const SHORT: &[(&str, &str, &str)] = &[
     ("K4", "start 0 1, write 1 5, join 0 1, write 0 5", "2 1 clear 0, 4 0 clear 0"),
     ("K5", "start 0 1, read 0 5, read 1 5", "2 0 clear 0, 3 1 clear 0"),
     ("K6", "start 0 1, write 0 5, look 0 3, set 1 3, write 1 5", "2 0 clear 0, 5 1 race 2"),
+    ("a look that tells no later look", "start 0 1, write 0 5, look 0 3, look 1 3, write 1 5", "2 0 clear 0, 5 1 race 2"),
     ("K7", "start 0 1, start 0 2, write 1 5, give 1 4, give 2 4, take 0 4, read 0 5", "3 1 clear 0, 7 0 clear 0"),
     ("K8", "start 0 1, write 0 5, write 1 5, lost 3", "2 0 clear 0, 3 1 race 2"),
     ("K9", "start 0 1, write 0 5, lost 3, write 1 5", "2 0 clear 0, 4 1 doubt 2"),
