@@ -1,48 +1,35 @@
 // The refusal table's examples and the edges of the series. A record is its kind number, task and number.
 use crate::feeding::once;
+use crate::records::GIVE;
+use crate::records::JOIN;
+use crate::records::LOOK;
+use crate::records::LOST;
+use crate::records::READ;
+use crate::records::SET;
+use crate::records::START;
+use crate::records::TAKE;
+use crate::records::WRITE;
 use crate::telling::line;
-use crate::telling::tell;
-use theory::Record;
-
-const READ: u8 = 0;
-
-const WRITE: u8 = 1;
-
-const TAKE: u8 = 2;
-
-const GIVE: u8 = 3;
-
-const LOOK: u8 = 4;
-
-const SET: u8 = 5;
-
-const START: u8 = 6;
-
-const JOIN: u8 = 7;
-
-const LOST: u8 = 8;
+ghost use Prim.Native.Nat.{_<_};
 
 const HUGE: u32 = 4_294_967_295;
 
+fn row(name: &[u8], kind: u8, task: u32, on: u32) {
+    line(name);
+    once(kind, task, on);
+}
+
 // Rows 1 to 9 but row 5, which full.rt has.
 pub fn rows() {
-    line(b"row 1");
-    once(9, 0, 1);
+    row(b"row 1", 9, 0, 1);
     once(255, 0, 1);
-    line(b"row 2");
-    once(READ, 16, 1);
-    line(b"row 3");
-    once(TAKE, 0, 32);
-    line(b"row 4");
-    once(LOST, 0, 0);
-    line(b"row 6");
-    once(READ, 1, 1);
-    line(b"row 7");
-    once(START, 0, 0);
-    line(b"row 8");
-    once(JOIN, 0, 0);
-    line(b"row 9");
-    once(LOST, 0, 2);
+    row(b"row 2", READ, 16, 1);
+    row(b"row 3", TAKE, 0, 32);
+    row(b"row 4", LOST, 0, 0);
+    row(b"row 6", READ, 1, 1);
+    row(b"row 7", START, 0, 0);
+    row(b"row 8", JOIN, 0, 0);
+    row(b"row 9", LOST, 0, 2);
 }
 
 // Rows 1, 2 and 3 each before all after it; row 6 before 7 and 8; a join of an unseen task.
@@ -56,30 +43,27 @@ pub fn first_row() {
     once(JOIN, 0, 1);
 }
 
-pub fn series() {
-    line(b"variables 63 and 64");
-    once(READ, 0, 63);
-    once(READ, 0, 64);
-    once(WRITE, 0, 63);
-    once(WRITE, 0, 64);
-    line(b"semaphores 31 and 32");
-    once(TAKE, 0, 31);
-    once(TAKE, 0, 32);
-    once(GIVE, 0, 31);
-    once(GIVE, 0, 32);
-    line(b"flags 31 and 32");
-    once(LOOK, 0, 31);
-    once(LOOK, 0, 32);
-    once(SET, 0, 31);
-    once(SET, 0, 32);
+// The last number of a series and the one after it.
+fn last_and_next(kind: u8, last: u32)
+    requires { ⌜ last < 4_294_967_295 ⌝ }
+{
+    once(kind, 0, last);
+    once(kind, 0, last + 1);
 }
 
-pub fn tasks() {
+pub fn series() {
+    line(b"variables 63 and 64");
+    last_and_next(READ, 63);
+    last_and_next(WRITE, 63);
+    line(b"semaphores 31 and 32");
+    last_and_next(TAKE, 31);
+    last_and_next(GIVE, 31);
+    line(b"flags 31 and 32");
+    last_and_next(LOOK, 31);
+    last_and_next(SET, 31);
     line(b"tasks 15 and 16");
-    once(START, 0, 15);
-    once(START, 0, 16);
-    once(JOIN, 0, 15);
-    once(JOIN, 0, 16);
+    last_and_next(START, 15);
+    last_and_next(JOIN, 15);
     once(READ, 15, 1);
     once(READ, 16, 1);
 }
@@ -96,50 +80,7 @@ pub fn huge() {
 pub fn masks() {
     line(b"masks 0, 65535 and 65536");
     once(LOST, 0, 0);
-    once(LOST, 0, 65_535);
-    once(LOST, 0, 65_536);
+    last_and_next(LOST, 65_535);
     line(b"a mark looks at no task");
     once(LOST, HUGE, 1);
-}
-
-// Starts of tasks 1 to 15, then the largest mask.
-fn starts_then_mark(n: u32) -> Record {
-    match n {
-        1..=15 => Record {
-            kind: START,
-            task: 0,
-            on: n,
-        },
-        _ => Record {
-            kind: LOST,
-            task: 0,
-            on: 65_535,
-        },
-    }
-}
-
-// With every task live the largest mask is accepted.
-pub fn all_tasks() {
-    line(b"every task, then a mark of all");
-    let s = checker::fresh();
-    let mut control = s.control;
-    let mut last = s.last;
-    let mut clocks = s.clocks;
-    let mut fullclocks = s.fullclocks;
-    let mut sets = s.sets;
-    let mut fullsets = s.fullsets;
-    let mut n = 1;
-    while n < 17 {
-        let a = checker::step_in_place(
-            &mut control,
-            &mut last,
-            &mut clocks,
-            &mut fullclocks,
-            &mut sets,
-            &mut fullsets,
-            starts_then_mark(n),
-        );
-        tell(a);
-        n += 1;
-    }
 }

@@ -3,6 +3,8 @@ mod edges;
 mod feeding;
 mod full;
 mod recordings;
+mod records;
+mod source;
 mod telling;
 mod text;
 
@@ -15,11 +17,7 @@ fn main() {
     edges::rows();
     edges::first_row();
     edges::series();
-    edges::tasks();
     edges::huge();
     edges::masks();
-    edges::all_tasks();
-    full::by_both();
-    full::by_clocks();
-    full::by_sets();
+    recordings::full();
 }

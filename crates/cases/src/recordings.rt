@@ -2,6 +2,8 @@
 use crate::feeding::run;
 use crate::feeding::run_both;
 use crate::feeding::run_by_value;
+use crate::feeding::run_source;
+use crate::source::Source;
 
 // Short recordings without loss.
 pub fn short() {
@@ -44,8 +46,13 @@ pub fn by_value() {
 pub fn refused() {
     run_both(
         b"refused records are not counted",
+        Source::Numbered,
         b"0+1 2r5 0w5 0+1 _?4 1r5",
-        true,
     );
-    run_both(b"an ended task", b"0+1 0-1 1r5 0+1 0-1 _?2", false);
+    run_both(b"an ended task", Source::Text, b"0+1 0-1 1r5 0+1 0-1 _?2");
+}
+
+pub fn full() {
+    run_both(b"every task, then a mark of all", Source::Starts, b"");
+    run_source(b"row 5", Source::Row5, b"");
 }

@@ -1,20 +1,31 @@
 // Recordings as text: a record is its task, a sign for its kind and its number, as `0w5`, with one byte between two records.
+use crate::records::GIVE;
+use crate::records::JOIN;
+use crate::records::LOOK;
+use crate::records::LOST;
+use crate::records::READ;
+use crate::records::SET;
+use crate::records::START;
+use crate::records::TAKE;
+use crate::records::WRITE;
+use crate::records::record;
 use theory::Record;
+ghost use Prim.Native.Nat.{_+_, _*_, _≤_};
 
 // A kind number of none of the nine.
 const NONE: u8 = 255;
 
 fn kind_of(sign: u8) -> u8 {
     match sign {
-        b'r' => 0,
-        b'w' => 1,
-        b't' => 2,
-        b'g' => 3,
-        b'l' => 4,
-        b's' => 5,
-        b'+' => 6,
-        b'-' => 7,
-        b'?' => 8,
+        b'r' => READ,
+        b'w' => WRITE,
+        b't' => TAKE,
+        b'g' => GIVE,
+        b'l' => LOOK,
+        b's' => SET,
+        b'+' => START,
+        b'-' => JOIN,
+        b'?' => LOST,
         _ => NONE,
     }
 }
@@ -26,27 +37,18 @@ fn digit(b: u8) -> u32 {
     }
 }
 
-// Whether a record begins at byte i.
-pub fn begins(i: usize) -> bool {
-    i % 4 == 0
+// How many records a text has: the last one has no byte after it.
+pub fn count(text: &[u8]) -> usize
+    ensures { λ r. do ⌜ r * 4 ≤ (← ⟦text.len()⟧ .entry) + 1 ⌝ }
+{
+    text.len() / 4 + text.len() % 4 / 3
 }
 
-// The record that begins at byte i, and one of no kind where the text ends before its end.
-pub fn record_at(text: &[u8], i: usize) -> Record {
-    if i < text.len() {
-        if i + 1 < text.len() {
-            if i + 2 < text.len() {
-                return Record {
-                    kind: kind_of(text[i + 1]),
-                    task: digit(text[i]),
-                    on: digit(text[i + 2]),
-                };
-            }
-        }
+// The n-th record, from 0, and one of no kind where there is none.
+pub fn nth(text: &[u8], n: usize) -> Record {
+    if n < count(text) {
+        let i = n * 4;
+        return record(kind_of(text[i + 1]), digit(text[i]), digit(text[i + 2]));
     }
-    Record {
-        kind: NONE,
-        task: 0,
-        on: 0,
-    }
+    record(NONE, 0, 0)
 }

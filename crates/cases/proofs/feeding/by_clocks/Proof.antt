@@ -1,19 +1,18 @@
 -- `cases::feeding::by_clocks` is safe and ends. Assumes nothing.
 use Prim.Native.Nat.{_-_}
 use borrow.Author.Needs.{needs}
-use lib.ListN.{length}
 use Rattle.cases.proofs.feeding.by_clocks.Statement.{statement}
 use Rattle.cases.proofs.feeding.by_clocks.Tie as tie
 
 abbrev Inv-loop : tie.InvT-loop
-Inv-loop text control₀ last₀ clocks₀ fullclocks₀ i₀ control last clocks fullclocks i = Unit
+Inv-loop source text control₀ last₀ clocks₀ fullclocks₀ n₀ n-end control last clocks fullclocks n = Unit
 
 abbrev μ-loop : tie.MeasureT-loop
-μ-loop text control₀ last₀ clocks₀ fullclocks₀ i₀ control last clocks fullclocks i = length text - i
+μ-loop source text control₀ last₀ clocks₀ fullclocks₀ n₀ n-end control last clocks fullclocks n = n-end - n
 
 pub by-clocks-spec : {M : Type 1} → statement M
 by-clocks-spec =
     tie.close (tie.spec
-    Inv-loop μ-loop (λ c κs. search needs) (λ c. search needs) (λ c κs. search needs) (λ c κs. search needs)
+    Inv-loop μ-loop (λ c κs. search needs) (λ c κs. search needs) (λ c. search needs) (λ c κs. search needs)
     (λ c κs. search needs) (λ c κs. search needs) (λ c. search needs) (λ c. search needs) (λ c. search needs)
     (λ c. search needs))

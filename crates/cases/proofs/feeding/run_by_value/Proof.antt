@@ -1,19 +1,18 @@
 -- `cases::feeding::run_by_value` is safe and ends. Assumes nothing.
 use Prim.Native.Nat.{_-_}
 use borrow.Author.Needs.{needs}
-use lib.ListN.{length}
 use Rattle.cases.proofs.feeding.run_by_value.Statement.{statement}
 use Rattle.cases.proofs.feeding.run_by_value.Tie as tie
 
 abbrev Inv-loop : tie.InvT-loop
-Inv-loop name text state₀ i₀ state i = Unit
+Inv-loop name text state₀ n₀ n-end state n = Unit
 
 abbrev μ-loop : tie.MeasureT-loop
-μ-loop name text state₀ i₀ state i = length text - i
+μ-loop name text state₀ n₀ n-end state n = n-end - n
 
 pub run-by-value-spec : {M : Type 1} → statement M
 run-by-value-spec =
     tie.close (tie.spec
-    Inv-loop μ-loop (λ c κs. search needs) (λ c κs. search needs) (λ c. search needs) (λ c κs. search needs)
+    Inv-loop μ-loop (λ c κs. search needs) (λ c κs. search needs) (λ c κs. search needs) (λ c. search needs)
     (λ c κs. search needs) (λ c κs. search needs) (λ c κs. search needs) (λ c. search needs) (λ c. search needs)
     (λ c. search needs) (λ c. search needs))
