@@ -36,9 +36,6 @@ racy-arrived c (t, i, a, n) = (t, i, a, λ q. n (both-act a (λ o p v u w x y. p
 pub arrived-racy : {es : List Event} {k : ℕ} → Unordered es k → Racy (arrived-completes es) k
 arrived-racy (t, i, a, n) = (t, i, a, λ q. n (both-act a (λ o p v u w x y. path-arrived x y q)))
 
-pub racy-fullest : {es fs : List Event} {k : ℕ} (c : Completion es fs) → Racy (fullest-completes es) k → Racy c k
-racy-fullest c (t, i, a, n) = (t, i, a, λ q. n (both-act a (λ o p v u w x y. path-most c x y q)))
-
 -- What the judge found
 
 -- the verdict and partner of the access at place k, with what makes them so
