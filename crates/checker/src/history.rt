@@ -5,7 +5,7 @@ use crate::kinds::WRITE;
 use theory::Task;
 use theory::Variable;
 ghost use mathlib.Core.Path.{_≡_};
-ghost use mathlib.Core.Bool.{false};
+ghost use mathlib.Core.Bool.{false, cond};
 ghost use lib.Dec.{eqb};
 ghost use Prim.Native.Nat.{_<_};
 ghost use Rattle.theory.specs.Acceptance.{Fitting};
@@ -40,12 +40,22 @@ pub(crate) fn latest_slot(last: &[u32; 2048], kind: u8, v: u32, u: u32) -> usize
     write
 }
 
-// Its record number, 0 where there is none.
+// The kind of access beside a write that conflicts with this one: a read with a write, and nothing but a write with a read.
+fn other_kind(kind: u8) -> u8
+    ensures { λ r. ⌜ (r ≡ cond (eqb kind 1) 0 1) × (r < 2) ⌝ }
+{
+    if kind == WRITE { READ } else { WRITE }
+}
+
+// Its record number, 0 where there is none. It is the greater of two numbers whatever the kind, so that a loop over the tasks makes vector
+// code of it.
 pub(crate) fn latest_number(last: &[u32; 2048], kind: u8, v: u32, u: u32) -> u32
     requires { ⌜ (v < 64) × (u < 16) ⌝ }
     ensures { λ r. ⌜ r ≡ latestNumber (now (last .entry)) kind v u ⌝ }
 {
-    last[latest_slot(last, kind, v, u)]
+    let write = last[slot(WRITE, Variable(v), Task(u))];
+    let other = last[slot(other_kind(kind), Variable(v), Task(u))];
+    if write < other { other } else { write }
 }
 
 // The history after an accepted record.

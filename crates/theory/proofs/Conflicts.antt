@@ -1,14 +1,14 @@
 -- The history tells each task's latest conflicting access: its number is one more than the place of the task's final access that
 -- conflicts, and 0 where there is none. Assumes nothing.
 use mathlib.Core.Path.{_≡_, refl, sym, _∙_, ap, subst}
-use mathlib.Core.Bool.{Bool, true, false, cond}
+use mathlib.Core.Bool.{Bool, true, false, cond, _&&_}
 use mathlib.Core.Logic.{_↔_, _⊎_, inl, inr, _≢_}
 use mathlib.Core.List.{List, [], _∷_, _++_}
-use Prim.Native.Nat.{ℕ, zero, suc, _+_, _≤_, _<_}
+use Prim.Native.Nat.{ℕ, zero, suc, _+_, _≤_, _<_, max}
 use native.Mathlib.Nat.{le-refl}
 use native.Mathlib.Omega.{arith}
-use borrow.Author.Tests.{lt-ltb, le-ltb}
-use lib.Dec.{T, ltb}
+use borrow.Author.Tests.{lt-ltb, le-ltb, ltb-true, ltb-false}
+use lib.Dec.{T, ltb, eqb}
 use Rattle.theory.specs.Recording.{Op, read, write, take, give, look, start, join, Event, act, lost, series, kind, _is_, ActsIn, acts}
 use Rattle.theory.specs.Order.{isAccess, Conflict, conflict}
 use Rattle.theory.specs.History.{slot, lastOf, latestSlot, latestNumber}
@@ -84,6 +84,21 @@ module _ {p : Op} {t v u : ℕ} (ap : T (isAccess p)) (hv : v < 64) (hu : u < 16
   conflict-slot : {e : Event} → ActsIn u e → Conflict e (act p t v) → (s : ℕ) × Conflicting p v u s × InSlot s e
   conflict-slot acts (conflict {o = read} a b n w) = (slot 0 v u, reads w, in-slot a hu hv refl)
   conflict-slot acts (conflict {o = write} a b n w) = (slot 1 v u, writes, in-slot a hu hv refl)
+
+-- its number is the greater of two for either kind of access: a read has the write twice
+pub latest-greater : (last : List ℕ) (k v u : ℕ) → latestNumber last k v u ≡ max (lastOf last (slot 1 v u)) (lastOf last (slot (cond (eqb k 1) 0 1) v u))
+latest-greater last k v u = by-kind (eqb k 1)
+  where
+    later : (b : Bool) → ltb (lastOf last (slot 1 v u)) (lastOf last (slot 0 v u)) ≡ b →
+        lastOf last (cond b (slot 0 v u) (slot 1 v u)) ≡ max (lastOf last (slot 1 v u)) (lastOf last (slot 0 v u))
+    later true e = omega (arith, ltb-true (lastOf last (slot 1 v u)) (lastOf last (slot 0 v u)) e)
+    later false e = omega (arith, ltb-false (lastOf last (slot 1 v u)) (lastOf last (slot 0 v u)) e)
+
+    by-kind : (b : Bool) →
+        lastOf last (cond (b && ltb (lastOf last (slot 1 v u)) (lastOf last (slot 0 v u))) (slot 0 v u) (slot 1 v u))
+        ≡ max (lastOf last (slot 1 v u)) (lastOf last (slot (cond b 0 1) v u))
+    by-kind true = later (ltb (lastOf last (slot 1 v u)) (lastOf last (slot 0 v u))) refl
+    by-kind false = omega arith
 
 -- the later of the conflicting slots
 pub latest-above : (p : Op) → T (isAccess p) → (v u : ℕ) (last : List ℕ) (m : ℕ) → (m < latestNumber last (kind p) v u) ↔ ((s : ℕ) × Conflicting p v u s × (m < lastOf last s))
