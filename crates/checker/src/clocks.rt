@@ -106,18 +106,19 @@ fn heard_with(cells: &[u32; 1536], from: usize, row: &[u32; 16]) -> [u32; 16]
     next
 }
 
-// What a mark's lost records can hear comes to the hub, by way of a row that stays in registers. Every object is heard, so that nothing is
-// asked of the rows from the hub on.
+// What a mark's lost records can hear comes to the hub, by way of a row that stays in registers. Nothing of the tasks' having acted is heard,
+// and every object is, so that nothing is asked of the rows after the tasks'.
 fn gather(cells: &mut [u32; 1536], mask: u32)
     ensures { λ _. ⌜ now (cells .exit) ≡ gather 16 mask (now (cells .entry)) ⌝ }
 {
     let mut known = [0u32; 16];
     let mut r = 0;
-    while r < 32 {
+    while r < 16 {
         let next = heard_with(cells, heard_by(mask, r), &known);
         known = next;
         r += 1;
     }
+    r = 32;
     while r < 96 {
         let next = heard_with(cells, r, &known);
         known = next;

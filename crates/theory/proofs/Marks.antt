@@ -1,13 +1,16 @@
 -- What a mark hears and tells, by the rows of the tables. Assumes nothing.
 use mathlib.Core.Path.{_≡_, refl, sym, _∙_, ap, subst}
 use mathlib.Core.Bool.{Bool, true, false, cond}
+use mathlib.Core.List.{List}
 use Prim.Native.Nat.{ℕ, zero, suc, _+_, _%_, _≤_, _<_}
 use native.Mathlib.Omega.{arith}
 use borrow.Author.Tests.{lt-ltb, le-ltb, lt-leb, le-leb}
 use lib.Dec.{T, ltb, leb, lt→ltb}
 use Rattle.theory.specs.Completion.{bit, names, Named}
-use Rattle.theory.specs.Tables.{isHeard, isTold}
+use Rattle.theory.specs.Tables.{joinRow, isHeard, isTold, hub, rowOrHub}
 use Rattle.theory.proofs.Reflects.{Reflects, by-test, both, at-most, passed, passes}
+use Rattle.theory.proofs.Turns.{Turned, one-turn}
+use Rattle.theory.proofs.Tables.{join-self}
 use Rattle.theory.proofs.Carry.{Node, due, acted, semaphore, flag}
 use Rattle.theory.proofs.Fullest.{Heard, Told, named-task}
 use Rattle.theory.proofs.Reach.{heard-due, heard-acted, heard-semaphore, heard-flag, told-due, told-acted, told-semaphore, told-flag}
@@ -38,6 +41,19 @@ told-at-acted mask t h = let e : (16 + t) % 16 ≡ t = omega arith in rw (lt-ltb
 
 pub told-at-object : (mask r : ℕ) → 32 ≤ r → isTold mask r ≡ true
 told-at-object mask r h = rw (le-ltb r 32 h)
+
+-- a mark hears nothing of the tasks' having acted, so that gathering may go on with the objects
+abbrev gathering : ℕ → ℕ → ℕ → List ℕ → List ℕ
+gathering w mask q x = joinRow w hub (rowOrHub (isHeard mask q) q) x
+
+pub acted-unheard : (w mask : ℕ) {b x : List ℕ} {r : ℕ} → r ≡ 16 → Turned (gathering w mask) b r x → Turned (gathering w mask) b 32 x
+acted-unheard w mask {b} {x} e t = passed-over 16 (omega arith)
+  where
+    passed-over : (n : ℕ) → n ≤ 16 → Turned (gathering w mask) b (16 + n) x
+    passed-over zero h = subst (λ (k : ℕ). Turned (gathering w mask) b k x) e t
+    passed-over (suc n) h =
+        let q : 16 + n + 1 ≡ 16 + suc n = omega arith in
+        subst (λ (k : ℕ). Turned (gathering w mask) b k x) q (one-turn (passed-over n (omega arith)) (rw (heard-at-acted mask n h) (join-self w hub x)))
 
 -- The tests tell what a mark hears and tells, if it names a task
 

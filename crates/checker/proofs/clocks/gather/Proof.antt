@@ -5,17 +5,17 @@ use native.Mathlib.Omega.{arith}
 use Rattle.theory.specs.Tables.{joinRow, joinWith, isHeard, rowOrHub, gather}
 use Rattle.theory.proofs.Turns.{Turned, no-turn-yet, one-turn, all-turns}
 use Rattle.theory.proofs.Tables.{join-nothing, join-heard}
-use Rattle.theory.proofs.Marks.{heard-at-object}
+use Rattle.theory.proofs.Marks.{heard-at-object, acted-unheard}
 use borrow.Author.Needs.{needs}
 use Rattle.checker.proofs.clocks.gather.Statement.{statement}
 use Rattle.checker.proofs.clocks.gather.Tie as tie
 
 abbrev Inv-loop : tie.InvT-loop
 Inv-loop cells mask known₀ r₀ known r =
-    (r ≤ 32) × Turned (λ q b. joinRow 16 32 (rowOrHub (isHeard mask q) q) b) cells r (joinWith 16 32 known cells)
+    (r ≤ 16) × Turned (λ q b. joinRow 16 32 (rowOrHub (isHeard mask q) q) b) cells r (joinWith 16 32 known cells)
 
 abbrev μ-loop : tie.MeasureT-loop
-μ-loop cells mask known₀ r₀ known r = 32 - r
+μ-loop cells mask known₀ r₀ known r = 16 - r
 
 abbrev Inv-loop2 : tie.InvT-loop2
 Inv-loop2 cells mask known₀ r₀ known r =
@@ -34,7 +34,7 @@ loop-again c = (
 )
 
 loop2-holds : tie.Need-loop2-holds Inv-loop μ-loop Inv-loop2 μ-loop2
-loop2-holds c = (search needs, search needs, c .before .loop .inv .1)
+loop2-holds c = (search needs, search needs, acted-unheard 16 _ (omega arith) (c .before .loop .inv .1))
 
 loop2-again : tie.Need-loop2-again Inv-loop μ-loop Inv-loop2 μ-loop2
 loop2-again c =
