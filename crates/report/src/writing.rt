@@ -7,7 +7,7 @@ ghost use mathlib.Core.Bool.{cond};
 ghost use mathlib.Core.List.{[], _∷_};
 ghost use lib.Dec.{ltb};
 ghost use lib.ListN.{length};
-ghost use Rattle.text.specs.Printing.{lastDigit, decimal, fiveDigits};
+ghost use Rattle.text.specs.Printing.{bytes, lastDigit, decimal, fiveDigits};
 ghost use Rattle.text.specs.ReportLines.{accessPart, accessLine, refusedLine, reportLine};
 ghost use Rattle.text.specs.Wrote.{Wrote};
 
@@ -99,7 +99,7 @@ fn put_access_part(out: &mut [u8], at: usize, number: u32, task: u32, variable: 
     put_decimal(out, e, variable as u64)
 }
 
-// The line of an accepted access, by its record number, the verdict's word and the partner's record number.
+// The line of an accepted access with a partner, by its record number, the verdict's word and the partner's record number.
 fn put_access_line(
     out: &mut [u8],
     at: usize,
@@ -117,6 +117,15 @@ fn put_access_line(
     let d = put_bytes(out, c, b" with=");
     let e = put_five(out, d, partner);
     put_bytes(out, e, b"\n")
+}
+
+// The line of a Clear access. Its partner is 0, so that what follows its first part is one word.
+fn put_clear(out: &mut [u8], at: usize, number: u32, r: Record) -> usize
+    requires { ⌜ at + length (accessLine number (r .task) (r .on) (bytes "clear") 0) ≤ length (now out) ⌝ }
+    ensures { λ to. ⌜ Wrote (now (out .entry)) at (accessLine number (r .task) (r .on) (bytes "clear") 0) (now (out .exit)) to ⌝ }
+{
+    let a = put_access_part(out, at, number, r.task, r.on);
+    put_bytes(out, a, b" verdict=clear with=00000\n")
 }
 
 // The line of a refused line, by its line number and the refusal's number.
@@ -140,7 +149,7 @@ pub(crate) fn put_answer(out: &mut [u8], at: usize, line: u64, r: Record, a: Ans
     match a {
         Answer::Refused(number) => put_refused(out, at, line, number),
         Answer::Accepted(_) => at,
-        Answer::Clear(number) => put_access_line(out, at, number.0, r, b"clear", 0),
+        Answer::Clear(number) => put_clear(out, at, number.0, r),
         Answer::Race(number, partner) => put_access_line(out, at, number.0, r, b"race", partner.0),
         Answer::Doubt(number, partner) => put_access_line(
             out,

@@ -1,6 +1,6 @@
 -- How long the lines of the report are: none is longer than 64 bytes. Assumes nothing.
-use mathlib.Core.Path.{_≡_}
-use mathlib.Core.List.{List}
+use mathlib.Core.Path.{_≡_, refl}
+use mathlib.Core.List.{List, _++_, append-assoc}
 use Prim.Native.Nat.{ℕ, _+_, _^_, _≤_, _<_}
 use native.Mathlib.Omega.{arith}
 use lib.ListN.{length, length-append}
@@ -21,6 +21,11 @@ pub length-access-line : (number task variable : ℕ) (verdict : List ℕ) (part
     → length (accessLine number task variable verdict partner) ≡ 41 + length (decimal task) + length (decimal variable) + length verdict
 unfolding accessLine digitsOf
 length-access-line number task variable verdict partner = simp length-append (omega (arith, length-access-part number task variable))
+
+-- the partner of a Clear access is 0, so that its verdict's words and numbers are one word
+pub clear-line : (number task variable : ℕ) → accessLine number task variable (bytes "clear") 0 ≡ accessPart number task variable ++ bytes " verdict=clear with=00000\n"
+unfolding accessLine digitsOf
+clear-line number task variable = simp append-assoc refl
 
 pub length-refused-line : (line number : ℕ) → length (refusedLine line number) ≡ 15 + length (decimal line) + length (decimal number)
 unfolding refusedLine

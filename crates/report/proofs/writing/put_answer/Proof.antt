@@ -6,16 +6,16 @@ use Rattle.text.proofs.Lengths.{access-room, access-line-fits}
 use Rattle.report.proofs.writing.put_answer.Statement.{statement}
 use Rattle.report.proofs.writing.put_answer.Tie as tie
 
+put-clear-requires : tie.Need-put-clear-requires
+put-clear-requires c κs =
+    let given = c .before .before .before .before .before .pre in access-room _ _ _ _ _ _ (given .0) (given .1) (given .2) (lit≤ tt)
+
 put-access-line-requires : tie.Need-put-access-line-requires
 put-access-line-requires c κs =
     let given = c .before .before .before .before .before .before .pre in access-room _ _ _ _ _ _ (given .0) (given .1) (given .2) (lit≤ tt)
 
 put-access-line-requires-2 : tie.Need-put-access-line-requires-2
 put-access-line-requires-2 c κs =
-    let given = c .before .before .before .before .before .before .pre in access-room _ _ _ _ _ _ (given .0) (given .1) (given .2) (lit≤ tt)
-
-put-access-line-requires-3 : tie.Need-put-access-line-requires-3
-put-access-line-requires-3 c κs =
     let given = c .before .before .before .before .before .before .pre in access-room _ _ _ _ _ _ (given .0) (given .1) (given .2) (lit≤ tt)
 
 returns : tie.Need-returns
@@ -26,26 +26,26 @@ returns-2 c = rw (c .enum-told .given .1) (at-most wrote-nothing (lit≤ tt))
 
 returns-3 : tie.Need-returns-3
 returns-3 c =
-    let d = c .before .before .before .before .before .before in
+    let d = c .before .before .before .before .before in
     let given = d .before .before .before .pre in
-    rw (d .a2 .given .1) (at-most (c .before .before .put-access-line .ensures) (access-line-fits _ _ _ _ _ (given .1) (given .2) (lit≤ tt)))
+    rw (d .a2 .given .1) (at-most (c .before .before .put-clear .ensures) (access-line-fits _ _ _ _ _ (given .1) (given .2) (lit≤ tt)))
 
 returns-4 : tie.Need-returns-4
 returns-4 c =
     let d = c .before .before .before .before .before .before in
     let given = d .before .before .before .pre in
-    rw (d .a3 .given .1) (at-most (c .before .before .put-access-line2 .ensures) (access-line-fits _ _ _ _ _ (given .1) (given .2) (lit≤ tt)))
+    rw (d .a3 .given .1) (at-most (c .before .before .put-access-line .ensures) (access-line-fits _ _ _ _ _ (given .1) (given .2) (lit≤ tt)))
 
 returns-5 : tie.Need-returns-5
 returns-5 c =
     let d = c .before .before .before .before .before .before in
     let given = d .before .before .before .pre in
-    rw (d .a4 .given .1) (at-most (c .before .before .put-access-line3 .ensures) (access-line-fits _ _ _ _ _ (given .1) (given .2) (lit≤ tt)))
+    rw (d .a4 .given .1) (at-most (c .before .before .put-access-line2 .ensures) (access-line-fits _ _ _ _ _ (given .1) (given .2) (lit≤ tt)))
 
 pub put-answer-spec : {M : Type 1} → statement M
 put-answer-spec =
     tie.close (tie.spec
-    (λ c. search needs) (λ c κs. search needs) (λ c. search needs) (λ c. search needs) (λ c. search needs)
-    put-access-line-requires (λ c. search needs) (λ c. search needs) put-access-line-requires-2 (λ c. search needs)
-    (λ c. search needs) put-access-line-requires-3 (λ c. search needs) returns returns-2 (λ c. search needs) returns-3
+    (λ c. search needs) (λ c κs. search needs) (λ c. search needs) (λ c. search needs) put-clear-requires (λ c. search needs)
+    (λ c. search needs) put-access-line-requires (λ c. search needs)
+    (λ c. search needs) put-access-line-requires-2 (λ c. search needs) returns returns-2 (λ c. search needs) returns-3
     (λ c. search needs) returns-4 (λ c. search needs) returns-5)
