@@ -1,4 +1,4 @@
-// The control table: each task's phase, then the count of accepted records. specs/Control.antt says the same of the table as a list.
+// The control table: each task's phase, then the count of accepted records. crates/theory/specs/Control.antt says the same of the table as a list.
 use crate::kinds::JOIN;
 use crate::kinds::START;
 ghost use mathlib.Core.Path.{_≡_};

@@ -1,4 +1,4 @@
-// Which records are refused, and by which row of the refusal table. specs/Acceptance.antt has the rows, and each test here is one of them.
+// Which records are refused, and by which row of the refusal table. crates/theory/specs/Acceptance.antt has the rows, and each test here is one of them.
 use crate::control::COUNT;
 use crate::control::is_live;
 use crate::control::is_unseen;
