@@ -1,7 +1,7 @@
 // Lines answered: each is fed, and what the report has for it is written.
 use crate::parsing::parse_line;
-use crate::reader::take_line;
 use crate::scan::rest_start;
+use crate::short::next_parsed;
 use crate::writing::put_answer;
 use crate::writing::put_refused;
 use checker::step_in_place;
@@ -10,12 +10,40 @@ ghost use mathlib.Core.Path.{_≡_};
 ghost use mathlib.Core.List.{[]};
 ghost use Prim.Native.Nat.{_<_, _≤_, _+_, _-_, _*_, _^_};
 ghost use lib.ListN.{length, take, drop};
+ghost use Rattle.theory.specs.declared.record.Record.{Record};
 ghost use Rattle.theory.specs.Step.{stateOf};
 ghost use Rattle.text.specs.Lines.{linesOf};
-ghost use Rattle.text.specs.LineForm.{parseOf};
+ghost use Rattle.text.specs.LineForm.{Sayable, parseOf};
 ghost use Rattle.text.specs.Wrote.{Wrote};
 ghost use Rattle.text.specs.Report.{saidFor, stateAfter};
 ghost use Rattle.text.specs.Pieces.{heldMost, kept, saidIn, afterPiece};
+
+// Feeds what a line says, and writes what the report has for it.
+pub(crate) fn put_parsed(
+    out: &mut [u8],
+    at: usize,
+    number: u64,
+    parsed: Parsed,
+    control: &mut [u32; 17],
+    last: &mut [u32; 2048],
+    clocks: &mut [u32; 1536],
+    fullclocks: &mut [u32; 1536],
+    sets: &mut [u8; 196608],
+    fullsets: &mut [u8; 196608],
+) -> usize
+    requires { ⌜ (at + 64 ≤ length (now out)) × ((r : Record) → parsed ≡ Parsed.Record r → Sayable r) ⌝ }
+    ensures wrote { λ to. ⌜ (to ≤ at + 64) × Wrote (now (out .entry)) at
+        (saidFor number (stateOf (now (control .entry)) (now (last .entry)) (now (clocks .entry)) (now (fullclocks .entry)) (now (sets .entry)) (now (fullsets .entry))) parsed)
+        (now (out .exit)) to ⌝ }
+    ensures fed { λ _. ⌜ stateOf (now (control .exit)) (now (last .exit)) (now (clocks .exit)) (now (fullclocks .exit)) (now (sets .exit)) (now (fullsets .exit))
+        ≡ stateAfter (stateOf (now (control .entry)) (now (last .entry)) (now (clocks .entry)) (now (fullclocks .entry)) (now (sets .entry)) (now (fullsets .entry))) parsed ⌝ }
+{
+    let Parsed::Record(r) = parsed else {
+        return put_refused(out, at, number, 1);
+    };
+    let answer = step_in_place(control, last, clocks, fullclocks, sets, fullsets, r);
+    put_answer(out, at, number, r, answer)
+}
 
 // Feeds one line and writes what the report has for it.
 pub(crate) fn put_line(
@@ -38,11 +66,18 @@ pub(crate) fn put_line(
         ≡ stateAfter (stateOf (now (control .entry)) (now (last .entry)) (now (clocks .entry)) (now (fullclocks .entry)) (now (sets .entry)) (now (fullsets .entry))) (parseOf (now (line .entry))) ⌝ }
 {
     let parsed = parse_line(line);
-    let Parsed::Record(r) = parsed else {
-        return put_refused(out, at, number, 1);
-    };
-    let answer = step_in_place(control, last, clocks, fullclocks, sets, fullsets, r);
-    put_answer(out, at, number, r, answer)
+    put_parsed(
+        out,
+        at,
+        number,
+        parsed,
+        control,
+        last,
+        clocks,
+        fullclocks,
+        sets,
+        fullsets,
+    )
 }
 
 // How far a piece is answered: the lines so far, the next place in the report, and where what is left of the piece begins.
@@ -81,12 +116,12 @@ pub(crate) fn put_lines(
     let end = rest_start(piece);
     while p < end {
         number += 1;
-        let line = take_line(piece, &mut p);
-        at = put_line(
+        let parsed = next_parsed(piece, &mut p);
+        at = put_parsed(
             out,
             at,
             number,
-            line,
+            parsed,
             control,
             last,
             clocks,

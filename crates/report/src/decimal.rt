@@ -49,7 +49,7 @@ fn read_digits(s: &[u8]) -> Number
 
 // What one or two bytes say as a decimal: the first counts ten times where it is not the last, and the number is then at least ten. There is
 // no branch on how many they are.
-fn read_short(s: &[u8]) -> Number
+pub(crate) fn read_short(s: &[u8]) -> Number
     requires { ⌜ (0 < length (now s)) × (length (now s) ≤ 2) ⌝ }
     ensures { λ r. ⌜ r ≡ decimalOf (now (s .entry)) ⌝ }
 {

@@ -5,6 +5,7 @@ mod entry;
 mod parsing;
 mod reader;
 mod scan;
+mod short;
 mod streaming;
 mod words;
 mod writing;

@@ -4,15 +4,18 @@ use crate::scan::place_of;
 use text::Number;
 ghost use mathlib.Core.Path.{_≡_};
 ghost use mathlib.Core.Bool.{cond};
-ghost use mathlib.Core.List.{_++_};
+ghost use mathlib.Core.List.{_∷_, _++_};
 ghost use Prim.Native.Nat.{_+_, _≤_, _<_};
 ghost use lib.Dec.{eqb};
 ghost use lib.ListN.{length, getD, take, drop};
 ghost use Rattle.theory.specs.Recording.{lossMark};
 ghost use Rattle.text.specs.Bytes.{indexOf, upTo, startsWith, isWord, little};
-ghost use Rattle.text.specs.LineForm.{fieldOf, kindOf, placeOf, words, wordOf, opName, space};
+ghost use Rattle.text.specs.LineForm.{fieldOf, kindOf, placeOf, words, wordOf, opName, taskName, space};
+ghost use Rattle.text.specs.Places.{Says};
 
 const SPACE: u8 = 32;
+
+const LOST: u8 = 8;
 
 // The part starts with the word.
 fn starts_with(word: &[u8], s: &[u8]) -> bool
@@ -121,13 +124,22 @@ fn eight(s: &[u8], p: usize) -> u64
         + wide(s[p + 7]) * 72_057_594_037_927_936
 }
 
-// The one kind that a line's first eight bytes can name, by the sum of its word's first and fourth letter. That it is so is not relied on.
+// Four bytes likewise.
+pub(crate) fn four(s: &[u8], p: usize) -> u64
+    requires { ⌜ p + 4 ≤ length (now s) ⌝ }
+    ensures { λ r. ⌜ r ≡ little (take 4 (drop p (now (s .entry)))) ⌝ }
+{
+    wide(s[p]) + wide(s[p + 1]) * 256 + wide(s[p + 2]) * 65_536 + wide(s[p + 3]) * 16_777_216
+}
+
+// The one kind that a line's first eight bytes can name, by a product of its word's letters. That it is so is not relied on. The product needs
+// the eight bytes as one number, so that they are loaded at once.
 fn guess(bytes: u64) -> u8
     ensures { λ r. ⌜ r ≤ lossMark ⌝ }
 {
-    let sum = (bytes / 16_777_216 + bytes / 281_474_976_710_656) % 16;
+    let sum = bytes / 16_777_216 * 323 / 4_294_967_296 % 16;
     byte_at(
-        b"\x08\x00\x00\x05\x00\x06\x00\x04\x07\x02\x00\x01\x03\x00\x00\x00",
+        b"\x03\x01\x08\x00\x05\x00\x00\x04\x00\x00\x00\x07\x06\x00\x00\x02",
         sum as usize,
     )
 }
@@ -140,6 +152,51 @@ pub(crate) fn op_end(kind: u8) -> usize
     byte_at(b"\x07\x08\x07\x07\x07\x06\x08\x07\x07", kind as usize) as usize
 }
 
+// The first eight bytes of a line for each kind: where the op and its space are seven, `task=` begins. The compiler makes a table of it.
+fn op_bytes(kind: u8) -> u64
+    requires { ⌜ kind ≤ lossMark ⌝ }
+    ensures { λ r. ⌜ r ≡ little (take 8 (opName ++ (wordOf kind ++ (space ∷ taskName)))) ⌝ }
+{
+    if kind == 0 {
+        return eight(b"op=read ", 0);
+    }
+    if kind == 1 {
+        return eight(b"op=write", 0);
+    }
+    if kind == 2 {
+        return eight(b"op=take ", 0);
+    }
+    if kind == 3 {
+        return eight(b"op=give ", 0);
+    }
+    if kind == 4 {
+        return eight(b"op=look ", 0);
+    }
+    if kind == 5 {
+        return eight(b"op=set t", 0);
+    }
+    if kind == 6 {
+        return eight(b"op=start", 0);
+    }
+    if kind == 7 {
+        return eight(b"op=join ", 0);
+    }
+    eight(b"op=lost ", 0)
+}
+
+// The kind whose op stands at a place, by eight bytes; 9 where that is not known.
+pub(crate) fn known_op(s: &[u8], p: usize) -> u8
+    requires { ⌜ p + 8 ≤ length (now s) ⌝ }
+    ensures { λ r. ⌜ (r ≤ lossMark → Says (now (s .entry)) p (opName ++ wordOf r)) ⌝ }
+{
+    let bytes = eight(s, p);
+    let k = guess(bytes);
+    if bytes != op_bytes(k) {
+        return 9;
+    }
+    k
+}
+
 // The same as `op_by_word`, without a branch on which of the nine it is.
 pub(crate) fn op(line: &[u8]) -> u8
     ensures { λ r. ⌜ r ≡ kindOf (upTo space (now (line .entry))) ⌝ }
@@ -147,13 +204,8 @@ pub(crate) fn op(line: &[u8]) -> u8
     if line.len() < 9 {
         return op_by_word(line);
     }
-    let bytes = eight(line, 0);
-    let k = guess(bytes);
-    let ops = eight(
-        b"op=read op=writeop=take op=give op=look op=set top=startop=join op=lost ",
-        8 * k as usize,
-    );
-    if bytes != ops {
+    let k = known_op(line, 0);
+    if LOST < k {
         return op_by_word(line);
     }
     if line[op_end(k)] != SPACE {

@@ -130,7 +130,7 @@ without-drop b s zero h = h
 without-drop b [] (suc n) h = h
 without-drop b (x ∷ s) (suc n) h = without-drop b s n (without-head b x s h .1)
 
-take-seam : (w s : List ℕ) → take (length w) (w ++ s) ≡ w
+pub take-seam : (w s : List ℕ) → take (length w) (w ++ s) ≡ w
 take-seam [] s = refl
 take-seam (x ∷ w) s = ap (λ (l : List ℕ). x ∷ l) (take-seam w s)
 
@@ -281,19 +281,19 @@ all-below k [] h e i = h
 all-below k (x ∷ s) h e zero = ltb-true x k (and-true (ltb x k) (allBelow k s) e .0)
 all-below k (x ∷ s) h e (suc i) = all-below k s h (and-true (ltb x k) (allBelow k s) e .1) i
 
-below-take : (k n : ℕ) (s : List ℕ) → 0 < k → Below k s → Below k (take n s)
+pub below-take : (k n : ℕ) (s : List ℕ) → 0 < k → Below k s → Below k (take n s)
 below-take k zero s h b i = h
 below-take k (suc n) [] h b i = h
 below-take k (suc n) (x ∷ s) h b zero = b zero
 below-take k (suc n) (x ∷ s) h b (suc i) = below-take k n s h (λ j. b (suc j)) i
 
-below-drop : (k n : ℕ) (s : List ℕ) → Below k s → Below k (drop n s)
+pub below-drop : (k n : ℕ) (s : List ℕ) → Below k s → Below k (drop n s)
 below-drop k zero s b i = b i
 below-drop k (suc n) [] b i = b i
 below-drop k (suc n) (x ∷ s) b i = below-drop k n s (λ j. b (suc j)) i
 
 -- the number has the bytes
-little-same : (w v : List ℕ) → length w ≡ length v → Below 256 w → Below 256 v → little w ≡ little v → w ≡ v
+pub little-same : (w v : List ℕ) → length w ≡ length v → Below 256 w → Below 256 v → little w ≡ little v → w ≡ v
 unfolding little
 little-same [] [] h a b e = refl
 little-same [] (y ∷ v) h a b e = absurd (omega arith)
@@ -313,12 +313,3 @@ little-next k s i j q h = rw (q, add-one i, drop-cons s i 0 h)
 pub little-none : (s : List ℕ) → little (take 0 s) ≡ 0
 unfolding little
 little-none s = refl
-
--- so eight bytes that make the same number are the same
-pub same-eight : (s t : List ℕ) (i j : ℕ) → i + 8 ≤ length s → j + 8 ≤ length t → Below 256 s → Below 256 t
-    → little (take 8 (drop i s)) ≡ little (take 8 (drop j t)) → take 8 (drop i s) ≡ take 8 (drop j t)
-same-eight s t i j h k a b e =
-    let p : length (take 8 (drop i s)) ≡ 8 = length-take-le 8 (drop i s) (rw (length-drop i s) (omega arith)) in
-    let q : length (take 8 (drop j t)) ≡ 8 = length-take-le 8 (drop j t) (rw (length-drop j t) (omega arith)) in
-    little-same (take 8 (drop i s)) (take 8 (drop j t)) (p ∙ sym q)
-    (below-take 256 8 (drop i s) (omega arith) (below-drop 256 i s a)) (below-take 256 8 (drop j t) (omega arith) (below-drop 256 j t b)) e

@@ -7,7 +7,9 @@ pub mod Reading
 -- The line form, both ways, and the lines of a report
 pub mod LineForm
 pub mod RoundTrip
+pub mod Places
 pub mod Ops
+pub mod Short
 pub mod Wrote
 pub mod Lengths
 pub mod ReportExamples

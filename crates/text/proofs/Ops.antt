@@ -1,34 +1,39 @@
 -- The op of a line by its first eight bytes, and where it and the task end. Assumes nothing.
-use mathlib.Core.Path.{_≡_, refl, sym, ap, ap₂, _∙_}
+use mathlib.Core.Path.{_≡_, refl, sym, ap, subst, _∙_}
 use mathlib.Core.Bool.{Bool, true, false, cond}
-use mathlib.Core.List.{List, [], _∷_, _++_}
-use Prim.Native.Nat.{ℕ, zero, suc, _+_, _*_, _≤_, _<_}
+use mathlib.Core.List.{List, [], _∷_, _++_, append-assoc}
+use Prim.Native.Nat.{ℕ, _+_, _≤_, _<_}
+use native.Mathlib.Nat.{zero-add}
 use native.Mathlib.Omega.{arith}
 use lib.Dec.{eqb}
 use lib.ListN.{length, getD, take, drop, take-append-drop}
-use lib.Seq.{drop-cons, length-take-le}
+use lib.Seq.{length-take-le}
 use borrow.Author.Tests.{eqb-true, eqb-false}
 use Rattle.theory.specs.Recording.{lossMark}
 use Rattle.text.specs.declared.parsed.Parsed.{Parsed}
 use Rattle.text.specs.Bytes.{indexOf, upTo, after, startsWith, little}
 use Rattle.text.specs.LineForm.{opName, taskName, wordOf, space, kindOf, restOf, parseOf}
-use Rattle.text.specs.Printing.{bytes}
-use Rattle.text.proofs.Bytes.{Without, before-seam, index-append, index-fits, found-at, passed-at, word-split, Below, allBelow, all-below, same-eight}
+use Rattle.text.specs.Places.{Says}
+use Rattle.text.proofs.Bytes.{Without, before-seam, index-append, index-fits, found-at, passed-at, word-split, Below, allBelow, all-below}
 use Rattle.text.proofs.LineForm.{rest-none}
+use Rattle.text.proofs.Places.{says-split, says-both, says-first, says-byte, says-little}
 use Rattle.text.proofs.RoundTrip.{each-kind, op-is, op-kind, op-whole}
 
 -- Tables
 
 -- the first eight bytes of a line for each kind; where the word and its space are seven, `task=` begins
-abbrev pub ops : List ℕ
-ops = bytes "op=read op=writeop=take op=give op=look op=set top=startop=join op=lost "
+abbrev pub firstEight : ℕ → List ℕ
+firstEight k = take 8 (opName ++ (wordOf k ++ (space ∷ taskName)))
 
-ops-below : Below 256 ops
+first-below : (k : ℕ) → k ≤ lossMark → Below 256 (firstEight k)
 unfolding allBelow
-ops-below = all-below 256 ops (omega arith) refl
+first-below k h = all-below 256 (firstEight k) (omega arith) (each-kind (λ k. allBelow 256 (firstEight k) ≡ true) refl refl refl refl refl refl refl refl refl k h)
 
-op-in-eight : (k : ℕ) → k ≤ lossMark → take (length (opName ++ wordOf k)) (take 8 (drop (8 * k) ops)) ≡ opName ++ wordOf k
-op-in-eight = each-kind (λ k. take (length (opName ++ wordOf k)) (take 8 (drop (8 * k) ops)) ≡ opName ++ wordOf k) refl refl refl refl refl refl refl refl refl
+first-long : (k : ℕ) → k ≤ lossMark → length (firstEight k) ≡ 8
+first-long = each-kind (λ k. length (firstEight k) ≡ 8) refl refl refl refl refl refl refl refl refl
+
+first-op : (k : ℕ) → k ≤ lossMark → take (length (opName ++ wordOf k)) (firstEight k) ≡ opName ++ wordOf k
+first-op = each-kind (λ k. take (length (opName ++ wordOf k)) (firstEight k) ≡ opName ++ wordOf k) refl refl refl refl refl refl refl refl refl
 
 pub op-long : (k : ℕ) → k ≤ lossMark → length (opName ++ wordOf k) ≤ 8
 op-long = each-kind (λ k. length (opName ++ wordOf k) ≤ 8) (omega arith) (omega arith) (omega arith) (omega arith) (omega arith) (omega arith) (omega arith) (omega arith) (omega arith)
@@ -40,9 +45,9 @@ ends = 7 ∷ 8 ∷ 7 ∷ 7 ∷ 7 ∷ 6 ∷ 8 ∷ 7 ∷ 7 ∷ []
 pub end-at : (k : ℕ) → k ≤ lossMark → getD ends k 0 ≡ length (opName ++ wordOf k)
 end-at = each-kind (λ k. getD ends k 0 ≡ length (opName ++ wordOf k)) refl refl refl refl refl refl refl refl refl
 
--- the kinds by the sum of two letters
+-- the kinds by a product of their letters
 abbrev pub guesses : List ℕ
-guesses = 8 ∷ 0 ∷ 0 ∷ 5 ∷ 0 ∷ 6 ∷ 0 ∷ 4 ∷ 7 ∷ 2 ∷ 0 ∷ 1 ∷ 3 ∷ 0 ∷ 0 ∷ 0 ∷ []
+guesses = 3 ∷ 1 ∷ 8 ∷ 0 ∷ 5 ∷ 0 ∷ 0 ∷ 4 ∷ 0 ∷ 0 ∷ 0 ∷ 7 ∷ 6 ∷ 0 ∷ 0 ∷ 2 ∷ []
 
 pub guess-known : Below 9 guesses
 unfolding allBelow
@@ -50,28 +55,25 @@ guess-known = all-below 9 guesses (omega arith) refl
 
 -- The op
 
-take-shorter : (n m : ℕ) (s : List ℕ) → n ≤ m → take n (take m s) ≡ take n s
-take-shorter zero m s h = refl
-take-shorter (suc n) zero s h = absurd (omega arith)
-take-shorter (suc n) (suc m) [] h = refl
-take-shorter (suc n) (suc m) (x ∷ s) h = ap (λ (l : List ℕ). x ∷ l) (take-shorter n m s (omega arith))
-
--- a word, and a space after it
-word-spaced : (w s : List ℕ) → take (length w) s ≡ w → length w < length s → getD s (length w) 0 ≡ space → s ≡ w ++ (space ∷ drop (suc (length w)) s)
-word-spaced w s q l g =
-    sym (take-append-drop (length w) s)
-    ∙ ap₂ (λ (x : List ℕ) (y : List ℕ). x ++ y) q (drop-cons s (length w) 0 l ∙ ap (λ (x : ℕ). x ∷ drop (suc (length w)) s) g)
-
--- eight bytes that are those of a kind, and a space where its op ends
-pub op-seen : (s : List ℕ) (k : ℕ) → k ≤ lossMark → Below 256 s → 8 < length s → little (take 8 (drop 0 s)) ≡ little (take 8 (drop (8 * k) ops))
-    → getD s (length (opName ++ wordOf k)) 0 ≡ space → k ≡ kindOf (upTo space s)
-op-seen s k h b l e g =
+-- eight bytes that are those of a kind
+pub says-op : (s : List ℕ) (at k : ℕ) → k ≤ lossMark → Below 256 s → at + 8 ≤ length s → little (take 8 (drop at s)) ≡ little (firstEight k)
+    → Says s at (opName ++ wordOf k)
+says-op s at k h b l e =
     let w : List ℕ = opName ++ wordOf k in
-    let n : length w ≤ 8 = op-long k h in
-    let p : take 8 s ≡ take 8 (drop (8 * k) ops) = same-eight s ops 0 (8 * k) (omega arith) (omega arith) b ops-below e in
-    let q : take (length w) s ≡ w = sym (take-shorter (length w) 8 s n) ∙ ap (take (length w)) p ∙ op-in-eight k h in
-    let r : s ≡ w ++ (space ∷ drop (suc (length w)) s) = word-spaced w s q (omega arith) g in
-    sym (ap (λ (t : List ℕ). kindOf (upTo space t)) r ∙ ap kindOf (before-seam space w (drop (suc (length w)) s) (op-whole k h)) ∙ op-kind k h)
+    let n : length (firstEight k) ≡ 8 = first-long k h in
+    let q : w ++ drop (length w) (firstEight k) ≡ firstEight k = ap (λ (t : List ℕ). t ++ drop (length w) (firstEight k)) (sym (first-op k h)) ∙ take-append-drop (length w) (firstEight k) in
+    let p : Says s at (firstEight k) = says-little s at (firstEight k) (omega arith) b (first-below k h) (ap (λ (i : ℕ). little (take i (drop at s))) n ∙ e) in
+    says-first s at w (drop (length w) (firstEight k)) (subst (Says s at) (sym q) p)
+
+-- and a space where its op ends
+pub op-seen : (s : List ℕ) (k : ℕ) → k ≤ lossMark → Says s 0 (opName ++ wordOf k) → length (opName ++ wordOf k) < length s
+    → getD s (length (opName ++ wordOf k)) 0 ≡ space → k ≡ kindOf (upTo space s)
+op-seen s k h e l g =
+    let w : List ℕ = opName ++ wordOf k in
+    let rest : List ℕ = drop (length (w ++ (space ∷ []))) s in
+    let p : Says s 0 (w ++ (space ∷ [])) = says-both s 0 (length w) w (space ∷ []) (omega arith) e (says-byte s (length w) space l g) in
+    let r : s ≡ w ++ (space ∷ rest) = says-split p ∙ ap (λ (i : ℕ). (w ++ (space ∷ [])) ++ drop i s) (zero-add (length (w ++ (space ∷ [])))) ∙ append-assoc w (space ∷ []) rest in
+    sym (ap (λ (t : List ℕ). kindOf (upTo space t)) r ∙ ap kindOf (before-seam space w rest (op-whole k h)) ∙ op-kind k h)
 
 -- an op of a kind ends at the first space
 pub op-ends : (s : List ℕ) (k : ℕ) → k ≡ kindOf (upTo space s) → k ≤ lossMark → length (opName ++ wordOf k) ≡ 0 + indexOf space s

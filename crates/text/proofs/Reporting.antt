@@ -7,6 +7,7 @@ use native.Mathlib.Omega.{arith}
 use lib.ListN.{length, take, drop, getD, length-append, length-drop, drop-of-length-le}
 use lib.Seq.{sets, length-sets, drop-drop, drop-cons, getD-drop}
 use Rattle.theory.specs.declared.state.State.{State}
+use Rattle.text.specs.declared.parsed.Parsed.{Parsed}
 use Rattle.text.specs.Lines.{lf, linesOf, lineEnd}
 use Rattle.text.specs.LineForm.{parseOf}
 use Rattle.text.specs.Wrote.{Wrote}
@@ -117,21 +118,21 @@ module _ {memory said : List ℕ} {start : ℕ} {last : Kept} {report piece : Li
       split : saidIn (kept s number []) (drop p piece) ≡ first ++ after
       split = ap (saidIn (kept s number [])) (from-place piece p e q h) ∙ line-said s number [] _ _ (line-without piece p e q) ∙ rw (add-one number)
 
-  -- the same for the line that the reader takes, and the place that it leaves
-  pub left-taken : {report′ line : List ℕ} {p′ to : ℕ} {s′ : State} → Left memory start said last report at s number piece p
+  -- the same for what the next line says, and the place after it
+  pub left-taken : {report′ : List ℕ} {parsed : Parsed} {p′ to : ℕ} {s′ : State} → Left memory start said last report at s number piece p
       → p + lineEnd (drop p piece) < length piece
-      → line ≡ lineAt piece p → p′ ≡ nextAt piece p
-      → Wrote report at (saidFor (number + 1) s (parseOf line)) report′ to
+      → parsed ≡ parseOf (lineAt piece p) → p′ ≡ nextAt piece p
+      → Wrote report at (saidFor (number + 1) s parsed) report′ to
       → to ≤ at + 64
-      → s′ ≡ stateAfter s (parseOf line)
+      → s′ ≡ stateAfter s parsed
       → Left memory start said last report′ to s′ (number + 1) piece p′
   left-taken {report′} {to = to} {s′} x h e f w l g =
-      let same = line-part piece p (p + lineEnd (drop p piece)) refl in
+      let same = e ∙ ap parseOf (sym (line-part piece p (p + lineEnd (drop p piece)) refl)) in
       subst (λ (j : ℕ). Left memory start said last report′ to s′ (number + 1) piece j) (sym (f ∙ next-place piece p h))
       (left-next x refl h
-      (subst (λ (z : List ℕ). Wrote report at (saidFor (number + 1) s (parseOf z)) report′ to) (e ∙ sym same) w)
+      (subst (λ (z : Parsed). Wrote report at (saidFor (number + 1) s z) report′ to) same w)
       l
-      (g ∙ ap (λ (z : List ℕ). stateAfter s (parseOf z)) (e ∙ sym same)))
+      (g ∙ ap (stateAfter s) same))
 
   -- what is left has no LF: it is held, and all is said
   pub left-said : Left memory start said last report at s number piece p → Without lf (drop p piece) → Wrote memory start said report at

@@ -54,7 +54,7 @@ op-is s h = picked (startsWith opName s) refl h
     picked true e h = word-split opName s e ∙ ap (λ (l : List ℕ). opName ++ l) (word-at words (drop 3 s) (omega arith))
     picked false e h = absurd (omega arith)
 
-act-text : (k t n : ℕ) → k < lossMark
+pub act-text : (k t n : ℕ) → k < lossMark
     → textOf (record { kind = k; task = t; on = n }) ≡ (opName ++ wordOf k) ++ (space ∷ ((taskName ++ decimal t) ++ (space ∷ (onName ++ decimal n))))
 unfolding textOf
 act-text k t n h = rw (ne-eqb k lossMark (omega arith))
@@ -176,14 +176,19 @@ field-read : (name : List ℕ) (n : ℕ) → n < 10 ^ digits → fieldOf name (n
 unfolding fieldOf
 field-read name n h = rw (word-starts name (decimal n), word-dropped name (decimal n)) (decimal-read n h)
 
-digits-whole : (k n : ℕ) → Without space (digitsOf k n)
+digits-whole : (b k n : ℕ) → b < 48 → Without b (digitsOf k n)
 unfolding digitsOf indexOf
-digits-whole zero n = refl
-digits-whole (suc k) n = without-cons space (lastDigit (n / 10 ^ k)) (digitsOf k n) (omega arith) (digits-whole k n)
+digits-whole b zero n h = refl
+digits-whole b (suc k) n h = without-cons b (lastDigit (n / 10 ^ k)) (digitsOf k n) (λ e. omega arith) (digits-whole b k n h)
+
+-- no byte below the digits is in the text of a number
+pub decimal-whole : (b n : ℕ) → b < 48 → Without b (decimal n)
+unfolding decimal
+decimal-whole b n h = digits-whole b (width n) n h
 
 task-whole : (n : ℕ) → Without space (taskName ++ decimal n)
-unfolding indexOf decimal
-task-whole n = without-append space taskName (decimal n) refl (digits-whole (width n) n)
+unfolding indexOf
+task-whole n = without-append space taskName (decimal n) refl (decimal-whole space n (omega arith))
 
 parse-words : (w s : List ℕ) → Without space w → parseOf (w ++ (space ∷ s)) ≡ restOf (kindOf w) s
 unfolding parseOf

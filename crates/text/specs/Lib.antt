@@ -10,3 +10,4 @@ pub mod TextDemands
 -- As memory: what is written, and how a reader moves
 pub mod Wrote
 pub mod Reading
+pub mod Places

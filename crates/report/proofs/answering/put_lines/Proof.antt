@@ -1,11 +1,12 @@
 -- The loop over the lines that end in a piece: what is written and what is left make what was to be said.
-use mathlib.Core.Path.{_≡_, _∙_, refl}
+use mathlib.Core.Path.{_≡_, _∙_, refl, sym}
 use mathlib.Core.List.{[]}
-use Prim.Native.Nat.{_≤_, _<_, _+_, _-_}
+use Prim.Native.Nat.{_≤_, _+_, _-_}
 use native.Mathlib.Omega.{arith}
 use lib.ListN.{length, drop}
 use Rattle.theory.specs.Step.{stateOf}
 use Rattle.text.specs.Pieces.{kept, saidIn, afterPiece}
+use Rattle.text.proofs.RoundTrip.{only-sayable}
 use Rattle.text.proofs.Wrote.{as-long}
 use Rattle.text.proofs.Reporting.{Left, left-start, left-room, left-taken, left-said, left-kept, ends-before, moved, past-last}
 use borrow.Author.Needs.{needs}
@@ -26,14 +27,19 @@ loop-holds c = (c .before .before .before .pre .0, omega arith, refl, left-start
 add-number : tie.Need-add-number Inv-loop μ-loop
 add-number c = omega (arith, c .before .loop .inv .1, c .before .before .before .before .before .pre .2, c .loop-test .taken, c .before .before .rest-start .ensures .0)
 
-put-line-requires : tie.Need-put-line-requires Inv-loop μ-loop
-put-line-requires c κs = left-room (c .before .before .before .before .before .before .before .before .before .before .loop .inv .3) refl (ends-before _ _ _ (c .before .before .before .before .before .before .before .before .before .loop-test .taken) (c .before .before .before .before .before .before .before .before .before .before .before .rest-start .ensures .0) (c .before .before .before .before .before .before .before .before .before .before .before .rest-start .ensures .2))
+next-parsed-requires : tie.Need-next-parsed-requires Inv-loop μ-loop
+next-parsed-requires c κs = c .before .before .loop .inv .0
+
+put-parsed-requires : tie.Need-put-parsed-requires Inv-loop μ-loop
+put-parsed-requires c κs =
+    let e = ends-before _ _ _ (c .before .before .before .before .before .before .before .before .before .loop-test .taken) (c .before .before .before .before .before .before .before .before .before .before .before .rest-start .ensures .0) (c .before .before .before .before .before .before .before .before .before .before .before .rest-start .ensures .2) in
+    (left-room (c .before .before .before .before .before .before .before .before .before .before .loop .inv .3) refl e, λ r q. only-sayable _ r (sym (c .before .before .before .before .before .before .before .next-parsed .ensures .0) ∙ q))
 
 loop-less : tie.Need-loop-less Inv-loop μ-loop
-loop-less c = let m = moved _ _ (ends-before _ _ _ (c .before .before .before .before .before .before .before .before .before .before .before .before .loop-test .taken) (c .before .before .before .before .before .before .before .before .before .before .before .before .before .before .rest-start .ensures .0) (c .before .before .before .before .before .before .before .before .before .before .before .before .before .before .rest-start .ensures .2)) (c .before .before .before .before .before .before .before .before .before .before .take-line .ensures .1) in omega (arith, m .0, m .1)
+loop-less c = let m = moved _ _ (ends-before _ _ _ (c .before .before .before .before .before .before .before .before .before .before .before .before .loop-test .taken) (c .before .before .before .before .before .before .before .before .before .before .before .before .before .before .rest-start .ensures .0) (c .before .before .before .before .before .before .before .before .before .before .before .before .before .before .rest-start .ensures .2)) (c .before .before .before .before .before .before .before .before .before .before .next-parsed .ensures .1) in omega (arith, m .0, m .1)
 
 loop-again : tie.Need-loop-again Inv-loop μ-loop
-loop-again c = let e = ends-before _ _ _ (c .before .before .before .before .before .before .before .before .before .before .before .before .loop-test .taken) (c .before .before .before .before .before .before .before .before .before .before .before .before .before .before .rest-start .ensures .0) (c .before .before .before .before .before .before .before .before .before .before .before .before .before .before .rest-start .ensures .2) in let m = moved _ _ e (c .before .before .before .before .before .before .before .before .before .before .take-line .ensures .1) in (m .1, omega (arith, m .0, m .1, c .before .before .before .before .before .before .before .before .before .before .before .before .before .loop .inv .1), as-long (c .before .before .put-line .ensures .0 .1) ∙ c .before .before .before .before .before .before .before .before .before .before .before .before .before .loop .inv .2, left-taken (c .before .before .before .before .before .before .before .before .before .before .before .before .before .loop .inv .3) e (c .before .before .before .before .before .before .before .before .before .before .take-line .ensures .0) (c .before .before .before .before .before .before .before .before .before .before .take-line .ensures .1) (c .before .before .put-line .ensures .0 .1) (c .before .before .put-line .ensures .0 .0) (c .before .before .put-line .ensures .1))
+loop-again c = let e = ends-before _ _ _ (c .before .before .before .before .before .before .before .before .before .before .before .before .loop-test .taken) (c .before .before .before .before .before .before .before .before .before .before .before .before .before .before .rest-start .ensures .0) (c .before .before .before .before .before .before .before .before .before .before .before .before .before .before .rest-start .ensures .2) in let m = moved _ _ e (c .before .before .before .before .before .before .before .before .before .before .next-parsed .ensures .1) in (m .1, omega (arith, m .0, m .1, c .before .before .before .before .before .before .before .before .before .before .before .before .before .loop .inv .1), as-long (c .before .before .put-parsed .ensures .0 .1) ∙ c .before .before .before .before .before .before .before .before .before .before .before .before .before .loop .inv .2, left-taken (c .before .before .before .before .before .before .before .before .before .before .before .before .before .loop .inv .3) e (c .before .before .before .before .before .before .before .before .before .before .next-parsed .ensures .0) (c .before .before .before .before .before .before .before .before .before .before .next-parsed .ensures .1) (c .before .before .put-parsed .ensures .0 .1) (c .before .before .put-parsed .ensures .0 .0) (c .before .before .put-parsed .ensures .1))
 
 returns : tie.Need-returns Inv-loop μ-loop
 returns c = let w = past-last _ _ _ (c .loop-test .left) (c .before .before .rest-start .ensures .1) in (left-said (c .before .loop .inv .3) w, (c .before .loop .inv .0, c .before .loop .inv .3 .room, left-kept (c .before .loop .inv .3) w))
@@ -41,4 +47,4 @@ returns c = let w = past-last _ _ _ (c .loop-test .left) (c .before .before .res
 pub put-lines-spec : {M : Type 1} → statement M
 put-lines-spec =
     tie.close (tie.spec
-    Inv-loop μ-loop (λ c κs. search needs) loop-holds add-number (λ c κs. search needs) put-line-requires loop-less loop-again (λ c. search needs) returns)
+    Inv-loop μ-loop (λ c κs. search needs) loop-holds add-number next-parsed-requires put-parsed-requires loop-less loop-again (λ c. search needs) returns)

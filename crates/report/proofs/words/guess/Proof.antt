@@ -1,5 +1,5 @@
 -- `report::words::guess`: the table has kinds only. Assumes nothing.
-use Prim.Native.Nat.{_+_, _/_, _%_}
+use Prim.Native.Nat.{_*_, _/_, _%_}
 use native.Mathlib.Omega.{arith}
 use borrow.Author.Needs.{needs}
 use Rattle.text.proofs.Ops.{guess-known}
@@ -9,7 +9,7 @@ use Rattle.report.proofs.words.guess.Tie as tie
 returns : tie.Need-returns
 returns c =
     let bytes = c .before .before .args .bytes in
-    omega (arith, c .byte-at .ensures, guess-known ((bytes / 16_777_216 + bytes / 281_474_976_710_656) % 16))
+    omega (arith, c .byte-at .ensures, guess-known (bytes / 16_777_216 * 323 / 4_294_967_296 % 16))
 
 pub guess-spec : {M : Type 1} → statement M
 guess-spec =

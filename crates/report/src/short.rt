@@ -1,0 +1,170 @@
+// Short lines, read in one pass: `op=W task=T on=N` with numbers of one or two digits, LF being found on the way. Nearly all lines are.
+use crate::decimal::read_short;
+use crate::parsing::parse_line;
+use crate::reader::take_line;
+use crate::words::four;
+use crate::words::known_op;
+use crate::words::op_end;
+use text::Number;
+use text::Parsed;
+use theory::Record;
+ghost use mathlib.Core.Path.{_≡_};
+ghost use mathlib.Core.Bool.{true};
+ghost use mathlib.Core.List.{List, _∷_};
+ghost use Prim.Native.Nat.{ℕ, _+_, _≤_, _<_};
+ghost use lib.ListN.{length};
+ghost use Rattle.theory.specs.Recording.{lossMark};
+ghost use Rattle.text.specs.LineForm.{space, taskName, onName, parseOf};
+ghost use Rattle.text.specs.Places.{Says, FieldAt};
+ghost use Rattle.text.specs.Reading.{lineAt, nextAt};
+
+const SPACE: u8 = 32;
+
+const LF: u8 = 10;
+
+const LOST: u8 = 8;
+
+const NONE: u8 = 9;
+
+// A word of four bytes stands at a place: the compiler makes one comparison of it.
+fn has_four(s: &[u8], p: usize, word: &[u8]) -> bool
+    requires { ⌜ (p + 4 ≤ length (now s)) × (length (now word) ≡ 4) ⌝ }
+    ensures { λ r. ⌜ (r ≡ true → Says (now (s .entry)) p (now (word .entry))) ⌝ }
+{
+    four(s, p) == four(word, 0)
+}
+
+fn one_or_two(b: u8, end: u8) -> usize
+    ensures { λ r. ⌜ (0 < r) × (r ≤ 2) ⌝ }
+{
+    if b == end { 1 } else { 2 }
+}
+
+// The number of a field, and how many bytes the field has; 0 where nothing is known of it.
+struct Field {
+    value: u32,
+    len: usize,
+}
+
+// The field whose name stands at a place in so many bytes, if its number has one or two digits: one where the byte `end` follows the first.
+fn field_after(s: &[u8], p: usize, name: usize, end: u8) -> Field
+    requires { ⌜ p + name + 2 ≤ length (now s) ⌝ }
+    ensures { λ r. ⌜ (r .len ≤ name + 2) × (0 < r .len → (w : List ℕ) → length w ≡ name → Says (now (s .entry)) p w → FieldAt (now (s .entry)) p w (r .value) (r .len)) ⌝ }
+{
+    let d = p + name;
+    let n = one_or_two(s[d + 1], end);
+    let Number::Value(value) = read_short(&s[d..d + n]) else {
+        return Field { value: 0, len: 0 };
+    };
+    Field {
+        value,
+        len: name + n,
+    }
+}
+
+// `task=T` at a place, after a space.
+fn task_at(s: &[u8], p: usize) -> Field
+    requires { ⌜ p + 8 ≤ length (now s) ⌝ }
+    ensures { λ r. ⌜ (r .len ≤ 8) × (0 < r .len → FieldAt (now (s .entry)) p (space ∷ taskName) (r .value) (r .len)) ⌝ }
+{
+    if !has_four(s, p, b" tas") {
+        return Field { value: 0, len: 0 };
+    }
+    if !has_four(s, p + 2, b"ask=") {
+        return Field { value: 0, len: 0 };
+    }
+    field_after(s, p, 6, SPACE)
+}
+
+// `on=N` at a place, after a space.
+fn on_at(s: &[u8], p: usize) -> Field
+    requires { ⌜ p + 6 ≤ length (now s) ⌝ }
+    ensures { λ r. ⌜ (r .len ≤ 6) × (0 < r .len → FieldAt (now (s .entry)) p (space ∷ onName) (r .value) (r .len)) ⌝ }
+{
+    if !has_four(s, p, b" on=") {
+        return Field { value: 0, len: 0 };
+    }
+    field_after(s, p, 4, LF)
+}
+
+// What a short line says, and the place after it. Kind 9 says nothing.
+struct Short {
+    kind: u8,
+    task: u32,
+    on: u32,
+    to: usize,
+}
+
+fn not_short() -> Short
+    ensures { λ r. ⌜ r .kind ≡ 9 ⌝ }
+{
+    Short {
+        kind: NONE,
+        task: 0,
+        on: 0,
+        to: 0,
+    }
+}
+
+// The line that begins at a place, if it is short and 24 bytes can be read.
+fn short_line(s: &[u8], p: usize) -> Short
+    requires { ⌜ p ≤ length (now s) ⌝ }
+    ensures { λ r. ⌜ (r .kind < lossMark → (parseOf (lineAt (now (s .entry)) p) ≡ Parsed.Record (record { kind = r .kind; task = r .task; on = r .on }))
+        × (nextAt (now (s .entry)) p ≡ r .to)) ⌝ }
+{
+    if s.len() - p < 24 {
+        return not_short();
+    }
+    let kind = known_op(s, p);
+    if LOST <= kind {
+        return not_short();
+    }
+    let e = p + op_end(kind);
+    let task = task_at(s, e);
+    if task.len == 0 {
+        return not_short();
+    }
+    let q = e + task.len;
+    let on = on_at(s, q);
+    if on.len == 0 {
+        return not_short();
+    }
+    let end = q + on.len;
+    if s[end] != LF {
+        return not_short();
+    }
+    let to = end + 1;
+    Short {
+        kind,
+        task: task.value,
+        on: on.value,
+        to,
+    }
+}
+
+// The record that the next line says, if it is of the text form. The place moves past the line and its LF.
+pub(crate) fn next_parsed(piece: &[u8], p: &mut usize) -> Parsed
+    requires { ⌜ now p ≤ length (now piece) ⌝ }
+    ensures { λ r. ⌜ (r ≡ parseOf (lineAt (now (piece .entry)) (now (p .entry))))
+        × (now (p .exit) ≡ nextAt (now (piece .entry)) (now (p .entry))) ⌝ }
+{
+    let s = short_line(piece, *p);
+    if s.kind < LOST {
+        *p = s.to;
+        return Parsed::Record(Record {
+            kind: s.kind,
+            task: s.task,
+            on: s.on,
+        });
+    }
+    let line = take_line(piece, p);
+    // made anew, so that no record is copied where the line is short
+    let Parsed::Record(r) = parse_line(line) else {
+        return Parsed::Nothing;
+    };
+    Parsed::Record(Record {
+        kind: r.kind,
+        task: r.task,
+        on: r.on,
+    })
+}
