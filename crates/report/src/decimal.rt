@@ -73,12 +73,6 @@ pub(crate) fn read_short(s: &[u8]) -> Number
 pub(crate) fn decimal(s: &[u8]) -> Number
     ensures { λ r. ⌜ r ≡ decimalOf (now (s .entry)) ⌝ }
 {
-    if s.len() == 0 {
-        return Number::Nothing;
-    }
-    if s.len() <= 2 {
-        return read_short(s);
-    }
     if is_plain(s) {
         return read_digits(s);
     }

@@ -1,8 +1,10 @@
 // A line as a record: `op=W task=T on=N`, or `op=lost tasks=M`.
+use crate::scan::place_of;
+use crate::words::LOST;
+use crate::words::SPACE;
 use crate::words::field;
 use crate::words::op;
 use crate::words::op_end;
-use crate::words::task_end;
 use text::Number;
 use text::Parsed;
 use theory::Record;
@@ -10,8 +12,6 @@ ghost use mathlib.Core.Path.{_≡_};
 ghost use Prim.Native.Nat.{ℕ, suc, _≤_, _<_};
 ghost use lib.ListN.{length, drop};
 ghost use Rattle.text.specs.LineForm.{actOf, markOf, parseOf};
-
-const LOST: u8 = 8;
 
 // The place after a space; the end where there is none.
 fn past(s: &[u8], at: usize) -> usize
@@ -25,7 +25,7 @@ fn past(s: &[u8], at: usize) -> usize
 fn act(kind: u8, s: &[u8]) -> Parsed
     ensures { λ r. ⌜ r ≡ actOf kind (now (s .entry)) ⌝ }
 {
-    let e = task_end(s);
+    let e = place_of(s, 0, SPACE);
     let Number::Value(task) = field(b"task=", &s[..e]) else {
         return Parsed::Nothing;
     };

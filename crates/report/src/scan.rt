@@ -8,7 +8,7 @@ ghost use Rattle.text.specs.Bytes.{indexOf};
 ghost use Rattle.text.specs.Lines.{lf, lineEnd, linesOf, lfBit, lfCount};
 ghost use Rattle.text.specs.Reading.{lineAt, placeAfter};
 
-const LF: u8 = 10;
+pub(crate) const LF: u8 = 10;
 
 fn one_if_lf(b: u8) -> u8
     ensures { λ r. ⌜ (r ≡ lfBit b) × (r ≤ 1) ⌝ }

@@ -2,6 +2,9 @@
 use crate::decimal::read_short;
 use crate::parsing::parse_line;
 use crate::reader::take_line;
+use crate::scan::LF;
+use crate::words::LOST;
+use crate::words::SPACE;
 use crate::words::four;
 use crate::words::known_op;
 use crate::words::op_end;
@@ -17,12 +20,6 @@ ghost use Rattle.theory.specs.Recording.{lossMark};
 ghost use Rattle.text.specs.LineForm.{space, taskName, onName, parseOf};
 ghost use Rattle.text.specs.Places.{Says, FieldAt};
 ghost use Rattle.text.specs.Reading.{lineAt, nextAt};
-
-const SPACE: u8 = 32;
-
-const LF: u8 = 10;
-
-const LOST: u8 = 8;
 
 const NONE: u8 = 9;
 

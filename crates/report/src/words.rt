@@ -3,19 +3,18 @@ use crate::decimal::decimal;
 use crate::scan::place_of;
 use text::Number;
 ghost use mathlib.Core.Path.{_≡_};
-ghost use mathlib.Core.Bool.{cond};
 ghost use mathlib.Core.List.{_∷_, _++_};
 ghost use Prim.Native.Nat.{_+_, _≤_, _<_};
-ghost use lib.Dec.{eqb};
 ghost use lib.ListN.{length, getD, take, drop};
 ghost use Rattle.theory.specs.Recording.{lossMark};
-ghost use Rattle.text.specs.Bytes.{indexOf, upTo, startsWith, isWord, little};
+ghost use Rattle.text.specs.Bytes.{upTo, startsWith, isWord, little};
 ghost use Rattle.text.specs.LineForm.{fieldOf, kindOf, placeOf, words, wordOf, opName, taskName, space};
 ghost use Rattle.text.specs.Places.{Says};
 
-const SPACE: u8 = 32;
+pub(crate) const SPACE: u8 = 32;
 
-const LOST: u8 = 8;
+// The kind of a loss mark, the last; the kinds below it are acts.
+pub(crate) const LOST: u8 = 8;
 
 // The part starts with the word.
 fn starts_with(word: &[u8], s: &[u8]) -> bool
@@ -89,7 +88,7 @@ pub(crate) fn kind(s: &[u8]) -> u8
 }
 
 // The kind that the first word of a line names; 9 where it names none.
-fn op_by_word(line: &[u8]) -> u8
+pub(crate) fn op(line: &[u8]) -> u8
     ensures { λ r. ⌜ r ≡ kindOf (upTo space (now (line .entry))) ⌝ }
 {
     let e = place_of(line, 0, SPACE);
@@ -195,49 +194,6 @@ pub(crate) fn known_op(s: &[u8], p: usize) -> u8
         return 9;
     }
     k
-}
-
-// The same as `op_by_word`, without a branch on which of the nine it is.
-pub(crate) fn op(line: &[u8]) -> u8
-    ensures { λ r. ⌜ r ≡ kindOf (upTo space (now (line .entry))) ⌝ }
-{
-    if line.len() < 9 {
-        return op_by_word(line);
-    }
-    let k = known_op(line, 0);
-    if LOST < k {
-        return op_by_word(line);
-    }
-    if line[op_end(k)] != SPACE {
-        return op_by_word(line);
-    }
-    k
-}
-
-fn six_or_seven(b: u8) -> usize
-    ensures { λ r. ⌜ r ≡ cond (eqb b space) 6 7 ⌝ }
-{
-    if b == SPACE { 6 } else { 7 }
-}
-
-// Where the first space stands; the length where there is none. After `task=` and one or two bytes it is found without a branch on how many.
-pub(crate) fn task_end(s: &[u8]) -> usize
-    ensures { λ r. ⌜ (r ≡ 0 + indexOf space (now (s .entry))) × (r ≤ length (now (s .entry))) ⌝ }
-{
-    if s.len() < 8 {
-        return place_of(s, 0, SPACE);
-    }
-    if !starts_with(b"task=", s) {
-        return place_of(s, 0, SPACE);
-    }
-    if s[5] == SPACE {
-        return 5;
-    }
-    let e = six_or_seven(s[6]);
-    if s[e] != SPACE {
-        return place_of(s, 0, SPACE);
-    }
-    e
 }
 
 // The number after the name of a field.

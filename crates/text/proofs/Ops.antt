@@ -1,4 +1,4 @@
--- The op of a line by its first eight bytes, and where it and the task end. Assumes nothing.
+-- The op of a line by its first eight bytes, and where it ends. Assumes nothing.
 use mathlib.Core.Path.{_≡_, refl, sym, ap, subst, _∙_}
 use mathlib.Core.Bool.{Bool, true, false, cond}
 use mathlib.Core.List.{List, [], _∷_, _++_, append-assoc}
@@ -65,16 +65,6 @@ says-op s at k h b l e =
     let p : Says s at (firstEight k) = says-little s at (firstEight k) (omega arith) b (first-below k h) (ap (λ (i : ℕ). little (take i (drop at s))) n ∙ e) in
     says-first s at w (drop (length w) (firstEight k)) (subst (Says s at) (sym q) p)
 
--- and a space where its op ends
-pub op-seen : (s : List ℕ) (k : ℕ) → k ≤ lossMark → Says s 0 (opName ++ wordOf k) → length (opName ++ wordOf k) < length s
-    → getD s (length (opName ++ wordOf k)) 0 ≡ space → k ≡ kindOf (upTo space s)
-op-seen s k h e l g =
-    let w : List ℕ = opName ++ wordOf k in
-    let rest : List ℕ = drop (length (w ++ (space ∷ []))) s in
-    let p : Says s 0 (w ++ (space ∷ [])) = says-both s 0 (length w) w (space ∷ []) (omega arith) e (says-byte s (length w) space l g) in
-    let r : s ≡ w ++ (space ∷ rest) = says-split p ∙ ap (λ (i : ℕ). (w ++ (space ∷ [])) ++ drop i s) (zero-add (length (w ++ (space ∷ [])))) ∙ append-assoc w (space ∷ []) rest in
-    sym (ap (λ (t : List ℕ). kindOf (upTo space t)) r ∙ ap kindOf (before-seam space w rest (op-whole k h)) ∙ op-kind k h)
-
 -- an op of a kind ends at the first space
 pub op-ends : (s : List ℕ) (k : ℕ) → k ≡ kindOf (upTo space s) → k ≤ lossMark → length (opName ++ wordOf k) ≡ 0 + indexOf space s
 op-ends s k e h =
@@ -84,37 +74,3 @@ op-ends s k e h =
 pub no-op-read : (s : List ℕ) (k : ℕ) → k ≡ kindOf (upTo space s) → lossMark < k → parseOf s ≡ Parsed.Nothing
 unfolding parseOf
 no-op-read s k e h = ap (λ (j : ℕ). restOf j (after space s)) (sym e) ∙ rest-none k (after space s) (omega arith) (λ q. omega arith)
-
--- The task
-
-task-whole : Without space taskName
-unfolding indexOf
-task-whole = refl
-
-after-name : (s : List ℕ) → startsWith taskName s ≡ true → indexOf space s ≡ 5 + indexOf space (drop 5 s)
-after-name s e = ap (indexOf space) (word-split taskName s e) ∙ index-append space taskName (drop 5 s) task-whole
-
-pub task-empty : (s : List ℕ) → startsWith taskName s ≡ true → 5 < length s → getD s 5 0 ≡ space → 5 ≡ 0 + indexOf space s
-task-empty s e h g = omega (arith, after-name s e, found-at space s 5 h g)
-
-pub within-seven : (b : ℕ) → cond (eqb b space) 6 7 ≤ 7
-within-seven b = picked (eqb b space)
-  where
-    picked : (t : Bool) → cond t 6 7 ≤ 7
-    picked true = omega arith
-    picked false = omega arith
-
--- one or two bytes after the name, and a space
-pub task-ends : (s : List ℕ) → startsWith taskName s ≡ true → 8 ≤ length s → (getD s 5 0 ≡ space → ⊥) → (e : ℕ) → e ≡ cond (eqb (getD s 6 0) space) 6 7
-    → getD s e 0 ≡ space → e ≡ 0 + indexOf space s
-task-ends s w l d e q g = picked (eqb (getD s 6 0) space) refl q
-  where
-    from-six : indexOf space s ≡ 6 + indexOf space (drop 6 s)
-    from-six = after-name s w ∙ passed-at space s 5 (omega arith) d
-
-    picked : (t : Bool) → eqb (getD s 6 0) space ≡ t → e ≡ cond t 6 7 → e ≡ 0 + indexOf space s
-    picked true f p = omega (arith, from-six, found-at space s 6 (omega arith) (eqb-true (getD s 6 0) space f))
-    picked false f p =
-        let z : e ≡ 7 = p in
-        let h : getD s 7 0 ≡ space = rw z at g in
-        omega (arith, from-six, passed-at space s 6 (omega arith) (eqb-false (getD s 6 0) space f), found-at space s 7 (omega arith) h)

@@ -7,14 +7,14 @@ use Rattle.report.proofs.parsing.act.Statement.{statement}
 use Rattle.report.proofs.parsing.act.Tie as tie
 
 slice-aggregate-field-2 : tie.Need-slice-aggregate-field-2
-slice-aggregate-field-2 c = sym (length-take-le _ _ (c .before .before .task-end .ensures .1))
+slice-aggregate-field-2 c = sym (length-take-le _ _ (c .before .before .place-of .ensures .1))
 
 returns : tie.Need-returns
 returns c =
     let f = c .before .before in
     let w = f .before .before .before in
     let a = w .before .before .args in
-    sym (act-no-task (a .s .now) (w .task-end .result) 0 (w .task-end .ensures .0) (a .kind) (sym (f .field .ensures) ∙ c .enum-told .given .1))
+    sym (act-no-task (a .s .now) (w .place-of .result) 0 (w .place-of .ensures .0) (a .kind) (sym (f .field .ensures) ∙ c .enum-told .given .1))
 
 returns-2 : tie.Need-returns-2
 returns-2 c =
@@ -23,7 +23,7 @@ returns-2 c =
     let f = t .before .before in
     let w = f .before .before .before in
     let a = w .before .before .args in
-    sym (act-no-on (a .s .now) (w .task-end .result) (n .past .result) (w .task-end .ensures .0) (n .past .ensures .0) (a .kind) _
+    sym (act-no-on (a .s .now) (w .place-of .result) (n .past .result) (w .place-of .ensures .0) (n .past .ensures .0) (a .kind) _
     (sym (f .field .ensures) ∙ t .task .given .1) (sym (c .before .before .field2 .ensures) ∙ c .enum-told2 .given .1))
 
 returns-3 : tie.Need-returns-3
@@ -33,7 +33,7 @@ returns-3 c =
     let f = t .before .before in
     let w = f .before .before .before in
     let a = w .before .before .args in
-    sym (act-whole (a .s .now) (w .task-end .result) (n .past .result) (w .task-end .ensures .0) (n .past .ensures .0) (a .kind) _ _
+    sym (act-whole (a .s .now) (w .place-of .result) (n .past .result) (w .place-of .ensures .0) (n .past .ensures .0) (a .kind) _ _
     (sym (f .field .ensures) ∙ t .task .given .1) (sym (c .before .before .before .field2 .ensures) ∙ c .before .on .given .1))
 
 pub act-spec : {M : Type 1} → statement M

@@ -1,21 +1,21 @@
--- `report::words::op`: an op that stands at the start, and a space where it ends, leave no other kind. Assumes nothing.
+-- `report::words::op`: the kind of what stands before the first space. Assumes nothing.
+use mathlib.Core.Path.{sym, ap, _∙_}
+use lib.Seq.{length-take-le}
 use borrow.Author.Needs.{needs}
-use native.Mathlib.Omega.{arith}
-use Rattle.text.proofs.Ops.{op-long, op-seen}
+use Rattle.text.specs.LineForm.{kindOf}
+use Rattle.text.proofs.LineForm.{cut-before}
 use Rattle.report.proofs.words.op.Statement.{statement}
 use Rattle.report.proofs.words.op.Tie as tie
 
-shared-slice-read-if3 : tie.Need-shared-slice-read-if3
-shared-slice-read-if3 c = omega (arith, c .before .op-end .ensures, op-long (c .before .before .before .known-op .result) (c .before .before .if2 .left), c .before .before .before .before .if1 .left)
+slice-aggregate-kind : tie.Need-slice-aggregate-kind
+slice-aggregate-kind c = sym (length-take-le _ _ (c .before .place-of .ensures .1))
 
-returns-4 : tie.Need-returns-4
-returns-4 c =
-    let k = c .before .before .before .before .known-op in
-    let h = c .before .before .before .if2 .left in
-    op-seen (c .before .before .before .before .before .before .before .args .line .now) (k .result) h (k .ensures h) (omega (arith, op-long (k .result) h, c .before .before .before .before .before .if1 .left)) (rw (c .before .before .op-end .ensures) at (c .if3 .left))
+returns : tie.Need-returns
+returns c =
+    let w = c .before .before in
+    c .kind .ensures ∙ ap kindOf (cut-before (w .before .before .args .line .now) (w .place-of .result) 0 (w .place-of .ensures .0))
 
 pub op-spec : {M : Type 1} → statement M
 op-spec =
     tie.close (tie.spec
-    (λ c κs. search needs) (λ c. search needs) (λ c κs. search needs) (λ c κs. search needs) (λ c. search needs)
-    (λ c κs. search needs) shared-slice-read-if3 (λ c κs. search needs) (λ c. search needs) returns-4)
+    (λ c κs. search needs) slice-aggregate-kind (λ c κs. search needs) returns)
