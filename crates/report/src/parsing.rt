@@ -9,7 +9,7 @@ use text::Number;
 use text::Parsed;
 use theory::Record;
 ghost use mathlib.Core.Path.{_≡_};
-ghost use Prim.Native.Nat.{ℕ, suc, _≤_, _<_};
+ghost use Prim.Native.Nat.{suc, _≤_, _<_};
 ghost use lib.ListN.{length, drop};
 ghost use Rattle.text.specs.LineForm.{actOf, markOf, parseOf};
 

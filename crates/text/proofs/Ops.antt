@@ -1,23 +1,20 @@
 -- The op of a line by its first eight bytes, and where it ends. Assumes nothing.
 use mathlib.Core.Path.{_≡_, refl, sym, ap, subst, _∙_}
-use mathlib.Core.Bool.{Bool, true, false, cond}
-use mathlib.Core.List.{List, [], _∷_, _++_, append-assoc}
+use mathlib.Core.Bool.{true}
+use mathlib.Core.List.{List, [], _∷_, _++_}
 use Prim.Native.Nat.{ℕ, _+_, _≤_, _<_}
-use native.Mathlib.Nat.{zero-add}
 use native.Mathlib.Omega.{arith}
-use lib.Dec.{eqb}
 use lib.ListN.{length, getD, take, drop, take-append-drop}
 use lib.Seq.{length-take-le}
-use borrow.Author.Tests.{eqb-true, eqb-false}
 use Rattle.theory.specs.Recording.{lossMark}
 use Rattle.text.specs.declared.parsed.Parsed.{Parsed}
-use Rattle.text.specs.Bytes.{indexOf, upTo, after, startsWith, little}
+use Rattle.text.specs.Bytes.{indexOf, upTo, after, little}
 use Rattle.text.specs.LineForm.{opName, taskName, wordOf, space, kindOf, restOf, parseOf}
 use Rattle.text.specs.Places.{Says}
-use Rattle.text.proofs.Bytes.{Without, before-seam, index-append, index-fits, found-at, passed-at, word-split, Below, allBelow, all-below}
+use Rattle.text.proofs.Bytes.{index-fits, Below, allBelow, all-below}
 use Rattle.text.proofs.LineForm.{rest-none}
-use Rattle.text.proofs.Places.{says-split, says-both, says-first, says-byte, says-little}
-use Rattle.text.proofs.RoundTrip.{each-kind, op-is, op-kind, op-whole}
+use Rattle.text.proofs.Places.{says-first, says-little}
+use Rattle.text.proofs.RoundTrip.{each-kind, op-is}
 
 -- Tables
 

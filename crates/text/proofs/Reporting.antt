@@ -1,7 +1,7 @@
 -- The loop over the lines of a piece: what is written and what is still to be said make what was to be said. Assumes nothing.
 use mathlib.Core.Path.{_≡_, refl, sym, _∙_, ap, subst}
 use mathlib.Core.List.{List, [], _∷_, _++_}
-use Prim.Native.Nat.{ℕ, zero, suc, _+_, _-_, _*_, _≤_, _<_}
+use Prim.Native.Nat.{ℕ, suc, _+_, _-_, _*_, _≤_, _<_}
 use native.Mathlib.Numerals.{add-one}
 use native.Mathlib.Omega.{arith}
 use lib.ListN.{length, take, drop, getD, length-append, length-drop, drop-of-length-le}
@@ -12,7 +12,7 @@ use Rattle.text.specs.Lines.{lf, linesOf, lineEnd}
 use Rattle.text.specs.LineForm.{parseOf}
 use Rattle.text.specs.Wrote.{Wrote}
 use Rattle.text.specs.Report.{saidFor, stateAfter}
-use Rattle.text.specs.Pieces.{Kept, kept, heldMost, saidIn, afterPiece}
+use Rattle.text.specs.Pieces.{Kept, kept, saidIn, afterPiece}
 use Rattle.text.proofs.Bytes.{Without, index-none, split-first, before-without, index-bound, without-cons, without-drop}
 use Rattle.text.specs.Reading.{lineAt, nextAt}
 use Rattle.text.proofs.Reading.{line-part, next-place}

@@ -1,6 +1,6 @@
 -- What a step may count on once no row applies, and what its definition comes to in either case. Assumes nothing.
 use mathlib.Core.Path.{_≡_, refl, sym, _∙_}
-use mathlib.Core.Bool.{Bool, true, false}
+use mathlib.Core.Bool.{true, false}
 use mathlib.Core.List.{List}
 use Prim.Native.Nat.{ℕ, zero, suc, _<_}
 use native.Mathlib.Omega.{arith}
@@ -11,16 +11,12 @@ use Rattle.theory.specs.declared.answer.Answer.the-variants.{Refused}
 use Rattle.theory.specs.declared.state.ClockState.{ClockState}
 use Rattle.theory.specs.declared.state.SetState.{SetState}
 use Rattle.theory.specs.declared.state.State.{State}
-use Rattle.theory.specs.declared.state.ClockStepped.{ClockStepped}
-use Rattle.theory.specs.declared.state.SetStepped.{SetStepped}
-use Rattle.theory.specs.declared.state.Stepped.{Stepped}
-use Rattle.theory.specs.Recording.{seriesOf}
 use Rattle.theory.specs.Acceptance.{Fitting}
 use Rattle.theory.specs.Control.{liveIn, unseenIn, countIn, refusalIn}
 use Rattle.theory.specs.declared.masks.Masks.{Masks}
 use Rattle.theory.specs.Reckonings.{masksBy}
 use Rattle.theory.specs.Step.{masksUnless, clockStepBy, setStepBy, stepBy, masksOfClocks, masksOfSets, sameMasks, accepted, stepOf}
-use Rattle.theory.proofs.Acceptance.{Passed, passed}
+use Rattle.theory.proofs.Acceptance.{passed}
 
 -- an accepted record's numbers are in their ranges, and there is room for it
 pub record Accepts (control : List ℕ) (r : Record) : Type 0 where

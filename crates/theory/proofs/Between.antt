@@ -1,12 +1,12 @@
 -- Arrived records in a filled list: where two of them stand, and what stands between them there. Assumes nothing.
-use mathlib.Core.Logic.{_↔_, _⊎_, inl, inr}
-use mathlib.Core.Path.{_≡_, refl, sym, ap, subst}
+use mathlib.Core.Logic.{_↔_}
+use mathlib.Core.Path.{_≡_, refl, ap}
 use mathlib.Core.List.{List, [], _∷_, _++_}
-use Prim.Native.Nat.{ℕ, zero, suc, _+_, _≤_, _<_, zero-le, suc-le-suc}
-use native.Mathlib.Nat.{le-refl, le-of-suc-le-suc, not-suc-le-zero, zero-add, suc-add}
+use Prim.Native.Nat.{ℕ, zero, suc, _+_, _≤_, zero-le, suc-le-suc}
+use native.Mathlib.Nat.{le-of-suc-le-suc, not-suc-le-zero, zero-add, suc-add}
 use native.Mathlib.Omega.{arith}
 use lib.ListN.{length}
-use Rattle.theory.specs.Recording.{Op, Event, act, lost, At}
+use Rattle.theory.specs.Recording.{Op, Event, act}
 use Rattle.theory.specs.Order.{HappensBefore}
 use Rattle.theory.specs.Completion.{Filler, Every, Filled, done, keep, fill, Completion, place, fillWith}
 use Rattle.theory.proofs.Leads.{Leads, Is, is, filled-is, filled-with}

@@ -2,7 +2,7 @@
 -- recording as it arrived and the fullest completion, which are completions themselves, bound all others. Assumes nothing.
 use mathlib.Core.Logic.{_↔_}
 use mathlib.Core.List.{List}
-use Prim.Native.Nat.{ℕ, suc, _≤_, _<_}
+use Prim.Native.Nat.{ℕ, suc, _<_}
 use native.Mathlib.Omega.{arith}
 use Rattle.theory.specs.Recording.{Op, Event, act, At}
 use Rattle.theory.specs.Order.{HappensBefore}

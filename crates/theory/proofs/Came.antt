@@ -1,11 +1,10 @@
 -- Order from chosen events of a recording: to which nodes it has come, and how one more act or mark at the end moves it on.
 -- Clocks choose the records of a task, sets the access that a slot keeps; both follow from the same law. Assumes nothing.
-use mathlib.Core.Path.{_≡_, refl, sym, subst}
 use mathlib.Core.Logic.{_↔_, _⊎_, inl, inr}
 use mathlib.Core.List.{List, [], _∷_, _++_}
-use Prim.Native.Nat.{ℕ, zero, suc, _≤_, _<_, suc-le-suc, zero-le}
+use Prim.Native.Nat.{ℕ, suc, _≤_, _<_, suc-le-suc, zero-le}
 use lib.ListN.{length}
-use Rattle.theory.specs.Recording.{Event, act, lost}
+use Rattle.theory.specs.Recording.{Event}
 use Rattle.theory.proofs.Carry.{Node, due, acted, Tells}
 use Rattle.theory.proofs.Reach.{Filling, Flow, Reach, reach-start, reach-next, reach-acted}
 use Rattle.theory.proofs.Places.{Occurs, first, next}

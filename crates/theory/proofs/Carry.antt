@@ -2,11 +2,11 @@
 -- tells and the other hears. So order goes along a list from node to node, and each new op is one more row of `Hears` or `Tells`.
 -- Assumes nothing.
 use mathlib.Core.Path.{_≡_, refl, subst}
-use mathlib.Core.Logic.{_↔_, _⊎_, inl, inr, ⊎-elim}
+use mathlib.Core.Logic.{_⊎_, inl, inr, ⊎-elim}
 use mathlib.Core.List.{List, [], _∷_, _++_}
 use Prim.Native.Nat.{ℕ, zero, suc, _<_}
 use native.Mathlib.Nat.{le-of-suc-le-suc, not-suc-le-zero}
-use Rattle.theory.specs.Recording.{Op, take, give, look, set, start, join, Event, act, lost}
+use Rattle.theory.specs.Recording.{Op, take, give, look, set, start, join, Event, act}
 use Rattle.theory.specs.Order.{Step, same-task, gives-takes, sets-looks, starts, joins}
 use Rattle.theory.specs.Completion.{inTurn}
 use Rattle.theory.proofs.Leads.{Leads, last, over, via}

@@ -1,10 +1,10 @@
 -- The history tells each task's latest conflicting access: its number is one more than the place of the task's final access that
 -- conflicts, and 0 where there is none. Assumes nothing.
-use mathlib.Core.Path.{_≡_, refl, sym, _∙_, ap, subst}
+use mathlib.Core.Path.{_≡_, refl, sym, ap, subst}
 use mathlib.Core.Bool.{Bool, true, false, cond, _&&_}
-use mathlib.Core.Logic.{_↔_, _⊎_, inl, inr, _≢_}
+use mathlib.Core.Logic.{_↔_, _≢_}
 use mathlib.Core.List.{List, [], _∷_, _++_}
-use Prim.Native.Nat.{ℕ, zero, suc, _+_, _≤_, _<_, max}
+use Prim.Native.Nat.{ℕ, suc, _+_, _≤_, _<_, max}
 use native.Mathlib.Nat.{le-refl}
 use native.Mathlib.Omega.{arith}
 use borrow.Author.Tests.{lt-ltb, le-ltb, ltb-true, ltb-false}
@@ -14,10 +14,10 @@ use Rattle.theory.specs.Order.{isAccess, Conflict, conflict}
 use Rattle.theory.specs.History.{slot, lastOf, latestSlot, latestNumber}
 use Rattle.theory.proofs.Reflects.{Reflects, right, wrong, at-most}
 use Rattle.theory.proofs.Places.{Occurs, first, next}
-use Rattle.theory.proofs.Tests.{Some, Again}
+use Rattle.theory.proofs.Tests.{Again}
 use Rattle.theory.proofs.Latest.{Final, some-after, some-occurs, occurs-after}
 use Rattle.theory.proofs.Came.{Snoc, old, new, occurs-snoc}
-use Rattle.theory.proofs.Slots.{InSlot, in-slot, Held, ExactHistory, slot-below, slot-one, access-kind}
+use Rattle.theory.proofs.Slots.{InSlot, in-slot, ExactHistory, slot-below, slot-one, access-kind}
 
 -- Ranges
 

@@ -1,6 +1,6 @@
 -- The search of specs/Decide.antt finds the partner that specs/Verdict.antt means, in any filling by a function. Assumes nothing.
-use mathlib.Core.Path.{_≡_, refl, sym, subst}
-use mathlib.Core.Bool.{Bool, true, false, cond, not, _&&_}
+use mathlib.Core.Path.{_≡_}
+use mathlib.Core.Bool.{Bool, true, false, cond}
 use mathlib.Core.Logic.{_↔_, _⊎_, inl, inr}
 use mathlib.Core.List.{List, [], _∷_}
 use mathlib.Core.Option.{Option, none, some}
@@ -10,12 +10,12 @@ use Rattle.theory.specs.Recording.{Op, Event, act, lost, ActsIn, acts}
 use Rattle.theory.specs.Order.{Conflict}
 use Rattle.theory.specs.Completion.{fillWith}
 use Rattle.theory.specs.Verdict.{Latest, Partner}
-use Rattle.theory.specs.Decide.{Found, found, lower, conflicts, again, reaches, apart, partner}
-use Rattle.theory.proofs.Reflects.{Reflects, right, wrong, both, fails, same-as, at-most}
+use Rattle.theory.specs.Decide.{Found, found, lower, apart, partner}
+use Rattle.theory.proofs.Reflects.{Reflects, right, wrong, both, fails, at-most}
 use Rattle.theory.proofs.Leads.{Leads}
 use Rattle.theory.proofs.Places.{Ends, Occurs, first, next}
 use Rattle.theory.proofs.Tests.{Again, again-test, conflict-test, lead-test}
-use Rattle.theory.proofs.Latest.{Final, final-latest, latest-final}
+use Rattle.theory.proofs.Latest.{final-latest, latest-final}
 
 -- Definition
 

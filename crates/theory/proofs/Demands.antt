@@ -1,20 +1,20 @@
 -- Demands 2 and 3 over recordings, for the verdict that goes by the recording as it arrived and the fullest completion; and the
 -- partner that goes with it. Assumes nothing.
-use mathlib.Core.Path.{_≡_, refl, sym, ap}
+use mathlib.Core.Path.{_≡_, refl, ap}
 use mathlib.Core.Logic.{_↔_}
-use mathlib.Core.List.{List, [], _∷_}
+use mathlib.Core.List.{List, _∷_}
 use mathlib.Core.Option.{Option, none, some}
 use Prim.Native.Nat.{ℕ, zero, suc, _≤_}
 use native.Mathlib.Omega.{arith}
 use lib.ListN as ListN
 use lib.ListN.{getD}
-use Rattle.theory.specs.Recording.{Op, Event, act, lost, At, ActsIn, acts, Unmarked, no-events, an-act}
-use Rattle.theory.specs.Order.{HappensBefore, Conflict, conflict}
-use Rattle.theory.specs.Completion.{Filled, done, keep, fill, Completion, place, fillWith, nothing, rounds, fullest}
+use Rattle.theory.specs.Recording.{Op, Event, act, lost, At, Unmarked, no-events, an-act}
+use Rattle.theory.specs.Order.{Conflict, conflict}
+use Rattle.theory.specs.Completion.{Filled, done, keep, Completion, place, nothing, rounds, fullest}
 use Rattle.theory.specs.Verdict.{Verdict, Race, Clear, Doubt, AccessAt, Earlier, Latest, Racy, Unordered, Partner, ApartInAll, ApartAsArrived, With, clear, race, doubt}
-use Rattle.theory.specs.Demands.{Always, Never, Sometimes, SometimesNot, Firm, Demand2, Demand3}
-use Rattle.theory.specs.Decide.{Found, partner, Judgement, judged, judge, judgeAt, verdictAt}
-use Rattle.theory.proofs.Places.{Ends, ends, onward, Occurs, at-ends}
+use Rattle.theory.specs.Demands.{Always, Never, Firm, Demand2, Demand3}
+use Rattle.theory.specs.Decide.{Found, partner, judged, judge, judgeAt, verdictAt}
+use Rattle.theory.proofs.Places.{Ends, ends, onward, at-ends}
 use Rattle.theory.proofs.Bounds.{arrived-completes, fullest-completes, path-survives, path-most, path-arrived, apart-as-arrived, apart-in-all}
 use Rattle.theory.proofs.Latest.{latest-as-arrived, latest-in-completion}
 use Rattle.theory.proofs.Decide.{Outcome, partner-outcome, outcome-partner, outcome-nobody}

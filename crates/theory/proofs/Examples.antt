@@ -3,18 +3,18 @@
 use mathlib.Core.Path.{_≡_, refl, ap, subst, _∙_}
 use mathlib.Core.Bool.{Bool, true, false}
 use mathlib.Core.List.{List, [], _∷_, _++_, map, tail, append-assoc}
-use Prim.Native.Nat.{ℕ, zero, suc, _+_}
+use Prim.Native.Nat.{ℕ, suc, _+_}
 use native.Mathlib.Numerals.{add-one}
 use lib.Dec.{T}
 use lib.ListN.{length, getD, length-append}
-use Rattle.theory.specs.Recording.{Op, Event, act, lost, At, here, there}
+use Rattle.theory.specs.Recording.{Event, act, lost}
 use Rattle.theory.specs.Order.{isAccess}
 use Rattle.theory.specs.Completion.{part, round, rounds, onEach}
 use Rattle.theory.specs.Decide.{Answer, answer, answersAfter, answers, judge}
-use Rattle.theory.specs.Examples.{Example, Right, Answered, nothing-left, to-access, to-other, to-mark, AllRight, no-rows, and-row, table}
+use Rattle.theory.specs.Examples.{Example, Answered, nothing-left, to-access, to-other, to-mark, AllRight, no-rows, and-row, table}
 use Rattle.theory.proofs.Places.{Ends, ends, onward}
 use Rattle.theory.proofs.Reflects.{Reflects, right, wrong, by-test}
-use Rattle.theory.proofs.Demands.{Ruling, judge-ruling, ruling-firm, ruling-with}
+use Rattle.theory.proofs.Demands.{judge-ruling, ruling-firm, ruling-with}
 
 -- The answers to a recording are right
 

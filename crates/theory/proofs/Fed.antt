@@ -3,23 +3,20 @@
 use mathlib.Core.Path.{_≡_, refl, sym, _∙_, ap, subst}
 use mathlib.Core.Bool.{Bool, true, false, cond}
 use mathlib.Core.Logic.{_↔_, _⊎_, inl, inr}
-use lib.Dec.{eqb}
 use mathlib.Core.List.{List, [], _∷_, _++_, map, append-assoc, append-nil}
-use Prim.Native.Nat.{ℕ, zero, suc, _+_, _≤_, _<_, zero-le}
+use Prim.Native.Nat.{ℕ, zero, suc, _+_, _≤_}
 use native.Mathlib.Omega.{arith}
 use lib.ListN.{length}
 use Rattle.theory.specs.declared.record.Record.{Record}
 use Rattle.theory.specs.declared.answer.Answer.{Answer}
-use Rattle.theory.specs.declared.answer.Answer.the-variants.{Refused, Accepted}
-use Rattle.theory.specs.Recording.{Op, Event, act, lost, eventOf, Unmarked}
+use Rattle.theory.specs.Recording.{Event, act, eventOf, Unmarked}
 use Rattle.theory.specs.Acceptance.{refusalBy, refusal, joined, fedAfter, recording}
 use Rattle.theory.specs.Verdict.{Verdict, Race, Clear, Doubt, AccessAt, Unordered, With, clear, race, doubt}
 use Rattle.theory.specs.Demands.{Firm}
 use Rattle.theory.specs.Decide.{judge, isAccessEvent}
-use Rattle.theory.specs.declared.state.State.{State}
 use Rattle.theory.specs.Control.{refusalIn}
 use Rattle.theory.specs.History.{accesses}
-use Rattle.theory.specs.Step.{verdictBy, judgedBy, nextNumber, sameMasks, masksOfClocks, masksOfSets, accepted, stepOf}
+use Rattle.theory.specs.Step.{nextNumber, sameMasks, masksOfClocks, masksOfSets, accepted, stepOf}
 use Rattle.theory.specs.Turns.{turns}
 use Rattle.theory.specs.Completion.{rounds, round, part, onEach}
 use Rattle.theory.specs.Examples.{Example, table}

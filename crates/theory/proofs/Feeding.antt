@@ -1,34 +1,30 @@
 -- Feeding answers what the recording so far says: of the clocks, of the sets, and of the step with both. Assumes nothing.
 use mathlib.Core.Path.{_≡_, refl, sym, _∙_, ap, subst}
-use mathlib.Core.Bool.{Bool, true, false, cond, _&&_, not}
+use mathlib.Core.Bool.{Bool, true, false}
 use mathlib.Core.List.{List, [], _∷_, _++_}
-use Prim.Native.Nat.{ℕ, zero, suc, _+_, _/_, _%_, _^_, _≤_, _<_}
+use Prim.Native.Nat.{ℕ, zero, suc, _+_, _/_, _%_, _^_, _<_}
 use native.Mathlib.Nat.{pow-suc}
-use native.Mathlib.Numerals.{add-one}
 use native.Mathlib.Omega.{arith}
-use borrow.Author.Tests.{eq-eqb, ne-eqb}
+use borrow.Author.Tests.{eq-eqb}
 use lib.Dec.{T, eqb}
 use lib.Pow.{shr-shr}
 use lib.ListN.{length, replicate}
 use Rattle.theory.specs.declared.record.Record.{Record}
-use Rattle.theory.specs.declared.answer.Answer.{Answer}
-use Rattle.theory.specs.declared.answer.Answer.the-variants.{Refused, Accepted}
 use Rattle.theory.specs.declared.state.State.{State}
 use Rattle.theory.specs.declared.state.ClockState.{ClockState}
 use Rattle.theory.specs.declared.state.SetState.{SetState}
-use Rattle.theory.specs.Recording.{Op, read, write, take, give, look, start, join, Event, act, lost, series, seriesOf, kind, opOf, eventOf}
+use Rattle.theory.specs.Recording.{Op, read, write, take, give, look, start, join, Event, act, series, seriesOf, kind, eventOf}
 use Rattle.theory.specs.Order.{isAccess}
-use Rattle.theory.specs.Completion.{bit, Named}
+use Rattle.theory.specs.Completion.{Named}
 use Rattle.theory.specs.Acceptance.{Fitting, isLive, isUnseen, phase, refusal, joined}
-use Rattle.theory.specs.Control.{countIn, refusalIn, controlAfter}
-use Rattle.theory.specs.History.{accesses, lastAfter}
+use Rattle.theory.specs.Control.{controlAfter}
+use Rattle.theory.specs.History.{lastAfter}
 use Rattle.theory.specs.Reckonings.{clocksArrived, clocksFull, setsArrived, setsFull, clockMask, setMask, clockMasks, setMasks}
-use Rattle.theory.specs.Decide.{isAccessEvent, judge}
-use Rattle.theory.specs.Step.{recordNumber, nextNumber, answeredBy, sameMasks, clockStepOf, clockStepBy, setStepOf, setStepBy, stepOf, stepBy, agreed, masksOfClocks, masksOfSets, freshControl, freshState, freshClocks, freshSets}
-use Rattle.theory.specs.Feeding.{fedTo, fedToClocks, fedToSets, fed, clockFed, setFed, verdictAnswer, acceptedAnswer, answerBy, answerTo, answersFrom}
-use Rattle.theory.proofs.Reflects.{Reflects, right, wrong, by-test, at-most, equal, is-true}
+use Rattle.theory.specs.Step.{nextNumber, answeredBy, sameMasks, clockStepOf, clockStepBy, setStepOf, setStepBy, stepOf, stepBy, agreed, freshControl, freshState, freshClocks, freshSets}
+use Rattle.theory.specs.Feeding.{fedTo, fedToClocks, fedToSets, fed, clockFed, setFed, acceptedAnswer, answerBy, answerTo, answersFrom}
+use Rattle.theory.proofs.Reflects.{Reflects, right, wrong, by-test, equal, is-true}
 use Rattle.theory.proofs.Acceptance.{Passed, passed}
-use Rattle.theory.proofs.Reach.{Filling, arrived, full}
+use Rattle.theory.proofs.Reach.{arrived, full}
 use Rattle.theory.proofs.Marks.{bit-named}
 use Rattle.theory.proofs.ExactControl.{ExactControl, fresh-control, control-act, control-mark, same-refusal}
 use Rattle.theory.proofs.ExactClocks.{ExactClocks, clocks-act, clocks-mark, clocks-mix, fresh-clocks}

@@ -1,20 +1,16 @@
 -- The fullest filling has the most paths. What any filling of a mark does to order is `Mix`: whatever reaches a node that a filler
 -- hears goes on to every node that a filler tells, and nothing else moves. Two rounds do all of that. Assumes nothing.
-use mathlib.Core.Logic.{_↔_, _⊎_, inl, inr}
-use mathlib.Core.Path.{_≡_, refl, sym, subst}
+use mathlib.Core.Path.{sym, subst}
 use mathlib.Core.Bool.{Bool, true, false}
 use mathlib.Core.List.{List, [], _∷_, _++_}
 use Prim.Native.Nat.{ℕ, zero, suc, _<_, zero-le, suc-le-suc}
-use native.Mathlib.Nat.{le-of-suc-le-suc, not-suc-le-zero, zero-lt-suc}
-use native.Mathlib.Omega.{arith}
 use lib.Dec.{T, lit<}
 use Rattle.theory.specs.Limits.{tasks}
-use Rattle.theory.specs.Recording.{Op, take, give, look, set, start, join, Event, act, lost, series}
-use Rattle.theory.specs.Order.{Step}
-use Rattle.theory.specs.Completion.{bit, names, Named, Loses, takes, gives, looks, sets, Filler, filler, Every, no-more, and-more, Filled, done, keep, fill, Completion, inTurn, onEach, part, partIf, round, rounds, fullest, nothing}
+use Rattle.theory.specs.Recording.{Op, take, give, look, set, Event, act, series}
+use Rattle.theory.specs.Completion.{bit, names, Named, Loses, takes, gives, looks, sets, Filler, filler, Every, no-more, and-more, done, keep, fill, Completion, inTurn, onEach, part, partIf, round, rounds, fullest, nothing}
 use Rattle.theory.proofs.Reflects.{by-test, both, at-most, passed, is-true}
 use Rattle.theory.proofs.Leads.{Leads}
-use Rattle.theory.proofs.Carry.{Node, due, acted, semaphore, flag, Hears, own, by-take, by-look, by-join, Tells, own-next, own-acted, by-give, by-set, by-start, Carry, stay, pass, move, carry-skip, carry-append, carry-split, carry-one, carry-in-turn, leads-carried, carried-leads}
+use Rattle.theory.proofs.Carry.{Node, due, semaphore, Hears, own, by-take, by-look, Tells, own-next, own-acted, by-give, by-set, Carry, stay, pass, move, carry-skip, carry-append, carry-split, carry-one, carry-in-turn, leads-carried, carried-leads}
 
 -- Definition
 

@@ -1,13 +1,13 @@
 -- Only the latest conflicting access of each task matters: its older ones lead to it, so what is apart from them is apart from it.
 -- Assumes nothing.
-use mathlib.Core.Path.{_≡_, refl, sym, subst}
+use mathlib.Core.Path.{_≡_, sym, subst}
 use mathlib.Core.Bool.{Bool}
 use mathlib.Core.Logic.{_↔_}
-use mathlib.Core.List.{List, [], _∷_}
+use mathlib.Core.List.{List, _∷_}
 use Prim.Native.Nat.{ℕ, zero, suc, _≤_, _<_}
 use native.Mathlib.Nat.{le-of-suc-le-suc, not-suc-le-zero}
 use native.Mathlib.Omega.{arith}
-use Rattle.theory.specs.Recording.{Op, Event, act, At, ActsIn, acts}
+use Rattle.theory.specs.Recording.{Event, At, ActsIn, acts}
 use Rattle.theory.specs.Order.{Step, same-task, HappensBefore, one, more, Conflict, conflict}
 use Rattle.theory.specs.Completion.{Completion, place}
 use Rattle.theory.specs.Verdict.{Earlier, Latest, Racy, Unordered}

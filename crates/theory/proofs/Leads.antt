@@ -1,7 +1,6 @@
 -- Paths by what lies between: `Leads e mid f` says that a path leads from e to f in every list that has e, then mid, then f.
 -- Such paths survive whatever is put for the marks between, and do not need the marks. Assumes nothing.
-use mathlib.Core.Logic.{_↔_, _⊎_, inl, inr}
-use mathlib.Core.Path.{_≡_, refl, sym, ap, subst}
+use mathlib.Core.Path.{_≡_, refl, ap}
 use mathlib.Core.List.{List, [], _∷_, _++_}
 use Prim.Native.Nat.{ℕ}
 use Rattle.theory.specs.Recording.{Event, act, lost}

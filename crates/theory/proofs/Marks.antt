@@ -1,14 +1,14 @@
 -- What a mark hears and tells, by the rows of the tables. Assumes nothing.
-use mathlib.Core.Path.{_≡_, refl, sym, _∙_, ap, subst}
-use mathlib.Core.Bool.{Bool, true, false, cond}
+use mathlib.Core.Path.{_≡_, sym, subst}
+use mathlib.Core.Bool.{Bool, true, false}
 use mathlib.Core.List.{List}
 use Prim.Native.Nat.{ℕ, zero, suc, _+_, _%_, _≤_, _<_}
 use native.Mathlib.Omega.{arith}
 use borrow.Author.Tests.{lt-ltb, le-ltb, lt-leb, le-leb}
-use lib.Dec.{T, ltb, leb, lt→ltb}
-use Rattle.theory.specs.Completion.{bit, names, Named}
+use lib.Dec.{T}
+use Rattle.theory.specs.Completion.{bit, Named}
 use Rattle.theory.specs.Tables.{joinRow, isHeard, isTold, hub, rowOrHub}
-use Rattle.theory.proofs.Reflects.{Reflects, by-test, both, at-most, passed, passes}
+use Rattle.theory.proofs.Reflects.{by-test, both, at-most, passed, passes}
 use Rattle.theory.proofs.Turns.{Turned, one-turn}
 use Rattle.theory.proofs.Tables.{join-self}
 use Rattle.theory.proofs.Carry.{Node, due, acted, semaphore, flag}

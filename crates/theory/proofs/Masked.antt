@@ -2,10 +2,9 @@
 -- Assumes nothing.
 use mathlib.Core.Path.{_≡_, refl, sym, _∙_, ap, subst}
 use mathlib.Core.Bool.{Bool, true, false, cond, true≢false}
-use mathlib.Core.Logic.{_⊎_, inl, inr}
 use mathlib.Core.List.{List}
 use mathlib.Core.Option.{Option, none, some}
-use Prim.Native.Nat.{ℕ, zero, suc, _+_, _≤_, _<_}
+use Prim.Native.Nat.{ℕ, suc, _≤_, _<_}
 use native.Mathlib.Omega.{arith}
 use lib.Dec.{T, eqb}
 use Rattle.theory.specs.Recording.{Event}
@@ -14,7 +13,7 @@ use Rattle.theory.specs.Decide.{Found, partner}
 use Rattle.theory.proofs.Reflects.{Reflects, right, wrong, equal, at-most, by-test, is-true}
 use Rattle.theory.proofs.Latest.{some-after}
 use Rattle.theory.proofs.Bits.{mask-none, mask-lowest}
-use Rattle.theory.proofs.Decide.{Apart, Candidate, Outcome, nobody, somebody, partner-outcome}
+use Rattle.theory.proofs.Decide.{Candidate, Outcome, nobody, somebody, partner-outcome}
 
 -- what a mask finds: the lowest of its tasks, with the number that `number` has for it
 abbrev pub foundBy : (ℕ → ℕ) → ℕ → Option Found

@@ -1,12 +1,12 @@
 -- Nodes and the rows that the tables have for them: one row for each node in range. Assumes nothing.
-use mathlib.Core.Path.{_≡_, refl, sym, _∙_, ap, subst}
-use mathlib.Core.Bool.{Bool, true, false, cond}
-use mathlib.Core.Logic.{_↔_, _⊎_, inl, inr}
-use Prim.Native.Nat.{ℕ, zero, suc, _+_, _-_, _*_, _%_, _≤_, _<_}
+use mathlib.Core.Path.{_≡_, refl, sym, _∙_, ap}
+use mathlib.Core.Bool.{Bool, cond}
+use mathlib.Core.Logic.{_⊎_, inl, inr}
+use Prim.Native.Nat.{ℕ, suc, _+_, _-_, _≤_, _<_}
 use native.Mathlib.Omega.{arith}
 use borrow.Author.Tests.{lt-ltb, le-ltb}
 use lib.Dec.{ltb}
-use Rattle.theory.specs.Recording.{Op, read, write, take, give, look, set, start, join, Event, act, lost, series, kind}
+use Rattle.theory.specs.Recording.{Op, read, write, take, give, look, set, start, join, act, series, kind}
 use Rattle.theory.specs.Tables.{heardRow, toldRow}
 use Rattle.theory.proofs.Reflects.{Reflects, right, wrong, at-most}
 use Rattle.theory.proofs.Carry.{Node, due, acted, semaphore, flag, Hears, own, by-take, by-look, by-join, Tells, own-next, own-acted, by-give, by-set, by-start}

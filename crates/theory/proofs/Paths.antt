@@ -1,12 +1,11 @@
 -- Each reckoning on its own says "path" exactly where Order has one, after every list, marks included, as it arrived and in the fullest
 -- filling. The statements are in specs/Feeding.antt. Assumes nothing.
-use mathlib.Core.Path.{_≡_, refl, sym, _∙_, subst}
-use mathlib.Core.Bool.{Bool, true, false, true≢false}
+use mathlib.Core.Path.{_≡_, sym, _∙_}
+use mathlib.Core.Bool.{Bool, true, true≢false}
 use Rattle.theory.proofs.Reflects.{Reflects, right, wrong, by-test}
 use mathlib.Core.Logic.{_↔_}
 use mathlib.Core.List.{List, [], _∷_, _++_}
 use Prim.Native.Nat.{ℕ, _<_}
-use native.Mathlib.Omega.{arith}
 use lib.Dec.{T}
 use lib.ListN.{length}
 use Rattle.theory.specs.declared.record.Record.{Record}
@@ -21,7 +20,7 @@ use Rattle.theory.specs.History.{accesses}
 use Rattle.theory.specs.Reckonings.{clockApart, setApart}
 use Rattle.theory.specs.Step.{clockStepOf, setStepOf, freshClocks, freshSets}
 use Rattle.theory.specs.Feeding.{clocksAfter, setsAfter, SaysPaths, ClockPaths, SetPaths}
-use Rattle.theory.proofs.Reach.{Filling, arrived, full, filling}
+use Rattle.theory.proofs.Reach.{arrived, full, filling}
 use Rattle.theory.proofs.Places.{Ends, Occurs}
 use Rattle.theory.proofs.Leads.{Leads}
 use Rattle.theory.specs.Completion.{fillWith}
@@ -29,7 +28,7 @@ use Rattle.theory.proofs.Bounds.{apart-as-arrived, apart-in-all}
 use Rattle.theory.proofs.Decide.{Candidate, candidate-latest, candidate-far, far-candidate}
 use Rattle.theory.proofs.Slots.{access-on, other-tests}
 use Rattle.theory.proofs.Reckoned.{clock-sound, clock-complete, set-sound, set-complete}
-use Rattle.theory.proofs.Feeding.{Shape, an-act, a-mark, shape-of, event-act, on-series, Base, RepresentsClocks, RepresentsSets, clock-fed-one, set-fed-one, fresh-represents-clocks, fresh-represents-sets}
+use Rattle.theory.proofs.Feeding.{Shape, an-act, a-mark, shape-of, event-act, on-series, RepresentsClocks, RepresentsSets, clock-fed-one, set-fed-one, fresh-represents-clocks, fresh-represents-sets}
 use Rattle.theory.proofs.Examples.{ends-middle}
 
 -- The states after a list

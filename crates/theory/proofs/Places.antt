@@ -1,15 +1,11 @@
 -- Paths by places, as specs/Order.antt has them, and paths by what lies between, as Leads.antt has them, are the same; and the records
 -- that arrived stand in what is filled in as they stood in the recording. Assumes nothing.
-use mathlib.Core.Logic.{_↔_}
-use mathlib.Core.Path.{_≡_, refl, sym, ap, subst}
-use mathlib.Core.List.{List, [], _∷_, _++_}
-use Prim.Native.Nat.{ℕ, zero, suc, _+_, _<_, zero-le, suc-le-suc}
-use native.Mathlib.Nat.{le-of-suc-le-suc, not-suc-le-zero, zero-add, suc-add}
+use mathlib.Core.List.{List, [], _∷_}
+use Prim.Native.Nat.{ℕ, zero, suc, _<_, zero-le, suc-le-suc}
+use native.Mathlib.Nat.{le-of-suc-le-suc, not-suc-le-zero}
 use native.Mathlib.Omega.{arith}
-use lib.ListN.{length}
-use Rattle.theory.specs.Recording.{Op, Event, act, lost, At, here, there}
+use Rattle.theory.specs.Recording.{Event, At, here, there}
 use Rattle.theory.specs.Order.{Step, StepAt, HappensBefore, one, more}
-use Rattle.theory.specs.Completion.{Filled, done, keep, fill, place}
 use Rattle.theory.proofs.Leads.{Leads, last, over, via}
 
 -- Definition

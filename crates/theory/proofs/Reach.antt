@@ -6,8 +6,8 @@ use mathlib.Core.List.{List, [], _∷_, _++_, append-assoc}
 use Prim.Native.Nat.{ℕ, _<_}
 use lib.Dec.{lit<}
 use Rattle.theory.specs.Limits.{semaphores, flags}
-use Rattle.theory.specs.Recording.{Op, take, give, look, set, start, join, Event, act, lost}
-use Rattle.theory.specs.Completion.{Named, Loses, takes, gives, looks, sets, Filler, filler, fillWith, nothing, rounds}
+use Rattle.theory.specs.Recording.{take, give, look, set, start, join, Event, act, lost}
+use Rattle.theory.specs.Completion.{Named, Loses, takes, gives, looks, sets, filler, fillWith, nothing, rounds}
 use Rattle.theory.proofs.Leads.{Leads}
 use Rattle.theory.proofs.Carry.{Node, due, acted, semaphore, flag, Hears, own, by-take, by-look, by-join, Tells, own-next, own-acted, by-give, by-set, by-start, Carry, stay, pass, move, carry-skip, carry-append, carry-split, acted-next, carry-acted, leads-carried, carried-leads}
 use Rattle.theory.proofs.Fullest.{Heard, Told, Mix, same, mixed, carry-mix, mix-rounds, filler-rounds}

@@ -1,34 +1,32 @@
 -- Each reckoning on its own says which tasks' latest conflicting access has no path to an access: just where Order has none, in the
 -- recording as it arrived and in the fullest filling. Assumes nothing.
-use mathlib.Core.Path.{_≡_, refl, sym, _∙_, ap, subst}
-use mathlib.Core.Bool.{Bool, true, false, cond, _&&_, not}
+use mathlib.Core.Path.{_≡_, refl, sym, ap, subst}
+use mathlib.Core.Bool.{Bool}
 use mathlib.Core.Logic.{_↔_, _⊎_, inl, inr, _≢_}
-use mathlib.Core.List.{List, [], _∷_, _++_}
-use Prim.Native.Nat.{ℕ, zero, suc, _+_, _*_, _≤_, _<_, zero-le}
+use mathlib.Core.List.{List}
+use Prim.Native.Nat.{ℕ, zero, suc, _≤_, _<_, zero-le}
 use native.Mathlib.Nat.{le-refl}
 use native.Mathlib.Omega.{arith}
-use lib.Dec.{T, ltb, eqb}
-use Rattle.theory.specs.Recording.{Op, read, write, take, give, look, start, join, Event, act, lost, series, kind, ActsIn, acts}
+use lib.Dec.{T}
+use Rattle.theory.specs.Recording.{Op, read, write, Event, act, lost, kind, ActsIn, acts}
 use Rattle.theory.specs.Order.{isAccess, Conflict, conflict}
 use Rattle.theory.specs.Completion.{fillWith}
 use Rattle.theory.specs.Tables.{cell}
-use Rattle.theory.specs.History.{slot, lastOf, latestSlot, latestNumber}
+use Rattle.theory.specs.History.{latestSlot, latestNumber}
 use Rattle.theory.specs.Reckonings.{clockApart, setApart}
-use Rattle.theory.proofs.Reflects.{Reflects, right, wrong, equal, at-most, fails, both, same-as, by-test, passed, passes, is-true}
+use Rattle.theory.proofs.Reflects.{Reflects, right, wrong, equal, at-most, fails, both, passed, passes}
 use Rattle.theory.proofs.Leads.{Leads}
-use Rattle.theory.proofs.Carry.{Node, due, Hears, own, Tells, own-next, Carry, stay, pass, move, carry-skip, carry-append}
-use Rattle.theory.proofs.Reach.{Filling, arrived, full, filling, Reach, leads-reach}
+use Rattle.theory.proofs.Carry.{Node, due, Hears, own, own-next, Carry, pass, move, carry-skip, carry-append}
+use Rattle.theory.proofs.Reach.{Filling, filling, Reach, leads-reach}
 use Rattle.theory.proofs.Places.{Occurs, first, next}
-use Rattle.theory.proofs.Tests.{Some, Again}
 use Rattle.theory.proofs.Latest.{Final, some-after, some-occurs, occurs-after}
-use Rattle.theory.proofs.Decide.{Apart, Candidate}
-use Rattle.theory.proofs.Tables.{Above}
+use Rattle.theory.proofs.Decide.{Candidate}
 use Rattle.theory.proofs.Nodes.{due-in, heardNode, hears-cases}
 use Rattle.theory.proofs.Came.{Came}
 use Rattle.theory.proofs.ExactClocks.{ExactClocks, OfTask}
 use Rattle.theory.proofs.ExactSets.{ExactSets, KeptIn}
-use Rattle.theory.proofs.Slots.{InSlot, ExactHistory, Held}
-use Rattle.theory.proofs.Conflicts.{Ranged, Conflicting, conflicting-below, latest-above, ConflictAt, occurs-same, number-final, final-number, latest-conflicting}
+use Rattle.theory.proofs.Slots.{InSlot, ExactHistory}
+use Rattle.theory.proofs.Conflicts.{conflicting-below, occurs-same, number-final, final-number, latest-conflicting}
 
 -- Paths to an access
 

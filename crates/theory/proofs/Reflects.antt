@@ -3,8 +3,8 @@
 use mathlib.Core.Path.{_≡_, refl, subst}
 use mathlib.Core.Bool.{Bool, true, false, not, _&&_, _||_}
 use mathlib.Core.Logic.{_⊎_, inl, inr, ⊎-elim}
-use Prim.Native.Nat.{ℕ, _≤_, _<_}
-use lib.Dec.{T, leb, ltb, eqb, leb→le, nleb→lt, eqb→eq, eqb-refl, le→leb}
+use Prim.Native.Nat.{ℕ, _≤_}
+use lib.Dec.{T, leb, eqb, leb→le, eqb→eq, eqb-refl, le→leb}
 
 -- Definition
 

@@ -1,35 +1,27 @@
 -- A state that represents a recording answers as the recording does, and represents the next one: the clocks, the sets, and both.
 -- Row 10 never applies. Assumes nothing.
-use mathlib.Core.Path.{_≡_, refl, sym, _∙_, ap, subst}
-use mathlib.Core.Bool.{Bool, true, false, cond, _&&_, not}
-use mathlib.Core.Logic.{_↔_, _⊎_, inl, inr}
-use mathlib.Core.List.{List, [], _∷_, _++_}
-use mathlib.Core.Option.{Option, none, some}
-use Prim.Native.Nat.{ℕ, zero, suc, _+_, _*_, _/_, _%_, _^_, _≤_, _<_}
-use native.Mathlib.Nat.{pow-suc}
-use native.Mathlib.Numerals.{add-one}
-use native.Mathlib.Omega.{arith}
+use mathlib.Core.Path.{_≡_, refl, ap}
+use mathlib.Core.Bool.{Bool, true, false, cond}
+use mathlib.Core.List.{List}
+use mathlib.Core.Option.{none, some}
+use Prim.Native.Nat.{ℕ, _<_}
 use lib.Dec.{T, eqb}
-use lib.ListN.{length}
-use Rattle.theory.specs.declared.record.Record.{Record}
-use Rattle.theory.specs.declared.answer.Answer.{Answer}
-use Rattle.theory.specs.declared.masks.Masks.{Masks}
-use Rattle.theory.specs.Recording.{Op, read, write, take, give, look, start, join, Event, act, lost, series, kind, opOf, eventOf, ActsIn, acts}
+use Rattle.theory.specs.Recording.{Op, Event, act, kind, ActsIn, acts}
 use Rattle.theory.specs.Order.{isAccess}
-use Rattle.theory.specs.Completion.{Named, rounds, nothing}
-use Rattle.theory.specs.History.{accesses, latestNumber}
-use Rattle.theory.specs.Reckonings.{maskOf, clockApart, setApart, clockMask, setMask, masksBy, clockMasks, setMasks, lowestTask}
-use Rattle.theory.specs.Decide.{Found, Judgement, judged, judge, partner}
-use Rattle.theory.specs.Step.{verdictBy, judgedBy, answeredBy, recordNumber}
+use Rattle.theory.specs.Completion.{rounds, nothing}
+use Rattle.theory.specs.History.{latestNumber}
+use Rattle.theory.specs.Reckonings.{clockApart, setApart, clockMask, setMask, lowestTask}
+use Rattle.theory.specs.Decide.{judged, judge, partner}
+use Rattle.theory.specs.Step.{verdictBy, judgedBy}
 use Rattle.theory.specs.Feeding.{verdictAnswer}
 use Rattle.theory.proofs.Reflects.{Reflects, right, wrong, by-test}
-use Rattle.theory.proofs.Reach.{Filling, arrived, full, filling}
+use Rattle.theory.proofs.Reach.{Filling, filling}
 use Rattle.theory.proofs.Bits.{mask-ext}
 use Rattle.theory.proofs.Places.{Occurs}
 use Rattle.theory.proofs.Decide.{Candidate}
 use Rattle.theory.proofs.ExactClocks.{ExactClocks}
 use Rattle.theory.proofs.ExactSets.{ExactSets}
-use Rattle.theory.proofs.Slots.{ExactHistory, access-on}
+use Rattle.theory.proofs.Slots.{ExactHistory}
 use Rattle.theory.proofs.Conflicts.{Ranged}
 use Rattle.theory.proofs.Reckoned.{clock-sound, clock-complete, set-sound, set-complete}
 use Rattle.theory.proofs.Masked.{foundBy, mask-partner}

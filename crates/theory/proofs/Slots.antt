@@ -1,19 +1,18 @@
 -- Slots keep accesses: which access is in which slot, and the latest of each. Assumes nothing.
-use mathlib.Core.Path.{_≡_, refl, sym, _∙_, ap, subst}
-use mathlib.Core.Bool.{Bool, true, false, cond}
-use mathlib.Core.Logic.{_↔_, _⊎_, inl, inr, ⊎-elim}
+use mathlib.Core.Path.{_≡_, refl, _∙_}
+use mathlib.Core.Bool.{Bool, true, false}
+use mathlib.Core.Logic.{_↔_, _⊎_, inl, inr}
 use mathlib.Core.List.{List, [], _∷_, _++_}
-use Prim.Native.Nat.{ℕ, zero, suc, _+_, _*_, _≤_, _<_}
+use Prim.Native.Nat.{ℕ, suc, _+_, _≤_, _<_}
 use native.Mathlib.Omega.{arith}
 use lib.Dec.{T}
-use lib.ListN.{length, getD, set, replicate, length-set, length-replicate, getD-replicate}
+use lib.ListN.{length, set, replicate, length-set, length-replicate, getD-replicate}
 use lib.Seq.{getD-set-same, getD-set-other}
 use Rattle.theory.specs.Recording.{Op, read, write, take, give, look, Event, act, lost, series, kind}
 use Rattle.theory.specs.Order.{isAccess}
 use Rattle.theory.specs.History.{accesses, slot, lastOf, lastAfter}
 use Rattle.theory.proofs.Reflects.{Reflects, right, wrong, equal, by-test}
 use Rattle.theory.proofs.Places.{Occurs}
-use Rattle.theory.proofs.Tests.{Some, this, further, same-op}
 use Rattle.theory.proofs.Came.{Snoc, old, new, occurs-snoc, occurs-old, occurs-new, occurs-short}
 
 -- Definition

@@ -4,7 +4,7 @@ use Prim.Native.Nat.{ℕ, zero, suc, _≤_, _<_}
 use lib.Dec.{T}
 use mathlib.Core.Path.{_≡_}
 use mathlib.Core.Bool.{Bool, true, false, cond}
-use mathlib.Core.Logic.{_↔_, _⊎_}
+use mathlib.Core.Logic.{_↔_}
 use mathlib.Core.List.{List, [], _∷_, _++_, map}
 use lib.ListN.{length}
 use Rattle.theory.specs.declared.record.Record.{Record}
@@ -19,7 +19,7 @@ use Rattle.theory.specs.Recording.{Event, act, lost, kind, lossMark, Unm
 use Rattle.theory.specs.Acceptance.{refusal, joined, recording}
 use Rattle.theory.specs.Verdict.{Verdict, Race, Clear, Doubt, AccessAt, Unordered, Latest, ApartAsArrived, ApartInAll, With}
 use Rattle.theory.specs.Demands.{Firm}
-use Rattle.theory.specs.Decide.{Judgement, judge, isAccessEvent}
+use Rattle.theory.specs.Decide.{judge, isAccessEvent}
 use Rattle.theory.specs.Limits.{tasks}
 use Rattle.theory.specs.History.{accesses}
 use Rattle.theory.specs.Reckonings.{clockApart, setApart}

@@ -1,16 +1,16 @@
 -- The two reckonings on tables: clocks and sets, each for the recording as it arrived and for the fullest filling.
-use Prim.Native.Nat.{ℕ, zero, suc, _+_, _*_, _-_}
+use Prim.Native.Nat.{ℕ, _+_, _*_, _-_}
 use mathlib.Core.Bool.{Bool, true, false, cond, _&&_, not}
 use mathlib.Core.List.{List}
 use lib.Count.{trailingZeros}
-use lib.Dec.{ltb, leb, eqb}
-use lib.ListN.{getD, set}
+use lib.Dec.{ltb, eqb}
+use lib.ListN.{set}
 use Rattle.theory.specs.declared.masks.Masks.{Masks}
 use Rattle.theory.specs.Turns.{turns}
 use Rattle.theory.specs.Limits.{tasks}
 use Rattle.theory.specs.Recording.{lossMark}
 use Rattle.theory.specs.Tables.{rowCount, dueRow, cell, heardRow, toldRow, flow, mix}
-use Rattle.theory.specs.History.{accesses, slotCount, slot, latestSlot, latestNumber, lastOf}
+use Rattle.theory.specs.History.{accesses, slotCount, slot, latestSlot, latestNumber}
 
 -- a table after a mark, or after an act whose own part is in it already
 abbrev pub onward : ℕ → ℕ → ℕ → ℕ → List ℕ → List ℕ

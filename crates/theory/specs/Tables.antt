@@ -1,7 +1,7 @@
 -- What both reckonings compute with: tables that have a row for each node, through which order is carried on, and a column for each
 -- thing that order is followed from. Row r has its cells at r * width and on.
-use Prim.Native.Nat.{ℕ, zero, suc, _+_, _*_, _%_, max}
-use mathlib.Core.Bool.{Bool, true, false, cond, _&&_, _||_, not}
+use Prim.Native.Nat.{ℕ, _+_, _*_, _%_, max}
+use mathlib.Core.Bool.{Bool, true, false, cond}
 use mathlib.Core.List.{List}
 use lib.Dec.{ltb, leb, eqb}
 use lib.ListN.{getD, set, replicate}

@@ -1,5 +1,5 @@
 -- Both masks of an access, summed from the lowest task up.
-use Prim.Native.Nat.{_≤_, _-_, _^_}
+use Prim.Native.Nat.{_≤_, _-_}
 use native.Mathlib.Omega.{arith}
 use Rattle.theory.specs.Reckonings.{clockApart}
 use Rattle.theory.proofs.Bits.{Summed, no-sum, one-sum, sum-fits, all-sums}

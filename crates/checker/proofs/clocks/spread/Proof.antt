@@ -1,5 +1,4 @@
 -- A copy of the hub is put into what a mark can tell, row by row; every object is told.
-use mathlib.Core.Path.{_≡_, sym}
 use mathlib.Core.List.{List}
 use Prim.Native.Nat.{ℕ, _≤_, _-_}
 use native.Mathlib.Omega.{arith}

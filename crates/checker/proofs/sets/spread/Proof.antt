@@ -1,5 +1,4 @@
 -- A copy of the hub is put into what a mark can tell, row by row.
-use mathlib.Core.Path.{_≡_, sym}
 use Prim.Native.Nat.{_≤_, _-_}
 use native.Mathlib.Omega.{arith}
 use Rattle.theory.specs.Tables.{putRow, isTold, rowOrHub, spread}

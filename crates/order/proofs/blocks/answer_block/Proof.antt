@@ -1,7 +1,6 @@
 -- `answer_block` is safe and ends: each piece leaves less of the block.
 use mathlib.Core.Path.{_≡_}
 use Prim.Native.Nat.{_≤_, _-_}
-use native.Mathlib.Omega.{arith}
 use lib.ListN.{length}
 use borrow.Author.Needs.{needs}
 use Rattle.order.proofs.blocks.answer_block.Statement.{statement}

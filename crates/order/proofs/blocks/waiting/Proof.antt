@@ -1,6 +1,6 @@
 -- No more waits than there is, and nothing once the output is closed.
 use native.Mathlib.Omega.{arith}
-use lib.ListN.{length, take, length-take}
+use lib.ListN.{length-take}
 use borrow.Author.Needs.{needs}
 use Rattle.order.proofs.blocks.waiting.Statement.{statement}
 use Rattle.order.proofs.blocks.waiting.Tie as tie

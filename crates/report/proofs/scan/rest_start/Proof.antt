@@ -1,9 +1,9 @@
 -- From the place on there is no LF.
-use mathlib.Core.Path.{_≡_, refl}
+use mathlib.Core.Path.{_≡_}
 use Prim.Native.Nat.{_≤_}
 use native.Mathlib.Omega.{arith}
 use lib.ListN.{length, drop}
-use Rattle.text.specs.Lines.{lf, lineEnd}
+use Rattle.text.specs.Lines.{lineEnd}
 use Rattle.text.proofs.Reporting.{one-before, none-at-end}
 use borrow.Author.Needs.{needs}
 use Rattle.report.proofs.scan.rest_start.Statement.{statement}

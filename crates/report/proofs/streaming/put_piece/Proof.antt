@@ -1,11 +1,8 @@
 -- No line ends in the piece, and it is held; or the line that has begun is answered, then those that end in the piece, and the rest is held.
-use mathlib.Core.Path.{_≡_, refl, sym, ap, _∙_}
-use Prim.Native.Nat.{_≤_, _<_}
+use mathlib.Core.Path.{refl, sym, ap, _∙_}
 use native.Mathlib.Omega.{arith}
-use lib.ListN.{length, take, length-take}
 use lib.Seq.{sets}
-use Rattle.theory.specs.declared.state.State.{State}
-use Rattle.text.specs.Pieces.{Kept, heldMost}
+use Rattle.text.specs.Pieces.{Kept}
 use Rattle.text.proofs.Wrote.{as-long}
 use Rattle.text.proofs.Lines.{lines-at}
 use Rattle.text.proofs.Reporting.{rest-without}

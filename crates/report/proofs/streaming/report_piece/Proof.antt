@@ -1,9 +1,5 @@
 -- Refused where there is no room; else the piece is answered.
-use mathlib.Core.Path.{_≡_, sym, _∙_}
-use Prim.Native.Nat.{_≤_}
-use native.Mathlib.Omega.{arith}
-use lib.ListN.{length}
-use Rattle.text.proofs.Lines.{lines-fit}
+use mathlib.Core.Path.{sym, _∙_}
 use Rattle.text.proofs.Held.{room-enough}
 use borrow.Author.Tests.{not-true, not-false}
 use borrow.Author.Needs.{needs}
