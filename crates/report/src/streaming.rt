@@ -1,4 +1,5 @@
 // A text that comes in pieces: each is answered as far as its lines have ended, and what is left of a line is held for the next.
+use crate::answering::Answered;
 use crate::answering::put_line;
 use crate::answering::put_lines;
 use crate::scan::line_end;
@@ -8,14 +9,14 @@ ghost use mathlib.Core.Path.{_≡_};
 ghost use mathlib.Core.Bool.{cond};
 ghost use mathlib.Core.List.{_++_};
 ghost use Prim.Native.Nat.{_<_, _≤_, _+_, _*_, _^_, min};
-ghost use lib.ListN.{length, take};
+ghost use lib.ListN.{length, take, drop};
 ghost use lib.Seq.{sets as written};
 ghost use Rattle.theory.specs.Step.{stateOf};
-ghost use Rattle.text.specs.Lines.{linesOf};
+ghost use Rattle.text.specs.Lines.{linesOf, lineEnd};
 ghost use Rattle.text.specs.LineForm.{parseOf};
 ghost use Rattle.text.specs.Wrote.{Wrote};
 ghost use Rattle.text.specs.Report.{saidFor, stateAfter};
-ghost use Rattle.text.specs.Pieces.{heldMost, keptOf, fits, refused, progressAfter, saidIn, afterPiece, saidAtEnd, stateAtEnd};
+ghost use Rattle.text.specs.Pieces.{heldMost, kept, keptOf, fits, refused, progressAfter, saidIn, afterPiece, saidAtEnd, stateAtEnd};
 
 // So many bytes of a line are held at most: a line of more than 64 is refused, whatever else it says.
 const HELD_MOST: usize = 65;
@@ -75,6 +76,60 @@ fn put_first(
     )
 }
 
+// Answers the lines that end in a piece, the first going on from what is held. At least one ends: its LF stands at e.
+fn put_ended(
+    out: &mut [u8],
+    piece: &[u8],
+    e: usize,
+    held: &[u8],
+    begun: Progress,
+    control: &mut [u32; 17],
+    last: &mut [u32; 2048],
+    clocks: &mut [u32; 1536],
+    fullclocks: &mut [u32; 1536],
+    sets: &mut [u8; 196608],
+    fullsets: &mut [u8; 196608],
+) -> Answered
+    requires { ⌜ (begun .at + 64 * length (linesOf (now piece)) ≤ length (now out)) × (begun .held ≤ heldMost) × (heldMost ≤ length (now held))
+        × (begun .lines + length (now piece) < 2 ^ 64) × (e ≡ 0 + lineEnd (drop 0 (now piece))) × (e < length (now piece)) ⌝ }
+    ensures wrote { λ r. ⌜ Wrote (now (out .entry)) (begun .at)
+        (saidIn (keptOf (stateOf (now (control .entry)) (now (last .entry)) (now (clocks .entry)) (now (fullclocks .entry)) (now (sets .entry)) (now (fullsets .entry))) begun (now (held .entry))) (now (piece .entry)))
+        (now (out .exit)) (r .at) ⌝ }
+    ensures left { λ r. ⌜ (r .from ≤ length (now (piece .entry)))
+        × (r .at + 64 * length (linesOf (drop (r .from) (now (piece .entry)))) ≤ length (now (out .exit)))
+        × (kept (stateOf (now (control .exit)) (now (last .exit)) (now (clocks .exit)) (now (fullclocks .exit)) (now (sets .exit)) (now (fullsets .exit))) (r .lines) (take heldMost (drop (r .from) (now (piece .entry))))
+        ≡ afterPiece (keptOf (stateOf (now (control .entry)) (now (last .entry)) (now (clocks .entry)) (now (fullclocks .entry)) (now (sets .entry)) (now (fullsets .entry))) begun (now (held .entry))) (now (piece .entry))) ⌝ }
+{
+    let number = begun.lines + 1;
+    let at = put_first(
+        out,
+        begun.at,
+        number,
+        held,
+        begun.held,
+        &piece[..e],
+        control,
+        last,
+        clocks,
+        fullclocks,
+        sets,
+        fullsets,
+    );
+    put_lines(
+        out,
+        at,
+        number,
+        piece,
+        e + 1,
+        control,
+        last,
+        clocks,
+        fullclocks,
+        sets,
+        fullsets,
+    )
+}
+
 // Answers the lines that end in a piece, and holds what is left.
 pub(crate) fn put_piece(
     out: &mut [u8],
@@ -105,27 +160,12 @@ pub(crate) fn put_piece(
             at: begun.at,
         };
     }
-    let number = begun.lines + 1;
-    let at = put_first(
+    let answered = put_ended(
         out,
-        begun.at,
-        number,
-        held,
-        begun.held,
-        &piece[..e],
-        control,
-        last,
-        clocks,
-        fullclocks,
-        sets,
-        fullsets,
-    );
-    let answered = put_lines(
-        out,
-        at,
-        number,
         piece,
-        e + 1,
+        e,
+        held,
+        begun,
         control,
         last,
         clocks,
