@@ -22,7 +22,7 @@ extern "C" {
  * any line. Each call begins from a fresh state.
  *
  * Both pointers must be valid for their lengths and not null, also where a length is 0, and the two must not overlap.
- * The call needs about half a megabyte of stack. */
+ * The call needs under 72 kilobytes of stack. */
 uint64_t order_report(const uint8_t *text, size_t text_len, uint8_t *report, size_t report_len);
 
 #ifdef __cplusplus

@@ -14,8 +14,8 @@ ghost use Rattle.theory.specs.Step.{masksUnless};
 pub fn apart_by_clocks(
     control: &[u32; 17],
     last: &[u32; 2048],
-    clocks: &[u32; 1536],
-    fullclocks: &[u32; 1536],
+    clocks: &[u32; 1312],
+    fullclocks: &[u32; 1312],
     r: Record,
 ) -> Masks
     ensures { λ m. ⌜ m ≡ masksUnless (refusalIn (now (control .entry)) r) (clockMasks (now (clocks .entry)) (now (fullclocks .entry)) (now (last .entry)) (r .kind) (r .task) (r .on)) ⌝ }
@@ -34,8 +34,8 @@ pub fn apart_by_clocks(
 pub fn apart_by_sets(
     control: &[u32; 17],
     last: &[u32; 2048],
-    sets: &[u8; 196608],
-    fullsets: &[u8; 196608],
+    sets: &[u32; 5248],
+    fullsets: &[u32; 5248],
     r: Record,
 ) -> Masks
     ensures { λ m. ⌜ m ≡ masksUnless (refusalIn (now (control .entry)) r) (setMasks (now (sets .entry)) (now (fullsets .entry)) (now (last .entry)) (r .kind) (r .task) (r .on)) ⌝ }

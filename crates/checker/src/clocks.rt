@@ -1,12 +1,15 @@
-// Clocks: a table of 96 rows and a column for each task. A cell has the number of the task's last record from which order has come
-// to the row's node. One table is for the recording as it arrived, one for the fullest filling.
+// Clocks: a table of 81 rows and a column for each task, and one row more that says which tasks have acted. A cell has the number of the
+// task's last record from which order has come to the row's node. One table is for the recording as it arrived, one for the fullest filling.
 use crate::history::is_access;
 use crate::history::latest_number;
+use crate::kinds::JOIN;
 use crate::kinds::LOST;
 use crate::masks::weight_of;
-use crate::refusals::both;
-use crate::rows::heard_by;
+use crate::rows::HUB;
+use crate::rows::acted_after;
+use crate::rows::has_bit;
 use crate::rows::heard_row;
+use crate::rows::named_row;
 use crate::rows::told_by;
 use crate::rows::told_row;
 use theory::Masks;
@@ -15,9 +18,12 @@ ghost use mathlib.Core.Path.{_≡_};
 ghost use mathlib.Core.Bool.{false};
 ghost use lib.Dec.{eqb};
 ghost use Prim.Native.Nat.{_<_, max};
-ghost use Rattle.theory.specs.Tables.{joinRow, rowOf, joinWith, heardWith, putRow, flow, gather, spread, mix};
-ghost use Rattle.theory.specs.Reckonings.{clockAct, clocksArrived, clocksFull, clockApart, clockMask, clockMasks, masksBy};
+ghost use Rattle.theory.specs.Tables.{joinRow, rowOf, joinWith, heardWith, putRow, flow, joinsActed, onward, gather, spread, noteNamed, mix};
+ghost use Rattle.theory.specs.Reckonings.{clockOwn, clocksArrived, clocksFull, clockApart, clockMask, clockMasks, masksBy};
 ghost use Rattle.theory.specs.Acceptance.{Fitting};
+
+// Where the row of what has acted begins.
+const ACTED: usize = 1296;
 
 fn greater(a: u32, b: u32) -> u32
     ensures { λ r. ⌜ r ≡ max a b ⌝ }
@@ -26,9 +32,9 @@ fn greater(a: u32, b: u32) -> u32
 }
 
 // What row `from` knows is known to row `to` as well.
-fn join_row(cells: &mut [u32; 1536], to: usize, from: usize)
-    requires { ⌜ (to < 96) × (from < 96) ⌝ }
-    ensures { λ _. ⌜ now (cells .exit) ≡ joinRow 16 to from (now (cells .entry)) ⌝ }
+fn join_row(cells: &mut [u32; 1312], to: usize, from: usize)
+    requires { ⌜ (to < 82) × (from < 82) ⌝ }
+    ensures { λ _. ⌜ now (cells .exit) ≡ joinRow max 16 to from (now (cells .entry)) ⌝ }
 {
     if to == from {
         return;
@@ -41,8 +47,8 @@ fn join_row(cells: &mut [u32; 1536], to: usize, from: usize)
 }
 
 // A row by itself.
-fn row_of(cells: &[u32; 1536], from: usize) -> [u32; 16]
-    requires { ⌜ from < 96 ⌝ }
+fn row_of(cells: &[u32; 1312], from: usize) -> [u32; 16]
+    requires { ⌜ from < 82 ⌝ }
     ensures { λ r. ⌜ r ≡ rowOf 16 from (now (cells .entry)) ⌝ }
 {
     let mut row = [0u32; 16];
@@ -55,9 +61,9 @@ fn row_of(cells: &[u32; 1536], from: usize) -> [u32; 16]
 }
 
 // What a row that stands by itself knows is known to row `to` as well.
-fn join_with(cells: &mut [u32; 1536], to: usize, row: &[u32; 16])
-    requires { ⌜ to < 96 ⌝ }
-    ensures { λ _. ⌜ now (cells .exit) ≡ joinWith 16 to (now (row .entry)) (now (cells .entry)) ⌝ }
+fn join_with(cells: &mut [u32; 1312], to: usize, row: &[u32; 16])
+    requires { ⌜ to < 82 ⌝ }
+    ensures { λ _. ⌜ now (cells .exit) ≡ joinWith max 16 to (now (row .entry)) (now (cells .entry)) ⌝ }
 {
     let mut c = 0;
     while c < 16 {
@@ -67,8 +73,8 @@ fn join_with(cells: &mut [u32; 1536], to: usize, row: &[u32; 16])
 }
 
 // Row `to` with the cells of a row that stands by itself.
-fn put_row(cells: &mut [u32; 1536], to: usize, row: &[u32; 16])
-    requires { ⌜ to < 96 ⌝ }
+fn put_row(cells: &mut [u32; 1312], to: usize, row: &[u32; 16])
+    requires { ⌜ to < 82 ⌝ }
     ensures { λ _. ⌜ now (cells .exit) ≡ putRow 16 to (now (row .entry)) (now (cells .entry)) ⌝ }
 {
     let mut c = 0;
@@ -78,24 +84,28 @@ fn put_row(cells: &mut [u32; 1536], to: usize, row: &[u32; 16])
     }
 }
 
-// Order over an act: the task's next act knows what the heard row knows; from a copy that stays in registers, that it has acted knows it,
-// and it is passed on.
-fn flow(cells: &mut [u32; 1536], heard: usize, told: usize, task: usize)
-    requires { ⌜ (heard < 96) × (told < 96) × (task < 16) ⌝ }
-    ensures { λ _. ⌜ now (cells .exit) ≡ flow 16 heard told task (now (cells .entry)) ⌝ }
+// Order over an act: the task's next act knows what the heard row knows; from a copy that stays in registers it is passed on, to an object
+// and to the hub alike.
+fn flow(cells: &mut [u32; 1312], heard: usize, told: usize, task: usize)
+    requires { ⌜ (heard < 82) × (told < 82) × (task < 16) ⌝ }
+    ensures { λ _. ⌜ now (cells .exit) ≡ flow max 16 heard told task (now (cells .entry)) ⌝ }
 {
     join_row(cells, task, heard);
-    let row = row_of(cells, task);
-    put_row(cells, 16 + task, &row);
-    if told != task {
-        join_with(cells, told, &row);
+    if told == task {
+        return;
     }
+    let row = row_of(cells, task);
+    join_with(cells, told, &row);
+    if told < 16 {
+        return;
+    }
+    join_with(cells, HUB, &row);
 }
 
 // A row by itself with what row `from` knows, too.
-fn heard_with(cells: &[u32; 1536], from: usize, row: &[u32; 16]) -> [u32; 16]
-    requires { ⌜ from < 96 ⌝ }
-    ensures { λ r. ⌜ r ≡ heardWith 16 from (now (row .entry)) (now (cells .entry)) ⌝ }
+fn heard_with(cells: &[u32; 1312], from: usize, row: &[u32; 16]) -> [u32; 16]
+    requires { ⌜ from < 82 ⌝ }
+    ensures { λ r. ⌜ r ≡ heardWith max 16 from (now (row .entry)) (now (cells .entry)) ⌝ }
 {
     let mut next = [0u32; 16];
     let mut c = 0;
@@ -106,71 +116,97 @@ fn heard_with(cells: &[u32; 1536], from: usize, row: &[u32; 16]) -> [u32; 16]
     next
 }
 
-// What a mark's lost records can hear comes to the hub, by way of a row that stays in registers. Nothing of the tasks' having acted is heard,
-// and every object is, so that nothing is asked of the rows after the tasks'.
-fn gather(cells: &mut [u32; 1536], mask: u32)
-    ensures { λ _. ⌜ now (cells .exit) ≡ gather 16 mask (now (cells .entry)) ⌝ }
+// What a mark's lost records can hear comes to the hub, by way of a row that stays in registers.
+fn gather(cells: &mut [u32; 1312], mask: u32)
+    ensures { λ _. ⌜ now (cells .exit) ≡ gather max 16 mask (now (cells .entry)) ⌝ }
 {
     let mut known = [0u32; 16];
-    let mut r = 0;
-    while r < 16 {
-        let next = heard_with(cells, heard_by(mask, r), &known);
+    let mut t = 0;
+    while t < 16 {
+        let next = heard_with(cells, named_row(mask, t), &known);
         known = next;
-        r += 1;
+        t += 1;
     }
-    r = 32;
-    while r < 96 {
-        let next = heard_with(cells, r, &known);
-        known = next;
-        r += 1;
-    }
-    join_with(cells, 32, &known);
+    join_with(cells, HUB, &known);
 }
 
 // What the hub knows, all that they can tell knows, from a copy that stays in the processor's registers. Every object is told, so that
-// nothing is asked of the rows from the hub on.
-fn spread(cells: &mut [u32; 1536], mask: u32)
+// nothing is asked of the rows after the tasks'.
+fn spread(cells: &mut [u32; 1312], mask: u32)
     ensures { λ _. ⌜ now (cells .exit) ≡ spread 16 mask (now (cells .entry)) ⌝ }
 {
-    let hub = row_of(cells, 32);
+    let hub = row_of(cells, HUB);
     let mut r = 0;
-    while r < 32 {
+    while r < 16 {
         put_row(cells, told_by(mask, r), &hub);
         r += 1;
     }
-    while r < 96 {
+    while r < HUB {
         put_row(cells, r, &hub);
         r += 1;
     }
 }
 
+// The tasks that the mask names have acted.
+fn note_named(cells: &mut [u32; 1312], mask: u32)
+    ensures { λ _. ⌜ now (cells .exit) ≡ noteNamed 16 mask (now (cells .entry)) ⌝ }
+{
+    let mut t = 0;
+    while t < 16 {
+        cells[ACTED + t] = acted_after(has_bit(mask, t as u32), cells[ACTED + t]);
+        t += 1;
+    }
+}
+
 // The fullest filling of a mark.
-fn mix(cells: &mut [u32; 1536], mask: u32)
-    ensures { λ _. ⌜ now (cells .exit) ≡ mix 16 mask (now (cells .entry)) ⌝ }
+fn mix(cells: &mut [u32; 1312], mask: u32)
+    ensures { λ _. ⌜ now (cells .exit) ≡ mix max 16 mask (now (cells .entry)) ⌝ }
 {
     gather(cells, mask);
     spread(cells, mask);
+    note_named(cells, mask);
 }
 
-// The clocks after an act: the task's own cell is the act's number.
-fn act(cells: &mut [u32; 1536], kind: u8, task: u32, on: u32, number: u32)
-    requires { ⌜ Fitting kind task on ⌝ }
-    ensures { λ _. ⌜ now (cells .exit) ≡ clockAct kind task on number (now (cells .entry)) ⌝ }
+// An act joins a task that has acted.
+fn joins_acted(cells: &[u32; 1312], kind: u8, on: u32) -> bool
+    requires { ⌜ (kind ≡ 7 → on < 16) ⌝ }
+    ensures { λ r. ⌜ r ≡ joinsActed 16 (now (cells .entry)) kind on ⌝ }
 {
-    let t = task as usize;
-    cells[t * 16 + t] = number;
+    if kind == JOIN {
+        0 < cells[ACTED + on as usize]
+    } else {
+        false
+    }
+}
+
+// Order over an act of a kind.
+fn pass_on(cells: &mut [u32; 1312], kind: u8, task: u32, on: u32)
+    requires { ⌜ Fitting kind task on ⌝ }
+    ensures { λ _. ⌜ now (cells .exit) ≡ onward max 16 kind task on (now (cells .entry)) ⌝ }
+{
+    let joins = joins_acted(cells, kind, on);
     flow(
         cells,
-        heard_row(kind, Task(task), on),
+        heard_row(kind, Task(task), on, joins),
         told_row(kind, Task(task), on),
-        t,
+        task as usize,
     );
 }
 
-// Both tables after an accepted record.
+// An act's own part: the task's own cell is the act's number, and the task has acted.
+fn own(cells: &mut [u32; 1312], task: u32, number: u32)
+    requires { ⌜ task < 16 ⌝ }
+    ensures { λ _. ⌜ now (cells .exit) ≡ clockOwn task number (now (cells .entry)) ⌝ }
+{
+    let t = task as usize;
+    cells[t * 16 + t] = number;
+    cells[ACTED + t] = 1;
+}
+
+// Both tables after an accepted record. An access hears and tells no other row.
 pub(crate) fn advance_clocks(
-    clocks: &mut [u32; 1536],
-    fullclocks: &mut [u32; 1536],
+    clocks: &mut [u32; 1312],
+    fullclocks: &mut [u32; 1312],
     kind: u8,
     task: u32,
     on: u32,
@@ -184,25 +220,27 @@ pub(crate) fn advance_clocks(
         mix(fullclocks, on);
         return;
     }
-    act(clocks, kind, task, on, number);
-    act(fullclocks, kind, task, on, number);
+    own(clocks, task, number);
+    own(fullclocks, task, number);
+    if is_access(kind) {
+        return;
+    }
+    pass_on(clocks, kind, task, on);
+    pass_on(fullclocks, kind, task, on);
 }
 
-// Whether task u's latest conflicting access is not known to the acting task. Nothing foresees which task acts, so no branch is taken on it.
-fn apart(cells: &[u32; 1536], last: &[u32; 2048], kind: u8, task: u32, on: u32, u: u32) -> bool
+// Whether task u's latest conflicting access is not known to the acting task. Of its own the task knows.
+fn apart(cells: &[u32; 1312], last: &[u32; 2048], kind: u8, task: u32, on: u32, u: u32) -> bool
     requires { ⌜ (task < 16) × (on < 64) × (u < 16) ⌝ }
     ensures { λ r. ⌜ r ≡ clockApart (now (cells .entry)) (now (last .entry)) kind task on u ⌝ }
 {
-    both(
-        u != task,
-        cells[task as usize * 16 + u as usize] < latest_number(last, kind, on, u),
-    )
+    cells[task as usize * 16 + u as usize] < latest_number(last, kind, on, u)
 }
 
 // Both masks of an access. Sums of weights that grow upward, of both tables in one loop, are what the compiler makes vector code of.
 fn masks(
-    clocks: &[u32; 1536],
-    fullclocks: &[u32; 1536],
+    clocks: &[u32; 1312],
+    fullclocks: &[u32; 1312],
     last: &[u32; 2048],
     kind: u8,
     task: u32,
@@ -227,8 +265,8 @@ fn masks(
 
 // The masks of the tasks whose latest conflicting access has no path to this access; empty for any other record.
 pub(crate) fn clock_masks(
-    clocks: &[u32; 1536],
-    fullclocks: &[u32; 1536],
+    clocks: &[u32; 1312],
+    fullclocks: &[u32; 1312],
     last: &[u32; 2048],
     kind: u8,
     task: u32,

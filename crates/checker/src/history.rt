@@ -9,7 +9,7 @@ ghost use mathlib.Core.Bool.{false, cond};
 ghost use lib.Dec.{eqb};
 ghost use Prim.Native.Nat.{_<_};
 ghost use Rattle.theory.specs.Acceptance.{Fitting};
-ghost use Rattle.theory.specs.History.{accesses, slot, latestSlot, latestNumber, lastAfter};
+ghost use Rattle.theory.specs.History.{accesses, slot, otherKind, otherLater, latestNumber, lastAfter};
 
 pub(crate) fn is_access(kind: u8) -> bool
     ensures { λ r. ⌜ r ≡ accesses kind ⌝ }
@@ -25,30 +25,25 @@ pub(crate) fn slot(kind: u8, v: Variable, u: Task) -> usize
     (kind as usize * 64 + v.0 as usize) * 16 + u.0 as usize
 }
 
-// The slot of task u's latest access to v that conflicts with one of this kind.
-pub(crate) fn latest_slot(last: &[u32; 2048], kind: u8, v: u32, u: u32) -> usize
-    requires { ⌜ (v < 64) × (u < 16) ⌝ }
-    ensures { λ r. ⌜ (r ≡ latestSlot (now (last .entry)) kind v u) × (r < 2048) ⌝ }
-{
-    let read = slot(READ, Variable(v), Task(u));
-    let write = slot(WRITE, Variable(v), Task(u));
-    if kind == WRITE {
-        if last[write] < last[read] {
-            return read;
-        }
-    }
-    write
-}
-
 // The kind of access beside a write that conflicts with this one: a read with a write, and nothing but a write with a read.
-fn other_kind(kind: u8) -> u8
-    ensures { λ r. ⌜ (r ≡ cond (eqb kind 1) 0 1) × (r < 2) ⌝ }
+pub(crate) fn other_kind(kind: u8) -> u8
+    ensures { λ r. ⌜ (r ≡ otherKind kind) × (r < 2) ⌝ }
 {
     if kind == WRITE { READ } else { WRITE }
 }
 
-// Its record number, 0 where there is none. It is the greater of two numbers whatever the kind, so that a loop over the tasks makes vector
-// code of it.
+// Task u's latest access of that kind to v came after its latest write.
+pub(crate) fn other_later(last: &[u32; 2048], kind: u8, v: u32, u: u32) -> bool
+    requires { ⌜ (v < 64) × (u < 16) ⌝ }
+    ensures { λ r. ⌜ r ≡ otherLater (now (last .entry)) kind v u ⌝ }
+{
+    let write = last[slot(WRITE, Variable(v), Task(u))];
+    let other = last[slot(other_kind(kind), Variable(v), Task(u))];
+    write < other
+}
+
+// The record number of task u's latest access to v that conflicts with one of this kind, 0 where there is none. It is the greater of two
+// numbers whatever the kind, so that a loop over the tasks makes vector code of it.
 pub(crate) fn latest_number(last: &[u32; 2048], kind: u8, v: u32, u: u32) -> u32
     requires { ⌜ (v < 64) × (u < 16) ⌝ }
     ensures { λ r. ⌜ r ≡ latestNumber (now (last .entry)) kind v u ⌝ }

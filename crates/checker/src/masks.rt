@@ -5,18 +5,12 @@ use theory::Answer;
 use theory::Masks;
 use theory::RecordNumber;
 ghost use mathlib.Core.Path.{_≡_};
-ghost use Prim.Native.Nat.{_<_, _≤_, _*_, _^_};
+ghost use Prim.Native.Nat.{_<_, _*_, _^_};
 ghost use Rattle.theory.specs.Reckonings.{bitOf, lowestTask};
 ghost use Rattle.theory.specs.Step.{judgedBy, answeredBy, sameMasks};
 ghost use mathlib.Core.Bool.{false, not};
 ghost use lib.Dec.{eqb};
 ghost use Rattle.theory.specs.Acceptance.{Fitting};
-
-pub(crate) fn bit_of(b: bool) -> u16
-    ensures { λ r. ⌜ (r ≡ bitOf b) × (r ≤ 1) ⌝ }
-{
-    if b { 1 } else { 0 }
-}
 
 // What task u adds to a mask that it is in or not.
 pub(crate) fn weight_of(b: bool, u: u32) -> u32

@@ -1,6 +1,5 @@
 // Rows of the clocks' and the sets' tables: which row an act hears and tells, and how a row's knowledge goes to another.
 use crate::kinds::GIVE;
-use crate::kinds::JOIN;
 use crate::kinds::LOOK;
 use crate::kinds::SET;
 use crate::kinds::START;
@@ -9,9 +8,13 @@ use theory::Flag;
 use theory::Semaphore;
 use theory::Task;
 ghost use mathlib.Core.Path.{_≡_};
+ghost use mathlib.Core.Bool.{cond};
 ghost use Prim.Native.Nat.{_<_};
 ghost use Rattle.theory.specs.Completion.{bit};
-ghost use Rattle.theory.specs.Tables.{dueRow, actedRow, semaphoreRow, flagRow, heardRow, toldRow, isHeard, isTold, rowOrHub};
+ghost use Rattle.theory.specs.Tables.{dueRow, semaphoreRow, flagRow, heardRow, toldRow, isTold, rowOrHub};
+
+// The row that knows what any semaphore or flag knows.
+pub(crate) const HUB: usize = 80;
 
 fn due_row(t: Task) -> usize
     ensures { λ r. ⌜ r ≡ dueRow (t .0) ⌝ }
@@ -19,33 +22,33 @@ fn due_row(t: Task) -> usize
     t.0 as usize
 }
 
-fn acted_row(t: Task) -> usize
-    ensures { λ r. ⌜ r ≡ actedRow (t .0) ⌝ }
+// The row of the one task or of the other.
+fn due_row_of(first: bool, one: Task, other: Task) -> usize
+    ensures { λ r. ⌜ r ≡ cond first (dueRow (one .0)) (dueRow (other .0)) ⌝ }
 {
-    16 + t.0 as usize
+    if first { due_row(one) } else { due_row(other) }
 }
 
 fn semaphore_row(s: Semaphore) -> usize
     ensures { λ r. ⌜ r ≡ semaphoreRow (s .0) ⌝ }
 {
-    32 + s.0 as usize
+    16 + s.0 as usize
 }
 
 fn flag_row(f: Flag) -> usize
     ensures { λ r. ⌜ r ≡ flagRow (f .0) ⌝ }
 {
-    64 + f.0 as usize
+    48 + f.0 as usize
 }
 
-// The row that an act hears beside its own task's; that own row where there is none.
-pub(crate) fn heard_row(kind: u8, task: Task, on: u32) -> usize
-    ensures { λ r. ⌜ r ≡ heardRow kind (task .0) on ⌝ }
+// The row that an act hears beside its own task's; that own row where there is none. A join reads the ended task's, if that has acted.
+pub(crate) fn heard_row(kind: u8, task: Task, on: u32, joins: bool) -> usize
+    ensures { λ r. ⌜ r ≡ heardRow kind (task .0) on joins ⌝ }
 {
     match kind {
         TAKE => semaphore_row(Semaphore(on)),
         LOOK => flag_row(Flag(on)),
-        JOIN => acted_row(Task(on)),
-        _ => due_row(task),
+        _ => due_row_of(joins, Task(on), task),
     }
 }
 
@@ -69,32 +72,29 @@ pub(crate) fn has_bit(mask: u32, t: u32) -> bool
     (mask >> t) % 2 == 1
 }
 
-// Row r where a mark's lost records can hear it, and the hub where not.
-pub(crate) fn heard_by(mask: u32, r: usize) -> usize
-    requires { ⌜ r < 96 ⌝ }
-    ensures { λ q. ⌜ (q ≡ rowOrHub (isHeard mask r) r) × (q < 96) ⌝ }
+// The row of task t's next act where the mask names it, and the hub where not.
+pub(crate) fn named_row(mask: u32, t: usize) -> usize
+    requires { ⌜ t < 16 ⌝ }
+    ensures { λ q. ⌜ (q ≡ rowOrHub (bit mask t) t) × (q < 82) ⌝ }
+{
+    if has_bit(mask, t as u32) { t } else { HUB }
+}
+
+// Row r where a mark's lost records can tell it, and the hub where not.
+pub(crate) fn told_by(mask: u32, r: usize) -> usize
+    requires { ⌜ r < 80 ⌝ }
+    ensures { λ q. ⌜ (q ≡ rowOrHub (isTold mask r) r) × (q < 82) ⌝ }
 {
     if r < 16 {
-        if has_bit(mask, r as u32) { r } else { 32 }
-    } else if r < 32 {
-        32
+        if has_bit(mask, r as u32) { r } else { HUB }
     } else {
         r
     }
 }
 
-// Row r where they can tell it, and the hub where not.
-pub(crate) fn told_by(mask: u32, r: usize) -> usize
-    requires { ⌜ r < 96 ⌝ }
-    ensures { λ q. ⌜ (q ≡ rowOrHub (isTold mask r) r) × (q < 96) ⌝ }
+// Whether a task has acted, as a number, after a mark that names it or does not.
+pub(crate) fn acted_after(named: bool, before: u32) -> u32
+    ensures { λ r. ⌜ r ≡ cond named 1 before ⌝ }
 {
-    if r < 32 {
-        if has_bit(mask, (r % 16) as u32) {
-            r
-        } else {
-            32
-        }
-    } else {
-        r
-    }
+    if named { 1 } else { before }
 }

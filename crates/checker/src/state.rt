@@ -21,8 +21,8 @@ pub fn fresh_clocks() -> ClockState
     ClockState {
         control,
         last: [0; 2048],
-        clocks: [0; 1536],
-        fullclocks: [0; 1536],
+        clocks: [0; 1312],
+        fullclocks: [0; 1312],
     }
 }
 
@@ -33,8 +33,8 @@ pub fn fresh_sets() -> SetState
     SetState {
         control,
         last: [0; 2048],
-        sets: [0; 196608],
-        fullsets: [0; 196608],
+        sets: [0; 5248],
+        fullsets: [0; 5248],
     }
 }
 
@@ -45,9 +45,9 @@ pub fn fresh() -> State
     State {
         control,
         last: [0; 2048],
-        clocks: [0; 1536],
-        fullclocks: [0; 1536],
-        sets: [0; 196608],
-        fullsets: [0; 196608],
+        clocks: [0; 1312],
+        fullclocks: [0; 1312],
+        sets: [0; 5248],
+        fullsets: [0; 5248],
     }
 }

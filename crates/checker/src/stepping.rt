@@ -24,8 +24,8 @@ ghost use Rattle.theory.specs.Step.{clockStepOf, setStepOf, stepOf, clocksOf, s
 pub fn clock_step_in_place(
     control: &mut [u32; 17],
     last: &mut [u32; 2048],
-    clocks: &mut [u32; 1536],
-    fullclocks: &mut [u32; 1536],
+    clocks: &mut [u32; 1312],
+    fullclocks: &mut [u32; 1312],
     r: Record,
 ) -> Answer
     ensures { λ a. ⌜ clocksWith (now (control .exit)) (now (last .exit)) (now (clocks .exit)) (now (fullclocks .exit)) a
@@ -48,8 +48,8 @@ pub fn clock_step_in_place(
 pub fn set_step_in_place(
     control: &mut [u32; 17],
     last: &mut [u32; 2048],
-    sets: &mut [u8; 196608],
-    fullsets: &mut [u8; 196608],
+    sets: &mut [u32; 5248],
+    fullsets: &mut [u32; 5248],
     r: Record,
 ) -> Answer
     ensures { λ a. ⌜ setsWith (now (control .exit)) (now (last .exit)) (now (sets .exit)) (now (fullsets .exit)) a
@@ -72,10 +72,10 @@ pub fn set_step_in_place(
 pub fn step_in_place(
     control: &mut [u32; 17],
     last: &mut [u32; 2048],
-    clocks: &mut [u32; 1536],
-    fullclocks: &mut [u32; 1536],
-    sets: &mut [u8; 196608],
-    fullsets: &mut [u8; 196608],
+    clocks: &mut [u32; 1312],
+    fullclocks: &mut [u32; 1312],
+    sets: &mut [u32; 5248],
+    fullsets: &mut [u32; 5248],
     r: Record,
 ) -> Answer
     ensures { λ a. ⌜ stateWith (now (control .exit)) (now (last .exit)) (now (clocks .exit)) (now (fullclocks .exit)) (now (sets .exit)) (now (fullsets .exit)) a

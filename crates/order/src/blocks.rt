@@ -73,10 +73,10 @@ fn answer_piece(
     begun: Progress,
     control: &mut [u32; 17],
     last: &mut [u32; 2048],
-    clocks: &mut [u32; 1536],
-    fullclocks: &mut [u32; 1536],
-    sets: &mut [u8; 196608],
-    fullsets: &mut [u8; 196608],
+    clocks: &mut [u32; 1312],
+    fullclocks: &mut [u32; 1312],
+    sets: &mut [u32; 5248],
+    fullsets: &mut [u32; 5248],
 ) -> Progress {
     let now = report_piece(
         out,
@@ -101,10 +101,10 @@ fn answer_block(
     begun: Progress,
     control: &mut [u32; 17],
     last: &mut [u32; 2048],
-    clocks: &mut [u32; 1536],
-    fullclocks: &mut [u32; 1536],
-    sets: &mut [u8; 196608],
-    fullsets: &mut [u8; 196608],
+    clocks: &mut [u32; 1312],
+    fullclocks: &mut [u32; 1312],
+    sets: &mut [u32; 5248],
+    fullsets: &mut [u32; 5248],
 ) -> Progress {
     let mut now = begun;
     let mut p: usize = 0;
@@ -135,10 +135,10 @@ fn answer_read(
     begun: Progress,
     control: &mut [u32; 17],
     last: &mut [u32; 2048],
-    clocks: &mut [u32; 1536],
-    fullclocks: &mut [u32; 1536],
-    sets: &mut [u8; 196608],
-    fullsets: &mut [u8; 196608],
+    clocks: &mut [u32; 1312],
+    fullclocks: &mut [u32; 1312],
+    sets: &mut [u32; 5248],
+    fullsets: &mut [u32; 5248],
 ) -> Turn {
     let got = libc::read(STDIN_FILENO, block);
     if got < 0 {
@@ -170,10 +170,10 @@ pub(crate) fn answer_input(
     begun: Progress,
     control: &mut [u32; 17],
     last: &mut [u32; 2048],
-    clocks: &mut [u32; 1536],
-    fullclocks: &mut [u32; 1536],
-    sets: &mut [u8; 196608],
-    fullsets: &mut [u8; 196608],
+    clocks: &mut [u32; 1312],
+    fullclocks: &mut [u32; 1312],
+    sets: &mut [u32; 5248],
+    fullsets: &mut [u32; 5248],
 ) -> Progress {
     let mut block = io::large_buffer();
     let mut now = begun;
@@ -206,10 +206,10 @@ pub(crate) fn finish(
     begun: Progress,
     control: &mut [u32; 17],
     last: &mut [u32; 2048],
-    clocks: &mut [u32; 1536],
-    fullclocks: &mut [u32; 1536],
-    sets: &mut [u8; 196608],
-    fullsets: &mut [u8; 196608],
+    clocks: &mut [u32; 1312],
+    fullclocks: &mut [u32; 1312],
+    sets: &mut [u32; 5248],
+    fullsets: &mut [u32; 5248],
 ) {
     if begun.held == 0 {
         write_out(out, begun);

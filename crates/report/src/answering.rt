@@ -26,10 +26,10 @@ pub(crate) fn put_parsed(
     parsed: Parsed,
     control: &mut [u32; 17],
     last: &mut [u32; 2048],
-    clocks: &mut [u32; 1536],
-    fullclocks: &mut [u32; 1536],
-    sets: &mut [u8; 196608],
-    fullsets: &mut [u8; 196608],
+    clocks: &mut [u32; 1312],
+    fullclocks: &mut [u32; 1312],
+    sets: &mut [u32; 5248],
+    fullsets: &mut [u32; 5248],
 ) -> usize
     requires { ⌜ (at + 64 ≤ length (now out)) × ((r : Record) → parsed ≡ Parsed.Record r → Sayable r) ⌝ }
     ensures wrote { λ to. ⌜ (to ≤ at + 64) × Wrote (now (out .entry)) at
@@ -53,10 +53,10 @@ pub(crate) fn put_line(
     line: &[u8],
     control: &mut [u32; 17],
     last: &mut [u32; 2048],
-    clocks: &mut [u32; 1536],
-    fullclocks: &mut [u32; 1536],
-    sets: &mut [u8; 196608],
-    fullsets: &mut [u8; 196608],
+    clocks: &mut [u32; 1312],
+    fullclocks: &mut [u32; 1312],
+    sets: &mut [u32; 5248],
+    fullsets: &mut [u32; 5248],
 ) -> usize
     requires { ⌜ at + 64 ≤ length (now out) ⌝ }
     ensures wrote { λ to. ⌜ (to ≤ at + 64) × Wrote (now (out .entry)) at
@@ -96,10 +96,10 @@ pub(crate) fn put_lines(
     from: usize,
     control: &mut [u32; 17],
     last: &mut [u32; 2048],
-    clocks: &mut [u32; 1536],
-    fullclocks: &mut [u32; 1536],
-    sets: &mut [u8; 196608],
-    fullsets: &mut [u8; 196608],
+    clocks: &mut [u32; 1312],
+    fullclocks: &mut [u32; 1312],
+    sets: &mut [u32; 5248],
+    fullsets: &mut [u32; 5248],
 ) -> Answered
     requires { ⌜ (from ≤ length (now piece)) × (at + 64 * length (linesOf (drop from (now piece))) ≤ length (now out)) × (lines + (length (now piece) - from) < 2 ^ 64) ⌝ }
     ensures wrote { λ r. ⌜ Wrote (now (out .entry)) at

@@ -19,10 +19,10 @@ fn write_report(text: &[u8], report: &mut [u8]) -> usize
     let mut control = [0u32; 17];
     control[0] = 1;
     let mut last = [0u32; 2048];
-    let mut clocks = [0u32; 1536];
-    let mut fullclocks = [0u32; 1536];
-    let mut sets = [0u8; 196608];
-    let mut fullsets = [0u8; 196608];
+    let mut clocks = [0u32; 1312];
+    let mut fullclocks = [0u32; 1312];
+    let mut sets = [0u32; 5248];
+    let mut fullsets = [0u32; 5248];
     let mut held = [0u8; 65];
     let none = Progress {
         lines: 0,

@@ -47,10 +47,10 @@ fn put_first(
     s: &[u8],
     control: &mut [u32; 17],
     last: &mut [u32; 2048],
-    clocks: &mut [u32; 1536],
-    fullclocks: &mut [u32; 1536],
-    sets: &mut [u8; 196608],
-    fullsets: &mut [u8; 196608],
+    clocks: &mut [u32; 1312],
+    fullclocks: &mut [u32; 1312],
+    sets: &mut [u32; 5248],
+    fullsets: &mut [u32; 5248],
 ) -> usize
     requires { ⌜ (at + 64 ≤ length (now out)) × (n ≤ heldMost) × (heldMost ≤ length (now held)) ⌝ }
     ensures wrote { λ to. ⌜ (to ≤ at + 64) × Wrote (now (out .entry)) at
@@ -85,10 +85,10 @@ fn put_ended(
     begun: Progress,
     control: &mut [u32; 17],
     last: &mut [u32; 2048],
-    clocks: &mut [u32; 1536],
-    fullclocks: &mut [u32; 1536],
-    sets: &mut [u8; 196608],
-    fullsets: &mut [u8; 196608],
+    clocks: &mut [u32; 1312],
+    fullclocks: &mut [u32; 1312],
+    sets: &mut [u32; 5248],
+    fullsets: &mut [u32; 5248],
 ) -> Answered
     requires { ⌜ (begun .at + 64 * length (linesOf (now piece)) ≤ length (now out)) × (begun .held ≤ heldMost) × (heldMost ≤ length (now held))
         × (begun .lines + length (now piece) < 2 ^ 64) × (e ≡ 0 + lineEnd (drop 0 (now piece))) × (e < length (now piece)) ⌝ }
@@ -138,10 +138,10 @@ pub(crate) fn put_piece(
     begun: Progress,
     control: &mut [u32; 17],
     last: &mut [u32; 2048],
-    clocks: &mut [u32; 1536],
-    fullclocks: &mut [u32; 1536],
-    sets: &mut [u8; 196608],
-    fullsets: &mut [u8; 196608],
+    clocks: &mut [u32; 1312],
+    fullclocks: &mut [u32; 1312],
+    sets: &mut [u32; 5248],
+    fullsets: &mut [u32; 5248],
 ) -> Progress
     requires { ⌜ (begun .at + 64 * length (linesOf (now piece)) ≤ length (now out)) × (begun .held ≤ heldMost) × (heldMost ≤ length (now held))
         × (begun .lines + length (now piece) < 2 ^ 64) ⌝ }
@@ -189,10 +189,10 @@ pub(crate) fn put_rest(
     begun: Progress,
     control: &mut [u32; 17],
     last: &mut [u32; 2048],
-    clocks: &mut [u32; 1536],
-    fullclocks: &mut [u32; 1536],
-    sets: &mut [u8; 196608],
-    fullsets: &mut [u8; 196608],
+    clocks: &mut [u32; 1312],
+    fullclocks: &mut [u32; 1312],
+    sets: &mut [u32; 5248],
+    fullsets: &mut [u32; 5248],
 ) -> usize
     requires { ⌜ (begun .held ≤ length (now held)) × (0 < begun .held → begun .at + 64 ≤ length (now out)) × (begun .lines + 1 < 2 ^ 64) ⌝ }
     ensures said { λ to. ⌜ Wrote (now (out .entry)) (begun .at)
@@ -252,10 +252,10 @@ pub fn report_piece(
     begun: Progress,
     control: &mut [u32; 17],
     last: &mut [u32; 2048],
-    clocks: &mut [u32; 1536],
-    fullclocks: &mut [u32; 1536],
-    sets: &mut [u8; 196608],
-    fullsets: &mut [u8; 196608],
+    clocks: &mut [u32; 1312],
+    fullclocks: &mut [u32; 1312],
+    sets: &mut [u32; 5248],
+    fullsets: &mut [u32; 5248],
 ) -> Progress
     ensures said { λ r. ⌜ (r ≡ cond (fits (length (now (out .entry))) (length (now (piece .entry))) (length (now (held .entry))) begun) (progressAfter (keptOf (stateOf (now (control .entry)) (now (last .entry)) (now (clocks .entry)) (now (fullclocks .entry)) (now (sets .entry)) (now (fullsets .entry))) begun (now (held .entry))) (begun .at) (now (piece .entry))) (refused begun))
         × (now (out .exit) ≡ cond (fits (length (now (out .entry))) (length (now (piece .entry))) (length (now (held .entry))) begun) (written (now (out .entry)) (begun .at) (saidIn (keptOf (stateOf (now (control .entry)) (now (last .entry)) (now (clocks .entry)) (now (fullclocks .entry)) (now (sets .entry)) (now (fullsets .entry))) begun (now (held .entry))) (now (piece .entry)))) (now (out .entry))) ⌝ }

@@ -11,7 +11,7 @@ use borrow.Author.Tests.{lt-ltb, le-ltb, ltb-true, ltb-false}
 use lib.Dec.{T, ltb, eqb}
 use Rattle.theory.specs.Recording.{Op, read, write, take, give, look, start, join, Event, act, lost, series, kind, _is_, ActsIn, acts}
 use Rattle.theory.specs.Order.{isAccess, Conflict, conflict}
-use Rattle.theory.specs.History.{slot, lastOf, latestSlot, latestNumber}
+use Rattle.theory.specs.History.{slot, lastOf, otherKind, otherLater, latestSlot, latestNumber}
 use Rattle.theory.proofs.Reflects.{Reflects, right, wrong, at-most}
 use Rattle.theory.proofs.Places.{Occurs, first, next}
 use Rattle.theory.proofs.Tests.{Again}
@@ -86,7 +86,7 @@ module _ {p : Op} {t v u : ℕ} (ap : T (isAccess p)) (hv : v < 64) (hu : u < 16
   conflict-slot acts (conflict {o = write} a b n w) = (slot 1 v u, writes, in-slot a hu hv refl)
 
 -- its number is the greater of two for either kind of access: a read has the write twice
-pub latest-greater : (last : List ℕ) (k v u : ℕ) → latestNumber last k v u ≡ max (lastOf last (slot 1 v u)) (lastOf last (slot (cond (eqb k 1) 0 1) v u))
+pub latest-greater : (last : List ℕ) (k v u : ℕ) → latestNumber last k v u ≡ max (lastOf last (slot 1 v u)) (lastOf last (slot (otherKind k) v u))
 latest-greater last k v u = by-kind (eqb k 1)
   where
     later : (b : Bool) → ltb (lastOf last (slot 1 v u)) (lastOf last (slot 0 v u)) ≡ b →
@@ -99,6 +99,20 @@ latest-greater last k v u = by-kind (eqb k 1)
         ≡ max (lastOf last (slot 1 v u)) (lastOf last (slot (cond b 0 1) v u))
     by-kind true = later (ltb (lastOf last (slot 1 v u)) (lastOf last (slot 0 v u))) refl
     by-kind false = omega arith
+
+-- its slot is that of the other kind where that is later, and that of the write elsewhere
+pub latest-later : (last : List ℕ) (k v u : ℕ) → latestSlot last k v u ≡ cond (otherLater last k v u) (slot (otherKind k) v u) (slot 1 v u)
+latest-later last k v u = by-kind (eqb k 1)
+  where
+    either : (b : Bool) → slot 1 v u ≡ cond b (slot 1 v u) (slot 1 v u)
+    either true = refl
+    either false = refl
+
+    by-kind : (b : Bool) →
+        cond (b && ltb (lastOf last (slot 1 v u)) (lastOf last (slot 0 v u))) (slot 0 v u) (slot 1 v u)
+        ≡ cond (ltb (lastOf last (slot 1 v u)) (lastOf last (slot (cond b 0 1) v u))) (slot (cond b 0 1) v u) (slot 1 v u)
+    by-kind true = refl
+    by-kind false = either (ltb (lastOf last (slot 1 v u)) (lastOf last (slot 1 v u)))
 
 -- the later of the conflicting slots
 pub latest-above : (p : Op) → T (isAccess p) → (v u : ℕ) (last : List ℕ) (m : ℕ) → (m < latestNumber last (kind p) v u) ↔ ((s : ℕ) × Conflicting p v u s × (m < lastOf last s))

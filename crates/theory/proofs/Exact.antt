@@ -1,100 +1,216 @@
 -- A column of a table is exact if its cells say to which nodes order has come. Acts and marks keep it so, in either filling, for
 -- clocks and sets alike and at any width. Assumes nothing.
-use mathlib.Core.Path.{_≡_, refl, sym, subst}
-use mathlib.Core.Bool.{Bool}
+use mathlib.Core.Path.{_≡_, refl, sym, _∙_, subst}
+use mathlib.Core.Bool.{Bool, true, false, cond}
 use mathlib.Core.Logic.{_↔_, _⊎_, inl, inr}
 use mathlib.Core.List.{List, [], _∷_, _++_}
-use Prim.Native.Nat.{ℕ, _+_, _<_}
-use lib.Dec.{T}
+use Prim.Native.Nat.{ℕ, _*_, _≤_, _<_}
+use native.Mathlib.Omega.{arith}
+use borrow.Author.Tests.{lt-ltb, le-ltb}
+use lib.Dec.{T, ltb, eqb, lit<}
+use lib.ListN.{replicate}
 use Rattle.theory.specs.Recording.{Op, Event, act, lost, series, kind}
-use Rattle.theory.specs.Completion.{Named}
-use Rattle.theory.specs.Tables.{heardRow, toldRow, flow, isHeard, isTold, mix}
-use Rattle.theory.proofs.Carry.{Node, due, acted, semaphore, flag, Hears, own, Tells, own-next, own-acted}
-use Rattle.theory.proofs.Fullest.{Heard, Told}
-use Rattle.theory.proofs.Reach.{Filling, arrived, full, heard-due, heard-semaphore, heard-flag, told-due, told-acted, told-semaphore, told-flag}
-use Rattle.theory.proofs.Tables.{Sized, Above}
-use Rattle.theory.proofs.Acting.{flow-above}
-use Rattle.theory.proofs.Mixing.{mix-above}
-use Rattle.theory.proofs.Nodes.{row, InRange, due-in, acted-in, row-below, row-one, row-node, heardNode, toldNode, heard-row, told-row, heard-in, told-in, heard-hears, told-tells, hears-cases, tells-cases}
-use Rattle.theory.proofs.Marks.{heard-test, told-test, test-heard, test-told, heard-in-range}
+use Rattle.theory.specs.Completion.{bit, Named}
+use Rattle.theory.specs.Tables.{cell, joinsActed, heardRow, toldRow, alsoTold, onward, isTold, mix}
+use Rattle.theory.proofs.Carry.{Node, due, acted, semaphore, flag, Hears, own, Tells, own-next}
+use Rattle.theory.proofs.Fullest.{Heard, Told, named-task}
+use Rattle.theory.proofs.Reach.{Filling, arrived, full, heard-due, heard-acted, heard-semaphore, heard-flag, told-due, told-acted, told-semaphore, told-flag}
+use Rattle.theory.proofs.Tables.{Sized, Joins, Knows, fresh-cell, fresh-none}
+use Rattle.theory.proofs.Acting.{flow-knows}
+use Rattle.theory.proofs.Mixing.{NamedKnows, mix-hub, mix-told, mix-untold}
+use Rattle.theory.proofs.Nodes.{row, InRange, due-in, Object, a-semaphore, a-flag, object-in, object-row, row-below, row-one, heardNode, toldNode, readNode, read-row, told-row, read-in, told-in, told-tells, hears-cases, tells-cases, read-hears, heard-read, joined-in, told-object}
+use Rattle.theory.proofs.Marks.{bit-named, named-bit, told-test, test-told}
+use Rattle.theory.proofs.Tests.{some-snoc, snoc-some, snoc-last}
+use Rattle.theory.proofs.Places.{Occurs}
 use Rattle.theory.proofs.Came.{Came, came-acted, Newly, Onward, came-next}
-use Rattle.theory.proofs.Reflects.{Reflects, right, wrong, equal, by-test}
+use Rattle.theory.proofs.Acted.{ActsAs, Acted, Ended, ended-act, ended-mark, ended-mix, none-acted}
+use Rattle.theory.proofs.Reflects.{Reflects, right, wrong, same-as, equal, at-most, by-test}
 
 -- Definition
 
--- column c at threshold i
-pub record Exact (w : Filling) (Chosen : Event → List Event → Type 0) (es : List Event) (width : ℕ) (b : List ℕ) (i c : ℕ) : Type 0 where
-  pub cells : (n : Node) → InRange n → Above width b i (row n) c ↔ Came w Chosen es i n
+-- order has come to some object
+abbrev pub ToObject : Filling → (Event → List Event → Type 0) → List Event → ℕ → Type 0
+ToObject w Chosen es i = (m : Node) × Object m × Came w Chosen es i m
+
+-- column c: P is what its cells know where order has come from place i or later
+pub record Exact (P : ℕ → Type 0) (w : Filling) (Chosen : Event → List Event → Type 0) (es : List Event) (width : ℕ) (b : List ℕ) (i c : ℕ) : Type 0 where
+  pub cells : (n : Node) → InRange n → Knows P width b (row n) c ↔ Came w Chosen es i n
+  pub hub : Knows P width b 80 c ↔ ToObject w Chosen es i
+  pub ended : Ended w Chosen es i
 
 -- what it is to be after an act's own part: what stays of what had come, and the act itself at its task's next act
-pub record Owned (w : Filling) (Chosen : Event → List Event → Type 0) (Stays : Type 0) (es : List Event) (x : Event) (t width : ℕ) (b : List ℕ) (i c : ℕ) : Type 0 where
-  pub cells : (n : Node) → InRange n → Above width b i (row n) c ↔ ((Stays × Came w Chosen es i n) ⊎ (Newly Chosen es x i × (n ≡ due t)))
+pub record Owned (P : ℕ → Type 0) (w : Filling) (Chosen : Event → List Event → Type 0) (Stays : Type 0) (es : List Event) (x : Event) (t width : ℕ) (b : List ℕ) (i c : ℕ) : Type 0 where
+  pub cells : (n : Node) → InRange n → Knows P width b (row n) c ↔ ((Stays × Came w Chosen es i n) ⊎ (Newly Chosen es x i × (n ≡ due t)))
+  pub hub : Knows P width b 80 c ↔ (Stays × ToObject w Chosen es i)
+
+-- the row of what has acted is exact if it says which tasks have
+pub record ExactActed (w : Filling) (es : List Event) (width : ℕ) (b : List ℕ) : Type 0 where
+  pub flags : (t : ℕ) → t < 16 → (0 < cell width b 81 t) ↔ Acted w t es
 
 -- Acts
 
-module _ {w : Filling} {Chosen : Event → List Event → Type 0} {Stays : Type 0} {es : List Event} {o : Op} {t n width i c : ℕ} {b : List ℕ}
-    (keeps : (e : Event) (after : List Event) → Chosen e (after ++ (act o t n ∷ [])) ↔ (Stays × Chosen e after))
-    (sized : Sized width b) (ht : t < 16) (hn : n < series o) (hc : c < width) (owned : Owned w Chosen Stays es (act o t n) t width b i c) where
-  told-by : {m : Node} → InRange m → (row m ≡ t) ⊎ ((row m ≡ 16 + t) ⊎ (row m ≡ toldRow (kind o) t n)) → Tells (act o t n) m
+-- which rows an act tells
+abbrev Told-row : ℕ → ℕ → ℕ → Type 0
+Told-row t told r = (r ≡ t) ⊎ ((r ≡ told) ⊎ (r ≡ alsoTold told t))
+
+module _ {P : ℕ → Type 0} {j : ℕ → ℕ → ℕ} {w : Filling} {Chosen : Event → List Event → Type 0} {Stays : Type 0} {es : List Event} {o : Op} {t n width i c : ℕ} {b : List ℕ}
+    (joins : Joins j P) (keeps : (e : Event) (after : List Event) → Chosen e (after ++ (act o t n ∷ [])) ↔ (Stays × Chosen e after))
+    (starts : (u : ℕ) → Tells (act o t n) (due u) → (u ≡ t) ⊎ (¬ Acted w u es)) (ht : t < 16) (hn : n < series o) (hc : c < width)
+    (sized : Sized width b) (flagged : ExactActed w (es ++ (act o t n ∷ [])) width b) (ended : Ended w Chosen es i)
+    (owned : Owned P w Chosen Stays es (act o t n) t width b i c) where
+  -- the row that it reads
+  abbrev heard : ℕ
+  heard = heardRow (kind o) t n (joinsActed width b (kind o) n)
+
+  abbrev flagOf : Bool
+  flagOf = ltb 0 (cell width b 81 n)
+
+  abbrev Came-on : Node → Type 0
+  Came-on m = (Stays × Onward w Chosen es (act o t n) i m) ⊎ (Newly Chosen es (act o t n) i × Tells (act o t n) m)
+
+  told-below : toldRow (kind o) t n < 80
+  told-below = rw (told-row o t n) (row-below (told-in o ht hn))
+
+  -- The rows that it tells
+
+  also-none : {m : Node} → InRange m → (p : Bool) → row m ≡ cond p t 80 → row m ≡ t
+  also-none r true e = e
+  also-none r false e = absurd (omega (arith, row-below r))
+
+  told-by : {m : Node} → InRange m → Told-row t (toldRow (kind o) t n) (row m) → Tells (act o t n) m
   told-by r (inl e) = subst (Tells (act o t n)) (sym (row-one r (due-in ht) e)) own-next
-  told-by r (inr (inl e)) = subst (Tells (act o t n)) (sym (row-one r (acted-in ht) e)) own-acted
-  told-by {m} r (inr (inr e)) = subst (Tells (act o t n)) (sym (row-one r (told-in o ht hn) (rw (told-row o t n) at e))) (told-tells o t n)
+  told-by r (inr (inl e)) = subst (Tells (act o t n)) (sym (row-one r (told-in o ht hn) (rw (told-row o t n) at e))) (told-tells o t n)
+  told-by r (inr (inr e)) = subst (Tells (act o t n)) (sym (row-one r (due-in ht) (also-none r (ltb (toldRow (kind o) t n) 16) e))) own-next
 
-  by-told : {m : Node} → Tells (act o t n) m → (row m ≡ t) ⊎ ((row m ≡ 16 + t) ⊎ (row m ≡ toldRow (kind o) t n))
-  by-told x = cases (tells-cases x)
+  by-told : {m : Node} → InRange m → Tells (act o t n) m → Told-row t (toldRow (kind o) t n) (row m)
+  by-told r x = cases r (tells-cases x)
     where
-      cases : {m : Node} → (m ≡ due t) ⊎ ((m ≡ acted t) ⊎ (m ≡ toldNode o t n)) → (row m ≡ t) ⊎ ((row m ≡ 16 + t) ⊎ (row m ≡ toldRow (kind o) t n))
-      cases (inl e) = inl (rw e)
-      cases (inr (inl e)) = inr (inl (rw e))
-      cases (inr (inr e)) = inr (inr (rw (e, told-row o t n)))
+      cases : {m : Node} → InRange m → (m ≡ due t) ⊎ ((m ≡ acted t) ⊎ (m ≡ toldNode o t n)) → Told-row t (toldRow (kind o) t n) (row m)
+      cases r (inl e) = inl (rw e)
+      cases r (inr (inl e)) = absurd (none (subst InRange e r))
+        where
+          none : InRange (acted t) → ⊥
+          none q = elim q [ ]
+      cases r (inr (inr e)) = inr (inl (rw (e, told-row o t n)))
 
-  -- what the table has at a node that the act hears
-  from-heard : {m p : Node} → InRange p → Hears p (act o t n) → Tells (act o t n) m → Above width b i (row p) c →
-      (Stays × Onward w Chosen es (act o t n) i m) ⊎ (Newly Chosen es (act o t n) i × Tells (act o t n) m)
+  -- the hub is told where an object is
+  hub-told : {m : Node} → Object m → Tells (act o t n) m → Told-row t (toldRow (kind o) t n) 80
+  hub-told m x = cases m (tells-cases x)
+    where
+      cases : {m : Node} → Object m → (m ≡ due t) ⊎ ((m ≡ acted t) ⊎ (m ≡ toldNode o t n)) → Told-row t (toldRow (kind o) t n) 80
+      cases m (inl e) = absurd (none (subst Object e m))
+        where
+          none : Object (due t) → ⊥
+          none q = elim q [ ]
+      cases m (inr (inl e)) = absurd (none (subst Object e m))
+        where
+          none : Object (acted t) → ⊥
+          none q = elim q [ ]
+      cases m (inr (inr e)) = inr (inr (rw (le-ltb (toldRow (kind o) t n) 16 (rw (told-row o t n) (object-row (subst Object e m))))))
+
+  told-hub : Told-row t (toldRow (kind o) t n) 80 → Object (toldNode o t n)
+  told-hub (inl e) = absurd (omega arith)
+  told-hub (inr (inl e)) = let h = told-below in absurd (omega arith)
+  told-hub (inr (inr e)) = decided (at-most 16 (toldRow (kind o) t n))
+    where
+      decided : {p : Bool} → Reflects (16 ≤ toldRow (kind o) t n) p → Object (toldNode o t n)
+      decided (right h) = told-object o ht hn (rw (told-row o t n) at h)
+      decided (wrong f) = let q : 80 ≡ t = rw (lt-ltb (toldRow (kind o) t n) 16 (omega arith)) at e in absurd (omega arith)
+
+  -- What it hears
+
+  from-heard : {m p : Node} → InRange p → Hears p (act o t n) → Tells (act o t n) m → Knows P width b (row p) c → Came-on m
   from-heard {m} {p} r h x a = cases (owned .cells p r .0 a)
     where
-      cases : (Stays × Came w Chosen es i p) ⊎ (Newly Chosen es (act o t n) i × (p ≡ due t)) →
-          (Stays × Onward w Chosen es (act o t n) i m) ⊎ (Newly Chosen es (act o t n) i × Tells (act o t n) m)
+      cases : (Stays × Came w Chosen es i p) ⊎ (Newly Chosen es (act o t n) i × (p ≡ due t)) → Came-on m
       cases (inl (s, d)) = inl (s, inr (p, d, (h, x)))
       cases (inr (d, e)) = inr (d, x)
 
-  heard-row-in : Above width b i (heardRow (kind o) t n) c → Above width b i (row (heardNode o t n)) c
-  heard-row-in a = rw (heard-row o t n) at a
-
-  pub exact-act : Exact w Chosen (es ++ (act o t n ∷ [])) width (flow width (heardRow (kind o) t n) (toldRow (kind o) t n) t b) i c
-  exact-act = record { cells = λ m r. (λ a. came-next es (act o t n) keeps .1 (to m r (flowed m r .0 a)), λ d. flowed m r .1 (from m r (came-next es (act o t n) keeps .0 d))) }
+  -- a join of a task that has acted
+  from-joined : {m : Node} → Hears (acted n) (act o t n) → flagOf ≡ true → Tells (act o t n) m → Knows P width b n c → Came-on m
+  from-joined {m} h f x a = cases (owned .cells (due n) (due-in l) .0 a)
     where
-      flowed : (m : Node) → InRange m → Above width (flow width (heardRow (kind o) t n) (toldRow (kind o) t n) t b) i (row m) c
-          ↔ (((¬ (row m ≡ 16 + t)) × Above width b i (row m) c) ⊎ (((row m ≡ t) ⊎ ((row m ≡ 16 + t) ⊎ (row m ≡ toldRow (kind o) t n))) × (Above width b i t c ⊎ Above width b i (heardRow (kind o) t n) c)))
-      flowed m r = flow-above sized (rw (heard-row o t n) (row-below (heard-in o ht hn))) (rw (told-row o t n) (row-below (told-in o ht hn))) ht (row-below r) hc
+      l : n < 16
+      l = joined-in h hn
 
-      to : (m : Node) → InRange m →
-          ((¬ (row m ≡ 16 + t)) × Above width b i (row m) c) ⊎ (((row m ≡ t) ⊎ ((row m ≡ 16 + t) ⊎ (row m ≡ toldRow (kind o) t n))) × (Above width b i t c ⊎ Above width b i (heardRow (kind o) t n) c)) →
-          (Stays × Onward w Chosen es (act o t n) i m) ⊎ (Newly Chosen es (act o t n) i × Tells (act o t n) m)
-      to m r (inl (_, a)) = stayed (owned .cells m r .0 a)
+      raised : 0 < cell width b 81 n
+      raised = decided (at-most 1 (cell width b 81 n)) f
         where
-          stayed : (Stays × Came w Chosen es i m) ⊎ (Newly Chosen es (act o t n) i × (m ≡ due t)) →
-              (Stays × Onward w Chosen es (act o t n) i m) ⊎ (Newly Chosen es (act o t n) i × Tells (act o t n) m)
+          decided : {p : Bool} → Reflects (1 ≤ cell width b 81 n) p → p ≡ true → 0 < cell width b 81 n
+          decided (right q) e = q
+          decided (wrong g) e = absurd (subst T (sym e) tt)
+
+      onward-from : Stays → Came w Chosen es i (due n) → Acted w n es ⊎ (n ≡ t) → Came-on m
+      onward-from s d (inl q) = inl (s, inr (acted n, ended .joined n q d, (h, x)))
+      onward-from s d (inr e) = inl (s, inr (due t, subst (λ (k : ℕ). Came w Chosen es i (due k)) e d, (own, x)))
+
+      cases : (Stays × Came w Chosen es i (due n)) ⊎ (Newly Chosen es (act o t n) i × (due n ≡ due t)) → Came-on m
+      cases (inl (s, d)) = onward-from s d (some-snoc es (flagged .flags n l .0 raised))
+      cases (inr (d, e)) = inr (d, x)
+
+  source-came : {m : Node} → Tells (act o t n) m → Knows P width b t c ⊎ Knows P width b heard c → Came-on m
+  source-came x (inl a) = from-heard (due-in ht) own x a
+  source-came {m} x (inr a) = cases (read-hears o t n flagOf)
+    where
+      read : Knows P width b (row (readNode o t n flagOf)) c
+      read = rw (read-row o t n width b) at a
+
+      cases : Hears (readNode o t n flagOf) (act o t n) ⊎ (Hears (acted n) (act o t n) × (readNode o t n flagOf ≡ due n) × (flagOf ≡ true)) → Came-on m
+      cases (inl h) = from-heard (read-in o flagOf ht hn) h x read
+      cases (inr (h, e, f)) = from-joined h f x (rw e at read)
+
+  came-source : {p : Node} → Stays → Hears p (act o t n) → Came w Chosen es i p → Knows P width b t c ⊎ Knows P width b heard c
+  came-source {p} s h d = cases (hears-cases h)
+    where
+      of-heard : p ≡ heardNode o t n → (heardNode o t n ≡ readNode o t n flagOf) ⊎ (Hears (acted n) (act o t n) × (heardNode o t n ≡ acted n) × (readNode o t n true ≡ due n)) →
+          Knows P width b heard c
+      of-heard e (inl q) = rw (read-row o t n width b) (owned .cells (readNode o t n flagOf) (read-in o flagOf ht hn) .1 (inl (s, subst (Came w Chosen es i) (e ∙ q) d)))
+      of-heard e (inr (k, q, r)) =
+          let l = joined-in k hn in
+          let a : Came w Chosen es i (acted n) = subst (Came w Chosen es i) (e ∙ q) d in
+          let raised = flagged .flags n l .1 (snoc-some (act o t n) (ended .acting n a)) in
+          rw (read-row o t n width b, lt-ltb 0 (cell width b 81 n) raised, r) (owned .cells (due n) (due-in l) .1 (inl (s, came-acted a)))
+
+      cases : (p ≡ due t) ⊎ (p ≡ heardNode o t n) → Knows P width b t c ⊎ Knows P width b heard c
+      cases (inl e) = inl (owned .cells (due t) (due-in ht) .1 (inl (s, subst (Came w Chosen es i) e d)))
+      cases (inr e) = inr (of-heard e (heard-read o t n flagOf))
+
+  own-source : Newly Chosen es (act o t n) i → Knows P width b t c ⊎ Knows P width b heard c
+  own-source d = inl (owned .cells (due t) (due-in ht) .1 (inr (d, refl)))
+
+  pub exact-act : Exact P w Chosen (es ++ (act o t n ∷ [])) width (onward j width (kind o) t n b) i c
+  exact-act =
+      record {
+        cells = λ m r. (λ a. came-next es (act o t n) keeps .1 (to m r (flowed (row m) .0 a)), λ d. flowed (row m) .1 (from m r (came-next es (act o t n) keeps .0 d)));
+        hub = (λ a. to-hub (flowed 80 .0 a), λ d. flowed 80 .1 (from-hub (d .0) (d .1) (came-next es (act o t n) keeps .0 (d .2))));
+        ended = ended-act keeps starts ended;
+      }
+    where
+      flowed : (r : ℕ) → Knows P width (onward j width (kind o) t n b) r c
+          ↔ (Knows P width b r c ⊎ (Told-row t (toldRow (kind o) t n) r × (Knows P width b t c ⊎ Knows P width b heard c)))
+      flowed r = let h = told-below in flow-knows joins sized (omega arith) ht hc
+
+      to : (m : Node) → InRange m → Knows P width b (row m) c ⊎ (Told-row t (toldRow (kind o) t n) (row m) × (Knows P width b t c ⊎ Knows P width b heard c)) → Came-on m
+      to m r (inl a) = stayed (owned .cells m r .0 a)
+        where
+          stayed : (Stays × Came w Chosen es i m) ⊎ (Newly Chosen es (act o t n) i × (m ≡ due t)) → Came-on m
           stayed (inl (s, d)) = inl (s, inl d)
           stayed (inr (d, e)) = inr (d, subst (Tells (act o t n)) (sym e) own-next)
-      to m r (inr (q, inl a)) = from-heard (due-in ht) own (told-by r q) a
-      to m r (inr (q, inr a)) = from-heard (heard-in o ht hn) (heard-hears o t n) (told-by r q) (heard-row-in a)
+      to m r (inr (q, a)) = source-came (told-by r q) a
 
-      from : (m : Node) → InRange m → (Stays × Onward w Chosen es (act o t n) i m) ⊎ (Newly Chosen es (act o t n) i × Tells (act o t n) m) →
-          ((¬ (row m ≡ 16 + t)) × Above width b i (row m) c) ⊎ (((row m ≡ t) ⊎ ((row m ≡ 16 + t) ⊎ (row m ≡ toldRow (kind o) t n))) × (Above width b i t c ⊎ Above width b i (heardRow (kind o) t n) c))
-      from m r (inl (s, inl d)) = kept (equal (row m) (16 + t))
-        where
-          -- what had come to the task's having acted had come to this act
-          kept : {p : Bool} → Reflects (row m ≡ 16 + t) p →
-              ((¬ (row m ≡ 16 + t)) × Above width b i (row m) c) ⊎ (((row m ≡ t) ⊎ ((row m ≡ 16 + t) ⊎ (row m ≡ toldRow (kind o) t n))) × (Above width b i t c ⊎ Above width b i (heardRow (kind o) t n) c))
-          kept (right e) = inr (inr (inl e), inl (owned .cells (due t) (due-in ht) .1 (inl (s, came-acted (subst (Came w Chosen es i) (row-one r (acted-in ht) e) d)))))
-          kept (wrong f) = inl (f, owned .cells m r .1 (inl (s, d)))
-      from m r (inl (s, inr (p, d, (h, x)))) = inr (by-told x, heard (hears-cases h))
-        where
-          heard : (p ≡ due t) ⊎ (p ≡ heardNode o t n) → Above width b i t c ⊎ Above width b i (heardRow (kind o) t n) c
-          heard (inl e) = inl (owned .cells (due t) (due-in ht) .1 (inl (s, subst (Came w Chosen es i) e d)))
-          heard (inr e) = inr (rw (heard-row o t n) (owned .cells (heardNode o t n) (heard-in o ht hn) .1 (inl (s, subst (Came w Chosen es i) e d))))
-      from m r (inr (d, x)) = inr (by-told x, inl (owned .cells (due t) (due-in ht) .1 (inr (d, refl))))
+      from : (m : Node) → InRange m → Came-on m → Knows P width b (row m) c ⊎ (Told-row t (toldRow (kind o) t n) (row m) × (Knows P width b t c ⊎ Knows P width b heard c))
+      from m r (inl (s, inl d)) = inl (owned .cells m r .1 (inl (s, d)))
+      from m r (inl (s, inr (p, d, (h, x)))) = inr (by-told r x, came-source s h d)
+      from m r (inr (d, x)) = inr (by-told r x, own-source d)
+
+      to-hub : Knows P width b 80 c ⊎ (Told-row t (toldRow (kind o) t n) 80 × (Knows P width b t c ⊎ Knows P width b heard c)) → ToObject w Chosen (es ++ (act o t n ∷ [])) i
+      to-hub (inl a) = let (s, (m, k, d)) = owned .hub .0 a in (m, k, came-next es (act o t n) keeps .1 (inl (s, inl d)))
+      to-hub (inr (q, a)) = (toldNode o t n, told-hub q, came-next es (act o t n) keeps .1 (source-came (told-tells o t n) a))
+
+      from-hub : (m : Node) → Object m → Came-on m → Knows P width b 80 c ⊎ (Told-row t (toldRow (kind o) t n) 80 × (Knows P width b t c ⊎ Knows P width b heard c))
+      from-hub m k (inl (s, inl d)) = inl (owned .hub .1 (s, (m, k, d)))
+      from-hub m k (inl (s, inr (p, d, (h, x)))) = inr (hub-told k x, came-source s h d)
+      from-hub m k (inr (d, x)) = inr (hub-told k x, own-source d)
 
 -- Marks
 
@@ -109,11 +225,21 @@ told-heard (flag f) y d = (flag f, heard-flag .1 (told-flag .0 y), d)
 no-tells : {mask : ℕ} {m : Node} → ¬ Tells (lost mask) m
 no-tells x = elim x [ ]
 
-module _ {Chosen : Event → List Event → Type 0} {Stays : Type 0} {es : List Event} {width i c : ℕ} {b : List ℕ} (mask : ℕ)
+-- a mark that names a task hears every object
+heard-object : {mask : ℕ} → (t : ℕ) × Named mask t → {m : Node} → Object m → Heard mask m
+heard-object some (a-semaphore h) = heard-semaphore .1 (h, some)
+heard-object some (a-flag h) = heard-flag .1 (h, some)
+
+module _ {P : ℕ → Type 0} {Chosen : Event → List Event → Type 0} {Stays : Type 0} {es : List Event} {width i c : ℕ} {b : List ℕ} (mask : ℕ)
     (keeps : (e : Event) (after : List Event) → Chosen e (after ++ (lost mask ∷ [])) ↔ (Stays × Chosen e after)) (stays : Stays) where
   -- as it arrived a mark changes nothing
-  pub exact-mark : Exact arrived Chosen es width b i c → Exact arrived Chosen (es ++ (lost mask ∷ [])) width b i c
-  exact-mark x = record { cells = λ m r. (λ a. came-next es (lost mask) keeps .1 (inl (stays, inl (x .cells m r .0 a))), λ d. x .cells m r .1 (from (came-next es (lost mask) keeps .0 d))) }
+  pub exact-mark : Exact P arrived Chosen es width b i c → Exact P arrived Chosen (es ++ (lost mask ∷ [])) width b i c
+  exact-mark x =
+      record {
+        cells = λ m r. (λ a. came-next es (lost mask) keeps .1 (inl (stays, inl (x .cells m r .0 a))), λ d. x .cells m r .1 (from (came-next es (lost mask) keeps .0 d)));
+        hub = (λ a. let (m, k, d) = x .hub .0 a in (m, k, came-next es (lost mask) keeps .1 (inl (stays, inl d))), λ d. x .hub .1 (d .0, d .1, from (came-next es (lost mask) keeps .0 (d .2))));
+        ended = ended-mark mask keeps stays (x .ended);
+      }
     where
       from : {m : Node} → (Stays × Onward arrived Chosen es (lost mask) i m) ⊎ (Newly Chosen es (lost mask) i × Tells (lost mask) m) → Came arrived Chosen es i m
       from (inl (s, inl d)) = d
@@ -121,32 +247,104 @@ module _ {Chosen : Event → List Event → Type 0} {Stays : Type 0} {es : List 
       from (inr (d, y)) = absurd (no-tells y)
 
   -- in the fullest filling it mixes
-  pub exact-mix : Sized width b → c < width → (t : ℕ) × Named mask t → Exact full Chosen es width b i c →
-      Exact full Chosen (es ++ (lost mask ∷ [])) width (mix width mask b) i c
-  exact-mix sized hc some x =
-      record { cells = λ m r. (λ a. came-next es (lost mask) keeps .1 (inl (stays, to m r (mixed m r .0 a))), λ d. mixed m r .1 (from m r (came-next es (lost mask) keeps .0 d))) }
+  module _ {j : ℕ → ℕ → ℕ} (joins : Joins j P) (sized : Sized width b) (wide : 16 ≤ width) (hc : c < width) (some : (t : ℕ) × Named mask t) (x : Exact P full Chosen es width b i c) where
+    heard-known : (p : Node) → Heard mask p → Came full Chosen es i p → Knows P width b 80 c ⊎ NamedKnows P width mask b c 16
+    heard-known (due t) h d = let q = heard-due .0 h in inr (t, named-task q, named-bit q, x .cells (due t) (due-in (named-task q)) .1 d)
+    heard-known (acted t) h d = absurd (heard-acted h)
+    heard-known (semaphore s) h d = inl (x .hub .1 (semaphore s, a-semaphore (heard-semaphore .0 h .0), d))
+    heard-known (flag f) h d = inl (x .hub .1 (flag f, a-flag (heard-flag .0 h .0), d))
+
+    known-on : {m : Node} → Told mask m → Knows P width b 80 c ⊎ NamedKnows P width mask b c 16 → Onward full Chosen es (lost mask) i m
+    known-on y (inl a) = let (p, k, d) = x .hub .0 a in inr (p, d, (heard-object some k, y))
+    known-on y (inr (t, l, q, a)) = inr (due t, x .cells (due t) (due-in l) .0 a, (heard-due .1 (bit-named mask t l q), y))
+
+    on-known : {m : Node} → Told mask m → (Stays × Onward full Chosen es (lost mask) i m) ⊎ (Newly Chosen es (lost mask) i × Tells (lost mask) m) →
+        Knows P width b 80 c ⊎ NamedKnows P width mask b c 16
+    on-known {m} y (inl (s, inl d)) = let (p, h, e) = told-heard m y d in heard-known p h e
+    on-known y (inl (s, inr (p, d, (h, z)))) = heard-known p h d
+    on-known y (inr (d, z)) = absurd (no-tells z)
+
+    mixed : (m : Node) → InRange m → Knows P width (mix j width mask b) (row m) c ↔ Came full Chosen (es ++ (lost mask ∷ [])) i m
+    mixed m r = decided (by-test (isTold mask (row m)))
+      where
+        decided : {p : Bool} → Reflects (T (isTold mask (row m))) p → Knows P width (mix j width mask b) (row m) c ↔ Came full Chosen (es ++ (lost mask ∷ [])) i m
+        decided (right q) =
+            let y = test-told some r q in
+            let e = mix-told joins sized mask c wide hc (row m) (row-below r) q in
+            (λ a. came-next es (lost mask) keeps .1 (inl (stays, known-on y (e .0 a))), λ d. e .1 (on-known y (came-next es (lost mask) keeps .0 d)))
+        decided (wrong f) =
+            let e = mix-untold joins sized mask c wide hc (row m) (row-below r) f in
+            (λ a. came-next es (lost mask) keeps .1 (inl (stays, inl (x .cells m r .0 (e .0 a)))), λ d. e .1 (x .cells m r .1 (same (came-next es (lost mask) keeps .0 d))))
+          where
+            same : (Stays × Onward full Chosen es (lost mask) i m) ⊎ (Newly Chosen es (lost mask) i × Tells (lost mask) m) → Came full Chosen es i m
+            same (inl (s, inl d)) = d
+            same (inl (s, inr (p, d, (h, y)))) = absurd (f (told-test r y))
+            same (inr (d, y)) = absurd (no-tells y)
+
+    hub-mixed : Knows P width (mix j width mask b) 80 c ↔ ToObject full Chosen (es ++ (lost mask ∷ [])) i
+    hub-mixed = (λ a. to (e .0 a), λ d. e .1 (from (d .0) (d .1) (came-next es (lost mask) keeps .0 (d .2))))
+      where
+        e : Knows P width (mix j width mask b) 80 c ↔ (Knows P width b 80 c ⊎ NamedKnows P width mask b c 16)
+        e = mix-hub joins sized mask c wide hc
+
+        to : Knows P width b 80 c ⊎ NamedKnows P width mask b c 16 → ToObject full Chosen (es ++ (lost mask ∷ [])) i
+        to a = (semaphore 0, a-semaphore (lit< tt), came-next es (lost mask) keeps .1 (inl (stays, known-on (told-semaphore .1 (lit< tt, some)) a)))
+
+        from : (m : Node) → Object m → (Stays × Onward full Chosen es (lost mask) i m) ⊎ (Newly Chosen es (lost mask) i × Tells (lost mask) m) → Knows P width b 80 c ⊎ NamedKnows P width mask b c 16
+        from m k (inl (s, inl d)) = inl (x .hub .1 (m, k, d))
+        from m k (inl (s, inr (p, d, (h, y)))) = heard-known p h d
+        from m k (inr (d, y)) = absurd (no-tells y)
+
+    pub exact-mix : Exact P full Chosen (es ++ (lost mask ∷ [])) width (mix j width mask b) i c
+    exact-mix = record { cells = mixed; hub = hub-mixed; ended = ended-mix mask keeps stays (x .ended) }
+
+-- What has acted
+
+module _ {w : Filling} {es : List Event} {width : ℕ} {b b′ : List ℕ} where
+  pub acted-same : ((t : ℕ) → t < 16 → cell width b′ 81 t ≡ cell width b 81 t) → ExactActed w es width b → ExactActed w es width b′
+  acted-same e x = record { flags = λ t h. (λ a. x .flags t h .0 (rw (e t h) at a), λ a. rw (e t h) (x .flags t h .1 a)) }
+
+  -- an event after which those have acted who had, and those that a test tells
+  acted-next : (y : Event) (p : ℕ → Bool) → ((t : ℕ) → t < 16 → Reflects (ActsAs w t y) (p t)) →
+      ((t : ℕ) → t < 16 → cell width b′ 81 t ≡ cond (p t) 1 (cell width b 81 t)) → ExactActed w es width b → ExactActed w (es ++ (y ∷ [])) width b′
+  acted-next y p r e x = record { flags = λ t h. (λ a. to t h (r t h) (rw (e t h) at a), λ a. rw (e t h) (from t h (r t h) (some-snoc es a))) }
     where
-      mixed : (m : Node) → InRange m → Above width (mix width mask b) i (row m) c
-          ↔ (((¬ T (isTold mask (row m))) × Above width b i (row m) c) ⊎ (T (isTold mask (row m)) × ((q : ℕ) × (q < 96) × T (isHeard mask q) × Above width b i q c)))
-      mixed m r = mix-above sized mask (row-below r) hc
+      to : (t : ℕ) → t < 16 → {q : Bool} → Reflects (ActsAs w t y) q → 0 < cond q 1 (cell width b 81 t) → Acted w t (es ++ (y ∷ []))
+      to t h (right k) a = snoc-last es y k
+      to t h (wrong f) a = snoc-some y (x .flags t h .0 a)
 
-      to : (m : Node) → InRange m → ((¬ T (isTold mask (row m))) × Above width b i (row m) c) ⊎ (T (isTold mask (row m)) × ((q : ℕ) × (q < 96) × T (isHeard mask q) × Above width b i q c)) →
-          Onward full Chosen es (lost mask) i m
-      to m r (inl (_, a)) = inl (x .cells m r .0 a)
-      to m r (inr (y, (q, l, h, a))) =
-          let (p, k, e) = row-node q l in
-          inr (p, x .cells p k .0 (rw e a), (test-heard some k (rw e h), test-told some r y))
+      from : (t : ℕ) → t < 16 → {q : Bool} → Reflects (ActsAs w t y) q → Acted w t es ⊎ ActsAs w t y → 0 < cond q 1 (cell width b 81 t)
+      from t h (right k) a = lit< tt
+      from t h (wrong f) (inl a) = x .flags t h .1 a
+      from t h (wrong f) (inr k) = absurd (f k)
 
-      heard-from : (p : Node) → Heard mask p → Came full Chosen es i p → (q : ℕ) × (q < 96) × T (isHeard mask q) × Above width b i q c
-      heard-from p h d = let k = heard-in-range h in (row p, row-below k, heard-test k h, x .cells p k .1 d)
+  pub acted-act : (o : Op) (u n : ℕ) → ((t : ℕ) → t < 16 → cell width b′ 81 t ≡ cond (eqb t u) 1 (cell width b 81 t)) → ExactActed w es width b →
+      ExactActed w (es ++ (act o u n ∷ [])) width b′
+  acted-act o u n e x = acted-next (act o u n) (λ t. eqb t u) (λ t h. equal t u) e x
 
-      from : (m : Node) → InRange m → (Stays × Onward full Chosen es (lost mask) i m) ⊎ (Newly Chosen es (lost mask) i × Tells (lost mask) m) →
-          ((¬ T (isTold mask (row m))) × Above width b i (row m) c) ⊎ (T (isTold mask (row m)) × ((q : ℕ) × (q < 96) × T (isHeard mask q) × Above width b i q c))
-      from m r (inl (s, inl d)) = kept (by-test (isTold mask (row m)))
-        where
-          kept : {p : Bool} → Reflects (T (isTold mask (row m))) p →
-              ((¬ T (isTold mask (row m))) × Above width b i (row m) c) ⊎ (T (isTold mask (row m)) × ((q : ℕ) × (q < 96) × T (isHeard mask q) × Above width b i q c))
-          kept (right y) = let (p, h, e) = told-heard m (test-told some r y) d in inr (y, heard-from p h e)
-          kept (wrong f) = inl (f, x .cells m r .1 d)
-      from m r (inl (s, inr (p, d, (h, y)))) = inr (told-test r y, heard-from p h d)
-      from m r (inr (d, y)) = absurd (no-tells y)
+pub acted-mark : {es : List Event} {width : ℕ} {b : List ℕ} (mask : ℕ) → ExactActed arrived es width b → ExactActed arrived (es ++ (lost mask ∷ [])) width b
+acted-mark mask x = acted-next (lost mask) (λ t. false) (λ t h. wrong (λ f. f)) (λ t h. refl) x
+
+pub acted-mix : {es : List Event} {width : ℕ} {b b′ : List ℕ} (mask : ℕ) → ((t : ℕ) → t < 16 → cell width b′ 81 t ≡ cond (bit mask t) 1 (cell width b 81 t)) →
+    ExactActed full es width b → ExactActed full (es ++ (lost mask ∷ [])) width b′
+acted-mix mask e x = acted-next (lost mask) (bit mask) (λ t h. same-as (bit-named mask t h) named-bit (by-test (bit mask t))) e x
+
+-- Fresh tables
+
+nowhere : {j : ℕ} {e : Event} {after : List Event} → ¬ Occurs [] j e after
+nowhere o = elim o [ ]
+
+pub fresh-exact : {P : ℕ → Type 0} {w : Filling} {Chosen : Event → List Event → Type 0} {width i c : ℕ} → ¬ P 0 → c < width →
+    Exact P w Chosen [] width (replicate (82 * width) 0) i c
+fresh-exact {width = width} {c = c} n hc =
+    record {
+      cells = λ m r. (λ a. let h = row-below r in absurd (fresh-none n width (row m) c (omega arith) hc a), λ d. absurd (nowhere (d .occurs)));
+      hub = (λ a. absurd (fresh-none n width 80 c (omega arith) hc a), λ d. absurd (nowhere (d .2 .occurs)));
+      ended = record { acting = λ t d. absurd (nowhere (d .occurs)); joined = λ t a d. absurd (nowhere (d .occurs)) };
+    }
+
+pub fresh-acted : {w : Filling} (width : ℕ) → 16 ≤ width → ExactActed w [] width (replicate (82 * width) 0)
+fresh-acted width wide = record { flags = λ t h. (λ a. absurd (zero t h a), λ a. absurd (none-acted a)) }
+  where
+    zero : (t : ℕ) → t < 16 → ¬ (0 < cell width (replicate (82 * width) 0) 81 t)
+    zero t h a = let k : 0 < 0 = rw (fresh-cell width 81 t (omega arith) (omega arith)) at a in omega arith

@@ -4,23 +4,23 @@ use mathlib.Core.Path.{_≡_, refl, ap}
 use mathlib.Core.Bool.{Bool}
 use mathlib.Core.Logic.{_↔_, _⊎_, inl, inr}
 use mathlib.Core.List.{List, [], _∷_, _++_}
-use Prim.Native.Nat.{ℕ, suc, _<_}
+use Prim.Native.Nat.{ℕ, suc, _<_, max}
 use native.Mathlib.Omega.{arith}
 use lib.ListN.{length, replicate}
 use Rattle.theory.specs.Recording.{Op, Event, act, lost, series, kind, ActsIn, acts}
 use Rattle.theory.specs.Completion.{Named}
 use Rattle.theory.specs.Tables.{mix, cell}
 use Rattle.theory.specs.Reckonings.{clockOwn, clockAct}
-use Rattle.theory.proofs.Reflects.{Reflects, right, wrong, equal, both}
-use Rattle.theory.proofs.Carry.{Node, due}
+use Rattle.theory.proofs.Reflects.{Reflects, right, wrong, equal, at-most, both}
+use Rattle.theory.proofs.Carry.{Node, due, Tells}
 use Rattle.theory.proofs.Reach.{Filling, arrived, full}
-use Rattle.theory.proofs.Tables.{Sized, Above, sized-fresh, fresh-none}
-use Rattle.theory.proofs.Acting.{sized-flow, sized-clock-own, clock-own-same, clock-own-other}
-use Rattle.theory.proofs.Mixing.{sized-mix}
-use Rattle.theory.proofs.Nodes.{row, InRange, due-in, row-below, row-one}
-use Rattle.theory.proofs.Places.{Occurs}
+use Rattle.theory.proofs.Tables.{Sized, Joins, Knows, knows-same, same-max, sized-fresh}
+use Rattle.theory.proofs.Acting.{sized-flow, flow-acted, sized-clock-own, clock-own-same, clock-own-other, clock-own-acted}
+use Rattle.theory.proofs.Mixing.{sized-mix, mix-acted}
+use Rattle.theory.proofs.Nodes.{row, InRange, due-in, row-below, row-one, told-row, told-in}
+use Rattle.theory.proofs.Acted.{Acted}
 use Rattle.theory.proofs.Came.{Came, Newly, occurs-short}
-use Rattle.theory.proofs.Exact.{Exact, Owned, exact-act, exact-mark, exact-mix}
+use Rattle.theory.proofs.Exact.{Exact, ToObject, Owned, ExactActed, exact-act, exact-mark, exact-mix, fresh-exact, acted-same, acted-act, acted-mark, acted-mix, fresh-acted}
 
 -- Definition
 
@@ -28,9 +28,26 @@ use Rattle.theory.proofs.Exact.{Exact, Owned, exact-act, exact-mark, ex
 abbrev pub OfTask : ℕ → Event → List Event → Type 0
 OfTask u e after = ActsIn u e
 
+-- a cell knows of place i where its number is above it
+abbrev pub Past : ℕ → ℕ → Type 0
+Past i x = i < x
+
 pub record ExactClocks (w : Filling) (es : List Event) (b : List ℕ) : Type 0 where
   pub sized : Sized 16 b
-  pub column : (u i : ℕ) → u < 16 → Exact w (OfTask u) es 16 b i u
+  pub column : (u i : ℕ) → u < 16 → Exact (Past i) w (OfTask u) es 16 b i u
+  pub acting : ExactActed w es 16 b
+
+-- the greater of two numbers is above what one of them is above
+joins-max : (i : ℕ) → Joins max (Past i)
+joins-max i = record { alone = same-max; joined = λ x y. (λ h. decided x y h (at-most (suc i) x), of x y); nothing = λ h. omega arith }
+  where
+    decided : (x y : ℕ) → i < max x y → {p : Bool} → Reflects (i < x) p → (i < x) ⊎ (i < y)
+    decided x y h (right k) = inl k
+    decided x y h (wrong f) = inr (omega arith)
+
+    of : (x y : ℕ) → (i < x) ⊎ (i < y) → i < max x y
+    of x y (inl h) = omega arith
+    of x y (inr h) = omega arith
 
 -- Acts
 
@@ -44,13 +61,13 @@ acting-one acts = refl
 module _ {w : Filling} {es : List Event} {b : List ℕ} {t n number : ℕ} (o : Op) (x : ExactClocks w es b) (ht : t < 16) (hn : n < series o)
     (numbered : number ≡ suc (length es)) where
   -- at the own cell the number is the act's, elsewhere nothing changed
-  owned : (u i : ℕ) → u < 16 → Owned w (OfTask u) (Unit {0}) es (act o t n) t 16 (clockOwn t number b) i u
-  owned u i hu = record { cells = λ m r. decided m r (both (equal (row m) t) (equal u t)) }
+  owned : (u i : ℕ) → u < 16 → Owned (Past i) w (OfTask u) (Unit {0}) es (act o t n) t 16 (clockOwn t number b) i u
+  owned u i hu = record { cells = λ m r. decided m r (both (equal (row m) t) (equal u t)); hub = hub-kept }
     where
       decided : {c : Bool} (m : Node) → InRange m → Reflects ((row m ≡ t) × (u ≡ t)) c →
-          Above 16 (clockOwn t number b) i (row m) u ↔ ((Unit {0} × Came w (OfTask u) es i m) ⊎ (Newly (OfTask u) es (act o t n) i × (m ≡ due t)))
+          Knows (Past i) 16 (clockOwn t number b) (row m) u ↔ ((Unit {0} × Came w (OfTask u) es i m) ⊎ (Newly (OfTask u) es (act o t n) i × (m ≡ due t)))
       decided m r (right (e, q)) =
-          (λ a. let h : i < number = rw (own-cell) at (a .above) in inr ((omega arith, rw q acts), row-one r (due-in ht) e), λ y. record { above = rw own-cell (below y) })
+          (λ a. let h : i < number = rw (own-cell) at (a .knows) in inr ((omega arith, rw q acts), row-one r (due-in ht) e), λ y. record { knows = rw own-cell (below y) })
         where
           own-cell : cell 16 (clockOwn t number b) (row m) u ≡ number
           own-cell = rw (e, q) (clock-own-same (x .sized) t number ht)
@@ -58,37 +75,47 @@ module _ {w : Filling} {es : List Event} {b : List ℕ} {t n number : ℕ} (o : 
           below : (Unit {0} × Came w (OfTask u) es i m) ⊎ (Newly (OfTask u) es (act o t n) i × (m ≡ due t)) → i < number
           below (inl (_, d)) = let h = d .recent in let l = occurs-short (d .occurs) in omega arith
           below (inr ((h, a), e)) = omega arith
-      decided m r (wrong apart) =
-          (λ a. inl (tt, x .column u i hu .cells m r .0 (record { above = rw other at (a .above) })), λ y. record { above = rw other (before y .above) })
+      decided m r (wrong apart) = (λ a. inl (tt, x .column u i hu .cells m r .0 (other .0 a)), λ y. other .1 (before y))
         where
-          other : cell 16 (clockOwn t number b) (row m) u ≡ cell 16 b (row m) u
-          other = clock-own-other b t number (row m) u ht hu apart
+          other : Knows (Past i) 16 (clockOwn t number b) (row m) u ↔ Knows (Past i) 16 b (row m) u
+          other = let h = row-below r in knows-same (clock-own-other b t number (row m) u ht hu (omega arith) apart)
 
-          before : (Unit {0} × Came w (OfTask u) es i m) ⊎ (Newly (OfTask u) es (act o t n) i × (m ≡ due t)) → Above 16 b i (row m) u
+          before : (Unit {0} × Came w (OfTask u) es i m) ⊎ (Newly (OfTask u) es (act o t n) i × (m ≡ due t)) → Knows (Past i) 16 b (row m) u
           before (inl (_, d)) = x .column u i hu .cells m r .1 d
           before (inr ((h, a), e)) = absurd (apart (ap row e, acting-one a))
 
-  pub clocks-act : ExactClocks w (es ++ (act o t n ∷ [])) (clockAct (kind o) t n number b)
-  clocks-act =
+      hub-kept : Knows (Past i) 16 (clockOwn t number b) 80 u ↔ (Unit {0} × ToObject w (OfTask u) es i)
+      hub-kept =
+          let q = knows-same {P = Past i} (clock-own-other b t number 80 u ht hu (omega arith) (λ y. omega (arith, y .0))) in
+          (λ a. (tt, x .column u i hu .hub .0 (q .0 a)), λ y. q .1 (x .column u i hu .hub .1 (y .1)))
+
+  own-acting : ExactActed w (es ++ (act o t n ∷ [])) 16 (clockOwn t number b)
+  own-acting = acted-act o t n (λ u hu. clock-own-acted (x .sized) t number u ht hu) (x .acting)
+
+  pub clocks-act : ((u : ℕ) → Tells (act o t n) (due u) → (u ≡ t) ⊎ (¬ Acted w u es)) → ExactClocks w (es ++ (act o t n ∷ [])) (clockAct (kind o) t n number b)
+  clocks-act starts =
       record {
-        sized = sized-flow (sized-clock-own (x .sized) t number) _ _ t;
-        column = λ u i hu. exact-act (keeps u (act o t n)) (sized-clock-own (x .sized) t number) ht hn hu (owned u i hu);
+        sized = sized-flow (sized-clock-own (x .sized) t number) max _ _ t;
+        column = λ u i hu. exact-act (joins-max i) (keeps u (act o t n)) starts ht hn hu (sized-clock-own (x .sized) t number) own-acting (x .column u i hu .ended) (owned u i hu);
+        acting = acted-same (λ u hu. flow-acted max _ (sized-clock-own (x .sized) t number) (rw (told-row o t n) (row-below (told-in o ht hn))) ht hu) own-acting;
       }
 
 -- Marks
 
 pub clocks-mark : {es : List Event} {b : List ℕ} (mask : ℕ) → ExactClocks arrived es b → ExactClocks arrived (es ++ (lost mask ∷ [])) b
-clocks-mark mask x = record { sized = x .sized; column = λ u i hu. exact-mark mask (keeps u (lost mask)) tt (x .column u i hu) }
+clocks-mark mask x =
+    record { sized = x .sized; column = λ u i hu. exact-mark mask (keeps u (lost mask)) tt (x .column u i hu); acting = acted-mark mask (x .acting) }
 
 pub clocks-mix : {es : List Event} {b : List ℕ} (mask : ℕ) → (t : ℕ) × Named mask t → ExactClocks full es b →
-    ExactClocks full (es ++ (lost mask ∷ [])) (mix 16 mask b)
+    ExactClocks full (es ++ (lost mask ∷ [])) (mix max 16 mask b)
 clocks-mix mask some x =
-    record { sized = sized-mix (x .sized) mask; column = λ u i hu. exact-mix mask (keeps u (lost mask)) tt (x .sized) hu some (x .column u i hu) }
+    record {
+      sized = sized-mix (x .sized) max mask;
+      column = λ u i hu. exact-mix mask (keeps u (lost mask)) tt (joins-max i) (x .sized) (omega arith) hu some (x .column u i hu);
+      acting = acted-mix mask (λ t h. mix-acted (x .sized) max mask t (omega arith) h) (x .acting);
+    }
 
 -- The fresh table
 
-pub fresh-clocks : {w : Filling} → ExactClocks w [] (replicate 1536 0)
-fresh-clocks = record { sized = sized-fresh 16; column = λ u i hu. record { cells = λ m r. (λ a. absurd (fresh-none 16 i (row m) u (row-below r) hu a), λ c. absurd (nowhere (c .occurs))) } }
-  where
-    nowhere : {j : ℕ} {e : Event} {after : List Event} → ¬ Occurs [] j e after
-    nowhere o = elim o [ ]
+pub fresh-clocks : {w : Filling} → ExactClocks w [] (replicate 1312 0)
+fresh-clocks = record { sized = sized-fresh 16; column = λ u i hu. fresh-exact (joins-max i .nothing) hu; acting = fresh-acted 16 (omega arith) }

@@ -43,7 +43,7 @@ fresh-control = record { size = refl; count = refl; live = fresh-live; unseen = 
 
 -- One more event
 
-phase-snoc : (p : Phase) (es : List Event) (e : Event) (t : ℕ) → phaseFrom p (es ++ (e ∷ [])) t ≡ phaseAfter e t (phaseFrom p es t)
+pub phase-snoc : (p : Phase) (es : List Event) (e : Event) (t : ℕ) → phaseFrom p (es ++ (e ∷ [])) t ≡ phaseAfter e t (phaseFrom p es t)
 phase-snoc p [] e t = refl
 phase-snoc p (d ∷ es) e t = phase-snoc (phaseAfter d t p) es e t
 

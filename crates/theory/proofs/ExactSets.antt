@@ -1,29 +1,31 @@
--- The sets are exact: a cell is 1 just where order from the access that its slot keeps has come to the row's node. Assumes nothing.
-use mathlib.Core.Path.{_≡_, refl, ap}
-use mathlib.Core.Bool.{Bool}
+-- The sets are exact: a slot's bit is set just where order from the access that the slot keeps has come to the row's node. Assumes nothing.
+use mathlib.Core.Path.{_≡_, refl, sym, _∙_, ap, subst}
+use mathlib.Core.Bool.{Bool, cond}
 use mathlib.Core.Logic.{_↔_, _⊎_, inl, inr}
 use mathlib.Core.List.{List, [], _∷_, _++_}
-use Prim.Native.Nat.{ℕ, _+_, _*_, _<_, zero-le}
+use Prim.Native.Nat.{ℕ, _/_, _%_, _<_, zero-le}
 use native.Mathlib.Omega.{arith}
-use lib.Dec.{T}
-use lib.ListN.{set, replicate}
+use lib.Bits.{bitOr}
+use lib.Dec.{T, eqb}
+use lib.ListN.{replicate}
 use Rattle.theory.specs.Recording.{Op, Event, act, lost, series, kind}
 use Rattle.theory.specs.Order.{isAccess}
-use Rattle.theory.specs.Completion.{Named}
-use Rattle.theory.specs.Tables.{mix, cell}
-use Rattle.theory.specs.History.{slot}
-use Rattle.theory.specs.Reckonings.{clearColumn, setOwn, setAct}
+use Rattle.theory.specs.Completion.{bit, Named}
+use Rattle.theory.specs.Tables.{cell, noteActed, mix}
+use Rattle.theory.specs.History.{accesses, slot}
+use Rattle.theory.specs.Reckonings.{hasSlot, clearSlot, addSlot, setOwn, setAct}
 use Rattle.theory.proofs.Reflects.{Reflects, right, wrong, equal, by-test}
-use Rattle.theory.proofs.Carry.{Node, due}
+use Rattle.theory.proofs.Carry.{Node, due, Tells}
 use Rattle.theory.proofs.Reach.{Filling, arrived, full}
-use Rattle.theory.proofs.Tables.{Sized, Above, sized-fresh, fresh-none}
-use Rattle.theory.proofs.Acting.{sized-flow, sized-afresh, afresh-own, afresh-cleared, afresh-other}
-use Rattle.theory.proofs.Mixing.{sized-mix}
-use Rattle.theory.proofs.Nodes.{row, InRange, due-in, row-below, row-one}
-use Rattle.theory.proofs.Places.{Occurs}
-use Rattle.theory.proofs.Tests.{Some, this, further}
+use Rattle.theory.proofs.Tables.{Sized, Knows, knows-same, sized-fresh}
+use Rattle.theory.proofs.Words.{joins-or}
+use Rattle.theory.proofs.Acting.{sized-flow, flow-acted, sized-note, note-other, note-cell, sized-afresh, afresh-own, afresh-cleared, afresh-other, afresh-acted}
+use Rattle.theory.proofs.Mixing.{sized-mix, mix-acted}
+use Rattle.theory.proofs.Nodes.{row, InRange, due-in, row-below, row-one, told-row, told-in}
+use Rattle.theory.proofs.Tests.{Some, some-snoc, snoc-some, snoc-last}
 use Rattle.theory.proofs.Came.{Came, Newly}
-use Rattle.theory.proofs.Exact.{Exact, Owned, exact-act, exact-mark, exact-mix}
+use Rattle.theory.proofs.Acted.{Acted}
+use Rattle.theory.proofs.Exact.{Exact, Owned, ExactActed, exact-act, exact-mark, exact-mix, fresh-exact, acted-same, acted-act, acted-mark, acted-mix, fresh-acted}
 use Rattle.theory.proofs.Slots.{InSlot, in-slot, access-kind, access-on, access-tests, other-tests, slot-below, in-access, in-one, no-slot-mark}
 
 -- Definition
@@ -32,29 +34,19 @@ use Rattle.theory.proofs.Slots.{InSlot, in-slot, access-kind, access-on
 abbrev pub KeptIn : ℕ → Event → List Event → Type 0
 KeptIn s e after = InSlot s e × (¬ Some (InSlot s) after)
 
+-- a word knows of a slot where it has the slot's bit
+abbrev pub HasBit : ℕ → ℕ → Type 0
+HasBit s x = T (bit x (s % 32))
+
 pub record ExactSets (w : Filling) (es : List Event) (b : List ℕ) : Type 0 where
-  pub sized : Sized 2048 b
-  pub column : (s : ℕ) → s < 2048 → Exact w (KeptIn s) es 2048 b 0 s
+  pub sized : Sized 64 b
+  pub column : (s : ℕ) → s < 2048 → Exact (HasBit s) w (KeptIn s) es 64 b 0 (s / 32)
+  pub acting : ExactActed w es 64 b
+
+word-below : {s : ℕ} → s < 2048 → s / 32 < 64
+word-below h = omega arith
 
 -- Acts
-
-some-snoc : {P : Event → Type 0} (after : List Event) {x : Event} → Some P (after ++ (x ∷ [])) → Some P after ⊎ P x
-some-snoc [] (this p) = inr p
-some-snoc [] (further q) = elim q [ ]
-some-snoc (e ∷ after) (this p) = inl (this p)
-some-snoc (e ∷ after) (further q) = later (some-snoc after q)
-  where
-    later : {P : Event → Type 0} {e x : Event} {after : List Event} → Some P after ⊎ P x → Some P (e ∷ after) ⊎ P x
-    later (inl q) = inl (further q)
-    later (inr p) = inr p
-
-snoc-some : {P : Event → Type 0} {after : List Event} (x : Event) → Some P after → Some P (after ++ (x ∷ []))
-snoc-some x (this p) = this p
-snoc-some x (further q) = further (snoc-some x q)
-
-snoc-last : {P : Event → Type 0} (after : List Event) (x : Event) → P x → Some P (after ++ (x ∷ []))
-snoc-last [] x p = this p
-snoc-last (e ∷ after) x p = further (snoc-last after x p)
 
 -- a later record displaces the access only where it is in the slot itself
 keeps : (s : ℕ) (x e : Event) (after : List Event) → KeptIn s e (after ++ (x ∷ [])) ↔ ((¬ InSlot s x) × KeptIn s e after)
@@ -65,15 +57,22 @@ keeps s x e after = (λ k. (λ q. k .1 (snoc-last after x q), (k .0, λ q. k .1 
     apart n m (inr q) = n q
 
 module _ {w : Filling} {es : List Event} {b : List ℕ} {t n : ℕ} (o : Op) (x : ExactSets w es b) (ht : t < 16) (hn : n < series o) where
-  -- a column whose slot the act is not in
-  unowned : {b′ : List ℕ} (s : ℕ) → s < 2048 → ¬ InSlot s (act o t n) → ((m : Node) → cell 2048 b′ (row m) s ≡ cell 2048 b (row m) s) →
-      Owned w (KeptIn s) (¬ InSlot s (act o t n)) es (act o t n) t 2048 b′ 0 s
+  -- a slot that the act is not in
+  unowned : {b′ : List ℕ} (s : ℕ) → s < 2048 → ¬ InSlot s (act o t n) → ((r : ℕ) → r < 81 → hasSlot b′ r s ≡ hasSlot b r s) →
+      Owned (HasBit s) w (KeptIn s) (¬ InSlot s (act o t n)) es (act o t n) t 64 b′ 0 (s / 32)
   unowned {b′} s l out same =
       record {
-        cells = λ m r. (λ a. inl (out, x .column s l .cells m r .0 (record { above = rw (same m) at (a .above) })), λ y. record { above = rw (same m) (before m r y .above) });
+        cells = λ m r. (λ a. inl (out, x .column s l .cells m r .0 (known (row m) (near r) .0 a)), λ y. known (row m) (near r) .1 (before m r y));
+        hub = (λ a. (out, x .column s l .hub .0 (known 80 (omega arith) .0 a)), λ y. known 80 (omega arith) .1 (x .column s l .hub .1 (y .1)));
       }
     where
-      before : (m : Node) → InRange m → ((¬ InSlot s (act o t n)) × Came w (KeptIn s) es 0 m) ⊎ (Newly (KeptIn s) es (act o t n) 0 × (m ≡ due t)) → Above 2048 b 0 (row m) s
+      near : {m : Node} → InRange m → row m < 81
+      near r = let h = row-below r in omega arith
+
+      known : (r : ℕ) → r < 81 → Knows (HasBit s) 64 b′ r (s / 32) ↔ Knows (HasBit s) 64 b r (s / 32)
+      known r h = (λ a. record { knows = subst T (same r h) (a .knows) }, λ a. record { knows = subst T (sym (same r h)) (a .knows) })
+
+      before : (m : Node) → InRange m → ((¬ InSlot s (act o t n)) × Came w (KeptIn s) es 0 m) ⊎ (Newly (KeptIn s) es (act o t n) 0 × (m ≡ due t)) → Knows (HasBit s) 64 b (row m) (s / 32)
       before m r (inl (_, d)) = x .column s l .cells m r .1 d
       before m r (inr ((_, (q, _)), e)) = absurd (out q)
 
@@ -81,67 +80,102 @@ module _ {w : Filling} {es : List Event} {b : List ℕ} {t n : ℕ} (o : Op) (x 
     place-below : slot (kind o) n t < 2048
     place-below = slot-below (access-kind o a) (access-on o a hn) ht
 
-    -- its own column starts anew
-    own-column : (s : ℕ) → s ≡ slot (kind o) n t → Owned w (KeptIn s) (¬ InSlot s (act o t n)) es (act o t n) t 2048 (set (clearColumn (slot (kind o) n t) b) (t * 2048 + slot (kind o) n t) 1) 0 s
-    own-column s e = record { cells = λ m r. decided m r (equal (row m) t) }
-      where
-        inside : InSlot s (act o t n)
-        inside = in-slot a ht (access-on o a hn) e
+    abbrev afresh : List ℕ
+    afresh = addSlot t (slot (kind o) n t) (clearSlot (slot (kind o) n t) b)
 
-        newly : Newly (KeptIn s) es (act o t n) 0
+    -- its own slot starts anew
+    own-slot : Owned (HasBit (slot (kind o) n t)) w (KeptIn (slot (kind o) n t)) (¬ InSlot (slot (kind o) n t) (act o t n)) es (act o t n) t 64 afresh 0 (slot (kind o) n t / 32)
+    own-slot = record { cells = λ m r. decided m r (equal (row m) t); hub = (λ y. absurd (cleared 80 (omega arith) (λ e. omega arith) y), λ y. absurd (y .0 inside)) }
+      where
+        inside : InSlot (slot (kind o) n t) (act o t n)
+        inside = in-slot a ht (access-on o a hn) refl
+
+        newly : Newly (KeptIn (slot (kind o) n t)) es (act o t n) 0
         newly = (zero-le, (inside, λ q. elim q [ ]))
 
-        decided : {c : Bool} (m : Node) → InRange m → Reflects (row m ≡ t) c →
-            Above 2048 (set (clearColumn (slot (kind o) n t) b) (t * 2048 + slot (kind o) n t) 1) 0 (row m) s
-            ↔ (((¬ InSlot s (act o t n)) × Came w (KeptIn s) es 0 m) ⊎ (Newly (KeptIn s) es (act o t n) 0 × (m ≡ due t)))
-        decided m r (right q) = (λ y. inr (newly, row-one r (due-in ht) q), λ y. record { above = rw (e, q, afresh-own (x .sized) t (slot (kind o) n t) ht place-below) (omega arith) })
-        decided m r (wrong apart) = (λ y. absurd (cleared y), λ y. absurd (none y))
-          where
-            cleared : ¬ Above 2048 (set (clearColumn (slot (kind o) n t) b) (t * 2048 + slot (kind o) n t) 1) 0 (row m) s
-            cleared y = let h : 0 < 0 = rw (e, afresh-cleared (x .sized) t (slot (kind o) n t) (row m) place-below (row-below r) apart) at (y .above) in omega arith
+        cleared : (r : ℕ) → r < 81 → ¬ (r ≡ t) → ¬ Knows (HasBit (slot (kind o) n t)) 64 afresh r (slot (kind o) n t / 32)
+        cleared r h apart y = subst T (afresh-cleared (x .sized) t (slot (kind o) n t) ht place-below r h apart) (y .knows)
 
-            none : ((¬ InSlot s (act o t n)) × Came w (KeptIn s) es 0 m) ⊎ (Newly (KeptIn s) es (act o t n) 0 × (m ≡ due t)) → ⊥
+        decided : {c : Bool} (m : Node) → InRange m → Reflects (row m ≡ t) c →
+            Knows (HasBit (slot (kind o) n t)) 64 afresh (row m) (slot (kind o) n t / 32)
+            ↔ (((¬ InSlot (slot (kind o) n t) (act o t n)) × Came w (KeptIn (slot (kind o) n t)) es 0 m) ⊎ (Newly (KeptIn (slot (kind o) n t)) es (act o t n) 0 × (m ≡ due t)))
+        decided m r (right q) =
+            (λ y. inr (newly, row-one r (due-in ht) q), λ y. record { knows = rw q (subst T (sym (afresh-own (x .sized) t (slot (kind o) n t) ht place-below)) tt) })
+        decided m r (wrong apart) = (λ y. let h = row-below r in absurd (cleared (row m) (omega arith) apart y), λ y. absurd (none y))
+          where
+            none : ((¬ InSlot (slot (kind o) n t) (act o t n)) × Came w (KeptIn (slot (kind o) n t)) es 0 m) ⊎ (Newly (KeptIn (slot (kind o) n t)) es (act o t n) 0 × (m ≡ due t)) → ⊥
             none (inl (out, _)) = out inside
             none (inr (_, q)) = apart (ap row q)
 
-    owned-access : (s : ℕ) → s < 2048 → Owned w (KeptIn s) (¬ InSlot s (act o t n)) es (act o t n) t 2048 (set (clearColumn (slot (kind o) n t) b) (t * 2048 + slot (kind o) n t) 1) 0 s
+    owned-access : (s : ℕ) → s < 2048 → Owned (HasBit s) w (KeptIn s) (¬ InSlot s (act o t n)) es (act o t n) t 64 afresh 0 (s / 32)
     owned-access s l = decided (equal s (slot (kind o) n t))
       where
-        decided : {c : Bool} → Reflects (s ≡ slot (kind o) n t) c → Owned w (KeptIn s) (¬ InSlot s (act o t n)) es (act o t n) t 2048 (set (clearColumn (slot (kind o) n t) b) (t * 2048 + slot (kind o) n t) 1) 0 s
-        decided (right e) = own-column s e
-        decided (wrong apart) = unowned s l (λ q. apart (in-one q)) (λ m. afresh-other (x .sized) t (slot (kind o) n t) (row m) s place-below l apart)
+        decided : {c : Bool} → Reflects (s ≡ slot (kind o) n t) c → Owned (HasBit s) w (KeptIn s) (¬ InSlot s (act o t n)) es (act o t n) t 64 afresh 0 (s / 32)
+        decided (right e) = subst (λ (k : ℕ). Owned (HasBit k) w (KeptIn k) (¬ InSlot k (act o t n)) es (act o t n) t 64 afresh 0 (k / 32)) (sym e) own-slot
+        decided (wrong apart) = unowned s l (λ q. apart (in-one q)) (λ r h. afresh-other (x .sized) t (slot (kind o) n t) ht place-below r s h l apart)
 
+  -- the table before it is noted that the task has acted
   record Own (b′ : List ℕ) : Type 0 where
-    sized : Sized 2048 b′
-    column : (s : ℕ) → s < 2048 → Owned w (KeptIn s) (¬ InSlot s (act o t n)) es (act o t n) t 2048 b′ 0 s
+    sized : Sized 64 b′
+    column : (s : ℕ) → s < 2048 → Owned (HasBit s) w (KeptIn s) (¬ InSlot s (act o t n)) es (act o t n) t 64 b′ 0 (s / 32)
+    acted : (u : ℕ) → u < 16 → cell 64 b′ 81 u ≡ cell 64 b 81 u
 
-  own-part : Own (setOwn (kind o) t n b)
+  own-part : Own (cond (accesses (kind o)) (addSlot t (slot (kind o) n t) (clearSlot (slot (kind o) n t) b)) b)
   own-part = decided (by-test (isAccess o))
     where
-      decided : {c : Bool} → Reflects (T (isAccess o)) c → Own (setOwn (kind o) t n b)
-      decided (right a) = rw (access-tests o a) (record { sized = sized-afresh (x .sized) t (slot (kind o) n t); column = owned-access a })
-      decided (wrong q) = rw (other-tests o q) (record { sized = x .sized; column = λ s l. unowned s l (λ i. q (in-access i)) (λ m. refl) })
+      decided : {c : Bool} → Reflects (T (isAccess o)) c → Own (cond (accesses (kind o)) (addSlot t (slot (kind o) n t) (clearSlot (slot (kind o) n t) b)) b)
+      decided (right a) =
+          rw (access-tests o a)
+          (record {
+            sized = sized-afresh (x .sized) t (slot (kind o) n t) ht (place-below a);
+            column = owned-access a;
+            acted = λ u h. afresh-acted (x .sized) t (slot (kind o) n t) ht (place-below a) u (omega arith);
+          })
+      decided (wrong q) = rw (other-tests o q) (record { sized = x .sized; column = λ s l. unowned s l (λ i. q (in-access i)) (λ r h. refl); acted = λ u h. refl })
 
-  pub sets-act : ExactSets w (es ++ (act o t n ∷ [])) (setAct (kind o) t n b)
-  sets-act =
+  -- noting it changes no other row
+  noted : {b′ : List ℕ} → Own b′ → (s : ℕ) → s < 2048 → Owned (HasBit s) w (KeptIn s) (¬ InSlot s (act o t n)) es (act o t n) t 64 (noteActed 64 t b′) 0 (s / 32)
+  noted {b′} y s l =
       record {
-        sized = sized-flow (own-part .sized) _ _ t;
-        column = λ s l. exact-act (keeps s (act o t n)) (own-part .sized) ht hn l (own-part .column s l);
+        cells = λ m r. (λ a. y .column s l .cells m r .0 (same (row m) (near r) .0 a), λ d. same (row m) (near r) .1 (y .column s l .cells m r .1 d));
+        hub = (λ a. y .column s l .hub .0 (same 80 (λ e. omega arith) .0 a), λ d. same 80 (λ e. omega arith) .1 (y .column s l .hub .1 d));
+      }
+    where
+      near : {m : Node} → InRange m → ¬ (row m ≡ 81)
+      near r e = let h = row-below r in omega arith
+
+      same : (r : ℕ) → ¬ (r ≡ 81) → Knows (HasBit s) 64 (noteActed 64 t b′) r (s / 32) ↔ Knows (HasBit s) 64 b′ r (s / 32)
+      same r d = knows-same (note-other 64 b′ t r (s / 32) (omega arith) (omega arith) d)
+
+  own-sized : Sized 64 (setOwn (kind o) t n b)
+  own-sized = sized-note (own-part .sized) t
+
+  own-acting : ExactActed w (es ++ (act o t n ∷ [])) 64 (setOwn (kind o) t n b)
+  own-acting = acted-act o t n (λ u hu. note-cell (own-part .sized) t u (omega arith) (omega arith) ∙ ap (cond (eqb u t) 1) (own-part .acted u hu)) (x .acting)
+
+  pub sets-act : ((u : ℕ) → Tells (act o t n) (due u) → (u ≡ t) ⊎ (¬ Acted w u es)) → ExactSets w (es ++ (act o t n ∷ [])) (setAct (kind o) t n b)
+  sets-act starts =
+      record {
+        sized = sized-flow own-sized bitOr _ _ t;
+        column = λ s l. exact-act (joins-or (s % 32)) (keeps s (act o t n)) starts ht hn (word-below l) own-sized own-acting (x .column s l .ended) (noted own-part s l);
+        acting = acted-same (λ u hu. flow-acted bitOr _ own-sized (rw (told-row o t n) (row-below (told-in o ht hn))) ht (omega arith)) own-acting;
       }
 
 -- Marks
 
 pub sets-mark : {es : List Event} {b : List ℕ} (mask : ℕ) → ExactSets arrived es b → ExactSets arrived (es ++ (lost mask ∷ [])) b
-sets-mark mask x = record { sized = x .sized; column = λ s l. exact-mark mask (keeps s (lost mask)) no-slot-mark (x .column s l) }
+sets-mark mask x =
+    record { sized = x .sized; column = λ s l. exact-mark mask (keeps s (lost mask)) no-slot-mark (x .column s l); acting = acted-mark mask (x .acting) }
 
-pub sets-mix : {es : List Event} {b : List ℕ} (mask : ℕ) → (t : ℕ) × Named mask t → ExactSets full es b → ExactSets full (es ++ (lost mask ∷ [])) (mix 2048 mask b)
+pub sets-mix : {es : List Event} {b : List ℕ} (mask : ℕ) → (t : ℕ) × Named mask t → ExactSets full es b → ExactSets full (es ++ (lost mask ∷ [])) (mix bitOr 64 mask b)
 sets-mix mask some x =
-    record { sized = sized-mix (x .sized) mask; column = λ s l. exact-mix mask (keeps s (lost mask)) no-slot-mark (x .sized) l some (x .column s l) }
+    record {
+      sized = sized-mix (x .sized) bitOr mask;
+      column = λ s l. exact-mix mask (keeps s (lost mask)) no-slot-mark (joins-or (s % 32)) (x .sized) (omega arith) (word-below l) some (x .column s l);
+      acting = acted-mix mask (λ t h. mix-acted (x .sized) bitOr mask t (omega arith) h) (x .acting);
+    }
 
 -- The fresh table
 
-pub fresh-sets : {w : Filling} → ExactSets w [] (replicate 196608 0)
-fresh-sets = record { sized = sized-fresh 2048; column = λ s l. record { cells = λ m r. (λ a. absurd (fresh-none 2048 0 (row m) s (row-below r) l a), λ c. absurd (nowhere (c .occurs))) } }
-  where
-    nowhere : {j : ℕ} {e : Event} {after : List Event} → ¬ Occurs [] j e after
-    nowhere o = elim o [ ]
+pub fresh-sets : {w : Filling} → ExactSets w [] (replicate 5248 0)
+fresh-sets = record { sized = sized-fresh 64; column = λ s l. fresh-exact (joins-or (s % 32) .nothing) (word-below l); acting = fresh-acted 64 (omega arith) }

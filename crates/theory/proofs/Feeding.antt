@@ -13,9 +13,9 @@ use Rattle.theory.specs.declared.record.Record.{Record}
 use Rattle.theory.specs.declared.state.State.{State}
 use Rattle.theory.specs.declared.state.ClockState.{ClockState}
 use Rattle.theory.specs.declared.state.SetState.{SetState}
-use Rattle.theory.specs.Recording.{Op, read, write, take, give, look, start, join, Event, act, series, seriesOf, kind, eventOf}
+use Rattle.theory.specs.Recording.{Op, read, write, take, give, look, start, join, Event, act, lost, series, seriesOf, kind, eventOf}
 use Rattle.theory.specs.Order.{isAccess}
-use Rattle.theory.specs.Completion.{Named}
+use Rattle.theory.specs.Completion.{names, Named}
 use Rattle.theory.specs.Acceptance.{Fitting, isLive, isUnseen, phase, refusal, joined}
 use Rattle.theory.specs.Control.{controlAfter}
 use Rattle.theory.specs.History.{lastAfter}
@@ -31,13 +31,15 @@ use Rattle.theory.proofs.ExactClocks.{ExactClocks, clocks-act, clocks-m
 use Rattle.theory.proofs.ExactSets.{ExactSets, sets-act, sets-mark, sets-mix, fresh-sets}
 use Rattle.theory.proofs.Slots.{ExactHistory, history-act, history-mark, fresh-history, access-on, access-tests, other-tests}
 use Rattle.theory.proofs.Conflicts.{Ranged, ranged-act, ranged-mark, fresh-ranged}
+use Rattle.theory.proofs.Acted.{Seen, seen-event, fresh-seen, starts-unseen}
 use Rattle.theory.proofs.Represents.{clock-finds, set-finds, masks-same, judged-found}
 
 -- What an accepted record is
 
-pub data Shape : Record → Type 0 where
-  an-act : (o : Op) (t n : ℕ) → Fitting (kind o) t n → Shape (record { kind = kind o; task = t; on = n })
-  a-mark : (t n : ℕ) → (u : ℕ) × Named n u → Shape (record { kind = 8; task = t; on = n })
+pub data Shape (es : List Event) : Record → Type 0 where
+  an-act : (o : Op) (t n : ℕ) → Fitting (kind o) t n → isLive (phase es t) ≡ true → (o ≡ start → isUnseen (phase es n) ≡ true) →
+      Shape es (record { kind = kind o; task = t; on = n })
+  a-mark : (t n : ℕ) → (u : ℕ) × Named n u → ((u : ℕ) → Named n u → isLive (phase es u) ≡ true) → Shape es (record { kind = 8; task = t; on = n })
 
 -- a mask that is not empty names a task
 some-bit : (k n : ℕ) → ¬ (n ≡ 0) → n < 2 ^ k → (t : ℕ) × (t < k) × (n / 2 ^ t % 2 ≡ 1)
@@ -64,23 +66,23 @@ op-of (suc (suc (suc (suc (suc (suc zero)))))) h = (start, refl)
 op-of (suc (suc (suc (suc (suc (suc (suc zero))))))) h = (join, refl)
 op-of (suc (suc (suc (suc (suc (suc (suc (suc k)))))))) h = absurd (omega arith)
 
-pub shape-of : (es : List Event) (r : Record) → refusal es r ≡ 0 → Shape r
+pub shape-of : (es : List Event) (r : Record) → refusal es r ≡ 0 → Shape es r
 shape-of es r e = decided (equal (r .kind) 8)
   where
     p : Passed (λ t. isLive (phase es t)) (λ t. isUnseen (phase es t)) (length es) r
     p = passed (λ t. isLive (phase es t)) (λ t. isUnseen (phase es t)) (length es) r e
 
-    decided : {b : Bool} → Reflects (r .kind ≡ 8) b → Shape r
+    decided : {b : Bool} → Reflects (r .kind ≡ 8) b → Shape es r
     decided (right q) =
         let m = p .mark q in
         let h = m .some in
         let (t, l, d) = some-bit 16 (r .on) (λ z. omega arith) (m .mask) in
-        subst Shape (λ i. record { kind = sym q i; task = r .task; on = r .on }) (a-mark (r .task) (r .on) (t, bit-named (r .on) t l (subst T (sym (eq-eqb _ _ d)) tt)))
+        subst (Shape es) (λ i. record { kind = sym q i; task = r .task; on = r .on }) (a-mark (r .task) (r .on) (t, bit-named (r .on) t l (subst T (sym (eq-eqb _ _ d)) tt)) (λ u k. m .live u (is-true (by-test (names (r .on) u)) (k .named))))
     decided (wrong n) =
         let a = p .act n in
         let h = p .known in
         let (o, q) = op-of (r .kind) (omega (arith, n)) in
-        subst Shape (λ i. record { kind = sym q i; task = r .task; on = r .on }) (an-act o (r .task) (r .on) (record { task-fits = a .task; on-fits = rw (← q) (a .on) }))
+        subst (Shape es) (λ i. record { kind = sym q i; task = r .task; on = r .on }) (an-act o (r .task) (r .on) (record { task-fits = a .task; on-fits = rw (← q) (a .on) }) (a .live) (λ e. a .starts-unseen (q ∙ ap kind e)))
 
 -- Acts of a known op
 
@@ -123,6 +125,7 @@ pub record Base (es : List Event) (control last : List ℕ) : Type 0 where
   pub control-exact : ExactControl es control
   pub history : ExactHistory es last
   pub ranged : Ranged es
+  pub seen : Seen es
 
 pub record Clocks (es : List Event) (clocks fullclocks : List ℕ) : Type 0 where
   pub as-arrived : ExactClocks arrived es clocks
@@ -139,38 +142,43 @@ next-number x = let e = x .count in omega arith
 abbrev Then : List Event → Record → List Event
 Then es r = es ++ (eventOf r ∷ [])
 
-base-next : {es : List Event} {control last : List ℕ} {r : Record} → Base es control last → Shape r →
+base-next : {es : List Event} {control last : List ℕ} {r : Record} → Base es control last → Shape es r →
     Base (Then es r) (controlAfter (r .kind) (r .on) control) (lastAfter (r .kind) (r .task) (r .on) (nextNumber control) last)
-base-next {es} {control} {last} b (an-act o t n f) =
+base-next {es} {control} {last} b (an-act o t n f live starts) =
     subst (λ (e : Event). Base (es ++ (e ∷ [])) (controlAfter (kind o) n control) (lastAfter (kind o) t n (nextNumber control) last)) (sym (event-act o t n))
     (record {
       control-exact = control-act (b .control-exact) o f;
       history = history-act o (b .history) (f .task-fits) (on-series o f) (next-number (b .control-exact));
       ranged = ranged-act o (f .task-fits) (on-series o f) (b .ranged);
+      seen = seen-event (act o t n) (λ u e. subst (λ (k : ℕ). isLive (phase es k) ≡ true) (sym e) live) (b .seen);
     })
-base-next {control = control} b (a-mark t n some) =
+base-next {control = control} b (a-mark t n some live) =
     record {
       control-exact = control-mark (b .control-exact) n n;
       history = history-mark n t n (nextNumber control) (b .history);
       ranged = ranged-mark n (b .ranged);
+      seen = seen-event (lost n) live (b .seen);
     }
 
-clocks-next : {es : List Event} {control last clocks fullclocks : List ℕ} {r : Record} → Base es control last → Clocks es clocks fullclocks → Shape r →
+clocks-next : {es : List Event} {control last clocks fullclocks : List ℕ} {r : Record} → Base es control last → Clocks es clocks fullclocks → Shape es r →
     Clocks (Then es r) (clocksArrived (r .kind) (r .task) (r .on) (nextNumber control) clocks) (clocksFull (r .kind) (r .task) (r .on) (nextNumber control) fullclocks)
-clocks-next {es} {control} {last} {clocks} {fullclocks} b x (an-act o t n f) =
+clocks-next {es} {control} {last} {clocks} {fullclocks} b x (an-act o t n f live starts) =
     rw (event-act o t n, no-mark o)
     (record {
-      as-arrived = clocks-act o (x .as-arrived) (f .task-fits) (on-series o f) (next-number (b .control-exact));
-      in-full = clocks-act o (x .in-full) (f .task-fits) (on-series o f) (next-number (b .control-exact));
+      as-arrived = clocks-act o (x .as-arrived) (f .task-fits) (on-series o f) (next-number (b .control-exact)) (starts-unseen (b .seen) starts);
+      in-full = clocks-act o (x .in-full) (f .task-fits) (on-series o f) (next-number (b .control-exact)) (starts-unseen (b .seen) starts);
     })
-clocks-next b x (a-mark t n some) = record { as-arrived = clocks-mark n (x .as-arrived); in-full = clocks-mix n some (x .in-full) }
+clocks-next b x (a-mark t n some live) = record { as-arrived = clocks-mark n (x .as-arrived); in-full = clocks-mix n some (x .in-full) }
 
-sets-next : {es : List Event} {sets fullsets : List ℕ} {r : Record} → Sets es sets fullsets → Shape r →
+sets-next : {es : List Event} {sets fullsets : List ℕ} {r : Record} → Seen es → Sets es sets fullsets → Shape es r →
     Sets (Then es r) (setsArrived (r .kind) (r .task) (r .on) sets) (setsFull (r .kind) (r .task) (r .on) fullsets)
-sets-next x (an-act o t n f) =
+sets-next s x (an-act o t n f live starts) =
     rw (event-act o t n, no-mark o)
-    (record { as-arrived = sets-act o (x .as-arrived) (f .task-fits) (on-series o f); in-full = sets-act o (x .in-full) (f .task-fits) (on-series o f) })
-sets-next x (a-mark t n some) = record { as-arrived = sets-mark n (x .as-arrived); in-full = sets-mix n some (x .in-full) }
+    (record {
+      as-arrived = sets-act o (x .as-arrived) (f .task-fits) (on-series o f) (starts-unseen s starts);
+      in-full = sets-act o (x .in-full) (f .task-fits) (on-series o f) (starts-unseen s starts);
+    })
+sets-next s x (a-mark t n some live) = record { as-arrived = sets-mark n (x .as-arrived); in-full = sets-mix n some (x .in-full) }
 
 -- What is answered
 
@@ -181,9 +189,9 @@ is-false {b} n = decided (by-test b)
     decided (right x) = absurd (n x)
     decided (wrong m) = refl
 
-clock-answer : {es : List Event} {control last clocks fullclocks : List ℕ} {r : Record} → Base es control last → Clocks es clocks fullclocks → Shape r →
+clock-answer : {es : List Event} {control last clocks fullclocks : List ℕ} {r : Record} → Base es control last → Clocks es clocks fullclocks → Shape es r →
     answeredBy last (r .kind) (r .on) (nextNumber control) (clockMasks clocks fullclocks last (r .kind) (r .task) (r .on)) ≡ acceptedAnswer es (eventOf r)
-clock-answer {es} {control} {last} {clocks} {fullclocks} b x (an-act o t n f) = rw (event-act o t n) (decided (by-test (isAccess o)))
+clock-answer {es} {control} {last} {clocks} {fullclocks} b x (an-act o t n f live starts) = rw (event-act o t n) (decided (by-test (isAccess o)))
   where
     number : nextNumber control ≡ suc (length es)
     number = next-number (b .control-exact)
@@ -196,11 +204,11 @@ clock-answer {es} {control} {last} {clocks} {fullclocks} b x (an-act o t n f) = 
         (clock-finds {w = full} o t n (b .history) (b .ranged) a (f .task-fits) (access-on o a (on-series o f)) (x .in-full))
         (clock-finds {w = arrived} o t n (b .history) (b .ranged) a (f .task-fits) (access-on o a (on-series o f)) (x .as-arrived)))
     decided (wrong l) = rw (other-tests o l, is-false {b = isAccess o} l, number)
-clock-answer b x (a-mark t n some) = rw (next-number (b .control-exact))
+clock-answer b x (a-mark t n some live) = rw (next-number (b .control-exact))
 
-set-answer : {es : List Event} {control last sets fullsets : List ℕ} {r : Record} → Base es control last → Sets es sets fullsets → Shape r →
+set-answer : {es : List Event} {control last sets fullsets : List ℕ} {r : Record} → Base es control last → Sets es sets fullsets → Shape es r →
     answeredBy last (r .kind) (r .on) (nextNumber control) (setMasks sets fullsets last (r .kind) (r .task) (r .on)) ≡ acceptedAnswer es (eventOf r)
-set-answer {es} {control} {last} {sets} {fullsets} b x (an-act o t n f) = rw (event-act o t n) (decided (by-test (isAccess o)))
+set-answer {es} {control} {last} {sets} {fullsets} b x (an-act o t n f live starts) = rw (event-act o t n) (decided (by-test (isAccess o)))
   where
     number : nextNumber control ≡ suc (length es)
     number = next-number (b .control-exact)
@@ -213,13 +221,13 @@ set-answer {es} {control} {last} {sets} {fullsets} b x (an-act o t n f) = rw (ev
         (set-finds {w = full} o t n (b .history) (b .ranged) a (f .task-fits) (access-on o a (on-series o f)) (x .in-full))
         (set-finds {w = arrived} o t n (b .history) (b .ranged) a (f .task-fits) (access-on o a (on-series o f)) (x .as-arrived)))
     decided (wrong l) = rw (other-tests o l, is-false {b = isAccess o} l, number)
-set-answer b x (a-mark t n some) = rw (next-number (b .control-exact))
+set-answer b x (a-mark t n some live) = rw (next-number (b .control-exact))
 
 -- clocks and sets agree
 agree : {es : List Event} {control last clocks fullclocks sets fullsets : List ℕ} {r : Record} → Base es control last → Clocks es clocks fullclocks →
-    Sets es sets fullsets → Shape r →
+    Sets es sets fullsets → Shape es r →
     sameMasks (clockMasks clocks fullclocks last (r .kind) (r .task) (r .on)) (setMasks sets fullsets last (r .kind) (r .task) (r .on)) ≡ true
-agree {last = last} {clocks} {fullclocks} {sets} {fullsets} b x y (an-act o t n f) = decided (by-test (isAccess o))
+agree {last = last} {clocks} {fullclocks} {sets} {fullsets} b x y (an-act o t n f live starts) = decided (by-test (isAccess o))
   where
     decided : {c : Bool} → Reflects (T (isAccess o)) c → sameMasks (clockMasks clocks fullclocks last (kind o) t n) (setMasks sets fullsets last (kind o) t n) ≡ true
     decided (right a) =
@@ -229,7 +237,7 @@ agree {last = last} {clocks} {fullclocks} {sets} {fullsets} b x y (an-act o t n 
           eq-eqb (clockMask clocks last (kind o) t n) (setMask sets last (kind o) t n) (masks-same {w = arrived} o t n (b .history) (b .ranged) a (f .task-fits) (access-on o a (on-series o f)) (x .as-arrived) (y .as-arrived)),
         )
     decided (wrong l) = rw (other-tests o l)
-agree b x y (a-mark t n some) = refl
+agree b x y (a-mark t n some live) = refl
 
 -- One record
 
@@ -265,7 +273,7 @@ set-fed-one es s r x = rw (same-refusal (x .base .control-exact) r) (decided (re
     decided : (n : ℕ) → refusal es r ≡ n → ((setStepBy n s r) .answer ≡ answerBy es r n) × RepresentsSets (joined es r n) ((setStepBy n s r) .state)
     decided zero e =
         let h = shape-of es r e in
-        (set-answer (x .base) (x .sets) h, record { base = base-next (x .base) h; sets = sets-next (x .sets) h })
+        (set-answer (x .base) (x .sets) h, record { base = base-next (x .base) h; sets = sets-next (x .base .seen) (x .sets) h })
     decided (suc n) e = (refl, x)
 
 pub fed-one : (es : List Event) (s : State) (r : Record) → Represents es s →
@@ -281,14 +289,14 @@ fed-one es s r x = rw (same-refusal (x .base .control-exact) r) (decided (refusa
         let h = shape-of es r e in
         subst Fed (sym (agree (x .base) (x .clocks) (x .sets) h)) (
           clock-answer (x .base) (x .clocks) h,
-          record { base = base-next (x .base) h; clocks = clocks-next (x .base) (x .clocks) h; sets = sets-next (x .sets) h },
+          record { base = base-next (x .base) h; clocks = clocks-next (x .base) (x .clocks) h; sets = sets-next (x .base .seen) (x .sets) h },
         )
     decided (suc n) e = (refl, x)
 
 -- A list
 
 fresh-base : Base [] freshControl (replicate 2048 0)
-fresh-base = record { control-exact = fresh-control; history = fresh-history; ranged = fresh-ranged }
+fresh-base = record { control-exact = fresh-control; history = fresh-history; ranged = fresh-ranged; seen = fresh-seen }
 
 pub fed-to : (es : List Event) (s : State) (rs : List Record) → Represents es s → fedTo s rs ≡ answersFrom es rs
 fed-to es s [] x = refl

@@ -18,17 +18,19 @@ pub mod Latest
 pub mod Decide
 pub mod Demands
 pub mod Examples
--- Tables of any width are exact: rows and columns, acts, marks, and clocks and sets by them
+-- Tables of any width and any join are exact: rows and columns, words, acts, marks, phases and who has acted, and clocks and sets by them
 pub mod Tables
+pub mod Words
 pub mod Acting
 pub mod Mixing
 pub mod Nodes
 pub mod Marks
+pub mod ExactControl
+pub mod Acted
 pub mod Exact
 pub mod ExactClocks
 pub mod Slots
 pub mod ExactSets
-pub mod ExactControl
 -- The step finds what the search finds: masks, the running state, feeding, and the demands for it
 pub mod Bits
 pub mod Ranges

@@ -1,87 +1,109 @@
--- What a mark does to a table: each row that its lost records can tell comes to know what the rows that they can hear knew.
--- Assumes nothing.
-use mathlib.Core.Path.{_≡_, refl, sym, _∙_}
-use mathlib.Core.Bool.{Bool, true, false}
+-- What a mark does to a table: the hub comes to know what its lost records can hear, each row that they can tell what the hub knows then,
+-- and the named tasks have acted. Assumes nothing.
+use mathlib.Core.Path.{_≡_, refl, sym, _∙_, ap}
+use mathlib.Core.Bool.{Bool, true, false, cond}
 use mathlib.Core.Logic.{_↔_, _⊎_, inl, inr, ⊎-elim}
 use mathlib.Core.List.{List}
-use Prim.Native.Nat.{ℕ, zero, suc, _≤_, _<_}
+use Prim.Native.Nat.{ℕ, zero, suc, _+_, _*_, _≤_, _<_}
 use native.Mathlib.Omega.{arith}
 use lib.Dec.{T, lit<}
+use lib.ListN.{set}
 use Rattle.theory.specs.Turns.{turns}
-use Rattle.theory.specs.Tables.{cell, joinRow, rowOf, putRow, isHeard, isTold, hub, rowOrHub, gather, spread, mix}
+use Rattle.theory.specs.Completion.{bit}
+use Rattle.theory.specs.Tables.{cell, joinRow, rowOf, putRow, isTold, hub, rowOrHub, gather, spread, noteNamed, mix}
 use Rattle.theory.proofs.Reflects.{Reflects, right, wrong, equal, by-test}
-use Rattle.theory.proofs.Tables.{Sized, Above, sized-turns, sized-join, sized-put, row-cell, put-same, put-other, join-self, join-above}
+use Rattle.theory.proofs.Tables.{Sized, Same, Joins, Knows, knows-same, sized-set, sized-turns, sized-join, sized-put, row-cell, put-same, put-other, cell-set-same, cell-set-other, join-self, join-cell-other, join-knows}
 
 -- Size
 
-pub sized-gather : {w : ℕ} {b : List ℕ} → Sized w b → (mask : ℕ) → Sized w (gather w mask b)
+pub sized-gather : {w : ℕ} {b : List ℕ} → Sized w b → (j : ℕ → ℕ → ℕ) (mask : ℕ) → Sized w (gather j w mask b)
 unfolding gather
-sized-gather s mask = sized-turns 96 (λ k x t. sized-join t _ _) s
+sized-gather s j mask = sized-turns 16 (λ k x t. sized-join t j _ _) s
 
 pub sized-spread : {w : ℕ} {b : List ℕ} → Sized w b → (mask : ℕ) → Sized w (spread w mask b)
 unfolding spread
-sized-spread s mask = sized-turns 96 (λ k x t. sized-put t _ _) s
+sized-spread s mask = sized-turns 80 (λ k x t. sized-put t _ _) s
 
-pub sized-mix : {w : ℕ} {b : List ℕ} → Sized w b → (mask : ℕ) → Sized w (mix w mask b)
-unfolding mix
-sized-mix s mask = sized-spread (sized-gather s mask) mask
+pub sized-mix : {w : ℕ} {b : List ℕ} → Sized w b → (j : ℕ → ℕ → ℕ) (mask : ℕ) → Sized w (mix j w mask b)
+unfolding mix noteNamed
+sized-mix s j mask = sized-turns 16 (λ k x t. sized-set t _ _) (sized-spread (sized-gather s j mask) mask)
 
--- Marks
+-- Gathering
 
-passing : {X A B C : Type 0} → X ↔ (A ⊎ (B × C)) → X ↔ (A ⊎ (B × T true × C))
-passing j = (λ a. ⊎-elim inl (λ x. inr (x .0, tt, x .1)) (j .0 a), λ a. j .1 (⊎-elim inl (λ x. inr (x .0, x .2)) a))
+module _ (j : ℕ → ℕ → ℕ) {w : ℕ} {b : List ℕ} (s : Sized w b) (mask : ℕ) where
+  abbrev Gathered : ℕ → List ℕ
+  Gathered n = turns n (λ t x. joinRow j w hub (rowOrHub (bit mask t) t) x) b
 
-failing : {w : ℕ} {b : List ℕ} {i r c : ℕ} {B C : Type 0} → Above w (joinRow w hub hub b) i r c ↔ (Above w b i r c ⊎ (B × T false × C))
-failing {w} {b} = (λ a. inl (rw (← join-self w hub b) at a), ⊎-elim (λ a. rw (← join-self w hub b) a) (λ x. absurd (x .1)))
+  sized-part : (n : ℕ) → Sized w (Gathered n)
+  sized-part n = sized-turns n (λ t x z. sized-join z j _ _) s
 
--- joining the hub in the place of a row that the test leaves out changes nothing
-join-heard : {w : ℕ} {b : List ℕ} {q i r c : ℕ} (p : Bool) → Sized w b → q < 96 → r < 96 → c < w →
-    Above w (joinRow w hub (rowOrHub p q) b) i r c ↔ (Above w b i r c ⊎ ((r ≡ hub) × T p × Above w b i q c))
-join-heard true s g h l = passing (join-above s (lit< tt) g h l)
-join-heard false s g h l = failing
-
--- one of the first n rows that a mark hears is above i
-abbrev HeardBelow : ℕ → ℕ → List ℕ → ℕ → ℕ → ℕ → Type 0
-HeardBelow w mask b i c n = (q : ℕ) × (q < n) × T (isHeard mask q) × Above w b i q c
-
-module _ {w : ℕ} {b : List ℕ} (s : Sized w b) (mask i c : ℕ) (l : c < w) where
-  -- X, P and Q stand for the table after turn n at row r, and before it at rows r and n
-  gather-turn : {X P Q : Type 0} (n r : ℕ) → X ↔ (P ⊎ ((r ≡ hub) × T (isHeard mask n) × Q)) →
-      P ↔ (Above w b i r c ⊎ ((r ≡ hub) × HeardBelow w mask b i c n)) →
-      Q ↔ (Above w b i n c ⊎ ((n ≡ hub) × HeardBelow w mask b i c n)) →
-      X ↔ (Above w b i r c ⊎ ((r ≡ hub) × HeardBelow w mask b i c (suc n)))
-  gather-turn {X} {P} {Q} n r x p q = (λ a. to (x .0 a), from)
-    where
-      later : HeardBelow w mask b i c n → HeardBelow w mask b i c (suc n)
-      later (k, h, t, a) = (k, omega arith, t, a)
-
-      to : P ⊎ ((r ≡ hub) × T (isHeard mask n) × Q) → Above w b i r c ⊎ ((r ≡ hub) × HeardBelow w mask b i c (suc n))
-      to (inl a) = ⊎-elim inl (λ y. inr (y .0, later (y .1))) (p .0 a)
-      to (inr (e, t, a)) = inr (e, ⊎-elim (λ y. (n, omega arith, t, y)) (λ y. later (y .1)) (q .0 a))
-
-      from-row : (k : ℕ) → r ≡ hub → k < suc n → T (isHeard mask k) → Above w b i k c → {d : Bool} → Reflects (k ≡ n) d → X
-      from-row k e h t a (right g) = x .1 (inr (e, rw g at t, q .1 (inl (rw g at a))))
-      from-row k e h t a (wrong f) = x .1 (inl (p .1 (inr (e, (k, omega arith, t, a)))))
-
-      from : Above w b i r c ⊎ ((r ≡ hub) × HeardBelow w mask b i c (suc n)) → X
-      from (inl a) = x .1 (inl (p .1 (inl a)))
-      from (inr (e, (k, h, t, a))) = from-row k e h t a (equal k n)
-
-  gather-turns : (n r : ℕ) → n ≤ 96 → r < 96 →
-      Above w (turns n (λ q x. joinRow w hub (rowOrHub (isHeard mask q) q) x) b) i r c
-      ↔ (Above w b i r c ⊎ ((r ≡ hub) × HeardBelow w mask b i c n))
+  -- only the hub changes
+  gather-other : (n r c : ℕ) → c < w → ¬ (r ≡ hub) → cell w (Gathered n) r c ≡ cell w b r c
   unfolding turns
-  gather-turns zero r k h = (inl, ⊎-elim (λ a. a) (λ x. absurd (omega (arith, x .1 .1))))
-  gather-turns (suc n) r k h =
-      gather-turn n r (join-heard (isHeard mask n) (sized-turns n (λ q x t. sized-join t _ _) s) k h l) (gather-turns n r (omega arith) h)
-      (gather-turns n n (omega arith) k)
+  gather-other zero r c l d = refl
+  gather-other (suc n) r c l d = join-cell-other j (sized-part n) hub _ r c l d ∙ gather-other n r c l d
 
-  -- the hub comes to know what each heard row knows
-  pub gather-above : (r : ℕ) → r < 96 →
-      Above w (gather w mask b) i r c ↔ (Above w b i r c ⊎ ((r ≡ hub) × ((q : ℕ) × (q < 96) × T (isHeard mask q) × Above w b i q c)))
+  gather-kept : (r c : ℕ) → c < w → ¬ (r ≡ hub) → cell w (gather j w mask b) r c ≡ cell w b r c
   unfolding gather
-  gather-above r h = gather-turns 96 r (omega arith) h
+  gather-kept r c l d = gather-other 16 r c l d
 
+-- one of the first n tasks that the mask names knows it
+abbrev pub NamedKnows : (ℕ → Type 0) → ℕ → ℕ → List ℕ → ℕ → ℕ → Type 0
+NamedKnows P w mask b c n = (t : ℕ) × (t < n) × T (bit mask t) × Knows P w b t c
+
+module _ {j : ℕ → ℕ → ℕ} {P : ℕ → Type 0} (joins : Joins j P) {w : ℕ} {b : List ℕ} (s : Sized w b) (mask c : ℕ) (l : c < w) where
+  passing : {X A B C : Type 0} → X ↔ (A ⊎ (B × C)) → X ↔ (A ⊎ (B × T true × C))
+  passing q = (λ a. ⊎-elim inl (λ x. inr (x .0, tt, x .1)) (q .0 a), λ a. q .1 (⊎-elim inl (λ x. inr (x .0, x .2)) a))
+
+  -- joining the hub in the place of a row that the mask leaves out changes nothing
+  join-named : {x : List ℕ} {q r : ℕ} (p : Bool) → Sized w x →
+      Knows P w (joinRow j w hub (rowOrHub p q) x) r c ↔ (Knows P w x r c ⊎ ((r ≡ hub) × T p × Knows P w x q c))
+  join-named true z = passing (join-knows joins z (lit< tt) l)
+  join-named {x} false z = (
+    λ a. inl (rw (← join-self (joins .alone) w hub x) at a),
+    ⊎-elim (λ a. rw (← join-self (joins .alone) w hub x) a) (λ y. absurd (y .1)),
+  )
+
+  gather-turn : (n : ℕ) → n < 16 → Knows P w (Gathered j s mask n) hub c ↔ (Knows P w b hub c ⊎ NamedKnows P w mask b c n) →
+      Knows P w (joinRow j w hub (rowOrHub (bit mask n) n) (Gathered j s mask n)) hub c ↔ (Knows P w b hub c ⊎ NamedKnows P w mask b c (suc n))
+  gather-turn n h before = (λ a. to (turn .0 a), from)
+    where
+      turn : Knows P w (joinRow j w hub (rowOrHub (bit mask n) n) (Gathered j s mask n)) hub c
+          ↔ (Knows P w (Gathered j s mask n) hub c ⊎ ((hub ≡ hub) × T (bit mask n) × Knows P w (Gathered j s mask n) n c))
+      turn = join-named (bit mask n) (sized-part j s mask n)
+
+      here : Knows P w (Gathered j s mask n) n c ↔ Knows P w b n c
+      here = knows-same (gather-other j s mask n n c l (λ e. omega arith))
+
+      later : NamedKnows P w mask b c n → NamedKnows P w mask b c (suc n)
+      later (k, m, t, a) = (k, omega arith, t, a)
+
+      to : Knows P w (Gathered j s mask n) hub c ⊎ ((hub ≡ hub) × T (bit mask n) × Knows P w (Gathered j s mask n) n c) → Knows P w b hub c ⊎ NamedKnows P w mask b c (suc n)
+      to (inl a) = ⊎-elim inl (λ x. inr (later x)) (before .0 a)
+      to (inr (_, t, a)) = inr (n, omega arith, t, here .0 a)
+
+      from-task : (k : ℕ) → k < suc n → T (bit mask k) → Knows P w b k c → {d : Bool} → Reflects (k ≡ n) d →
+          Knows P w (joinRow j w hub (rowOrHub (bit mask n) n) (Gathered j s mask n)) hub c
+      from-task k m t a (right e) = turn .1 (inr (refl, rw e at t, here .1 (rw e at a)))
+      from-task k m t a (wrong f) = turn .1 (inl (before .1 (inr (k, omega arith, t, a))))
+
+      from : Knows P w b hub c ⊎ NamedKnows P w mask b c (suc n) → Knows P w (joinRow j w hub (rowOrHub (bit mask n) n) (Gathered j s mask n)) hub c
+      from (inl a) = turn .1 (inl (before .1 (inl a)))
+      from (inr (k, m, t, a)) = from-task k m t a (equal k n)
+
+  gather-turns : (n : ℕ) → n ≤ 16 → Knows P w (Gathered j s mask n) hub c ↔ (Knows P w b hub c ⊎ NamedKnows P w mask b c n)
+  unfolding turns
+  gather-turns zero h = (inl, ⊎-elim (λ a. a) (λ x. absurd (omega (arith, x .1))))
+  gather-turns (suc n) h = gather-turn n h (gather-turns n (omega arith))
+
+  -- the hub comes to know what each named task's next act knows
+  gather-hub : Knows P w (gather j w mask b) hub c ↔ (Knows P w b hub c ⊎ NamedKnows P w mask b c 16)
+  unfolding gather
+  gather-hub = gather-turns 16 (omega arith)
+
+-- Spreading
+
+module _ {w : ℕ} {b : List ℕ} (s : Sized w b) (mask c : ℕ) (l : c < w) where
   -- a turn leaves a cell as it is where its row is not the one told; what it puts into the hub is the hub's own
   other-turn : {x : List ℕ} {v : ℕ} (p : Bool) (q r : ℕ) → Sized w x → ¬ ((r ≡ q) × T p) → (r ≡ hub → v ≡ cell w b hub c) → cell w x r c ≡ v →
       cell w (putRow w (rowOrHub p q) (rowOf w hub b) x) r c ≡ v
@@ -92,69 +114,106 @@ module _ {w : ℕ} {b : List ℕ} (s : Sized w b) (mask i c : ℕ) (l : c < w) w
       decided (right f) = rw f (put-same z hub c (rowOf w hub b) (lit< tt) l ∙ row-cell w hub b c l) ∙ sym (own f)
       decided (wrong f) = put-other w x (rowOf w hub b) hub r c l f ∙ e
 
-  told-turn : {x : List ℕ} (p : Bool) (q : ℕ) → Sized w x → q < 96 → T p → cell w (putRow w (rowOrHub p q) (rowOf w hub b) x) q c ≡ cell w b hub c
+  told-turn : {x : List ℕ} (p : Bool) (q : ℕ) → Sized w x → q < 82 → T p → cell w (putRow w (rowOrHub p q) (rowOf w hub b) x) q c ≡ cell w b hub c
   told-turn true q z h t = put-same z q c (rowOf w hub b) h l ∙ row-cell w hub b c l
   told-turn false q z h t = absurd t
 
   abbrev Spread : ℕ → List ℕ
   Spread n = turns n (λ q x. putRow w (rowOrHub (isTold mask q) q) (rowOf w hub b) x) b
 
-  sized-part : (n : ℕ) → Sized w (Spread n)
-  sized-part n = sized-turns n (λ q x t. sized-put t _ _) s
+  sized-spreading : (n : ℕ) → Sized w (Spread n)
+  sized-spreading n = sized-turns n (λ q x t. sized-put t _ _) s
 
   spread-kept : (n r : ℕ) → ¬ ((r < n) × T (isTold mask r)) → cell w (Spread n) r c ≡ cell w b r c
   unfolding turns
   spread-kept zero r d = refl
   spread-kept (suc n) r d =
-      other-turn (isTold mask n) n r (sized-part n) (λ x. d (omega (arith, x .0), rw (x .0) (x .1))) (λ e. rw e)
+      other-turn (isTold mask n) n r (sized-spreading n) (λ x. d (omega (arith, x .0), rw (x .0) (x .1))) (λ e. rw e)
       (spread-kept n r (λ x. d (omega arith, x .1)))
 
-  spread-told : (n r : ℕ) → n ≤ 96 → r < n → T (isTold mask r) → cell w (Spread n) r c ≡ cell w b hub c
+  spread-told : (n r : ℕ) → n ≤ 80 → r < n → T (isTold mask r) → cell w (Spread n) r c ≡ cell w b hub c
   unfolding turns
   spread-told zero r k h t = absurd (omega arith)
   spread-told (suc n) r k h t = decided (equal r n) (λ m. spread-told n r (omega arith) m t)
     where
       decided : {p : Bool} → Reflects (r ≡ n) p → (r < n → cell w (Spread n) r c ≡ cell w b hub c) → cell w (Spread (suc n)) r c ≡ cell w b hub c
-      decided (right e) f = rw e (told-turn (isTold mask n) n (sized-part n) k (rw e at t))
-      decided (wrong d) f = other-turn (isTold mask n) n r (sized-part n) (λ x. d (x .0)) (λ e. refl) (f (omega arith))
+      decided (right e) f = rw e (told-turn (isTold mask n) n (sized-spreading n) (omega arith) (rw e at t))
+      decided (wrong d) f = other-turn (isTold mask n) n r (sized-spreading n) (λ x. d (x .0)) (λ e. refl) (f (omega arith))
 
-  -- each told row knows what the hub knows, and the others what they knew
-  pub spread-above : (r : ℕ) → r < 96 →
-      Above w (spread w mask b) i r c ↔ (((¬ T (isTold mask r)) × Above w b i r c) ⊎ (T (isTold mask r) × Above w b i hub c))
+  -- a told row has the hub's cells, and the others have their own
+  told-cell : (r : ℕ) → r < 80 → T (isTold mask r) → cell w (spread w mask b) r c ≡ cell w b hub c
   unfolding spread
-  spread-above r h = decided (by-test (isTold mask r))
+  told-cell r h t = spread-told 80 r (omega arith) h t
+
+  untold-cell : (r : ℕ) → ¬ ((r < 80) × T (isTold mask r)) → cell w (spread w mask b) r c ≡ cell w b r c
+  unfolding spread
+  untold-cell r d = spread-kept 80 r d
+
+-- Named tasks
+
+module _ {w : ℕ} {b : List ℕ} (s : Sized w b) (mask : ℕ) (wide : 16 ≤ w) where
+  abbrev Noted : ℕ → List ℕ
+  Noted n = turns n (λ t x. set x (81 * w + t) (cond (bit mask t) 1 (cell w x 81 t))) b
+
+  noted-other : (n r c : ℕ) → n ≤ 16 → c < w → ¬ ((r ≡ 81) × (c < n)) → cell w (Noted n) r c ≡ cell w b r c
+  unfolding turns
+  noted-other zero r c h l d = refl
+  noted-other (suc n) r c h l d =
+      cell-set-other w (Noted n) 81 n _ r c (omega arith) l (λ x. d (x .0, omega (arith, x .1)))
+      ∙ noted-other n r c (omega arith) l (λ x. d (x .0, omega arith))
+
+  noted-same : (n t : ℕ) → n ≤ 16 → t < n → cell w (Noted n) 81 t ≡ cond (bit mask t) 1 (cell w b 81 t)
+  unfolding turns
+  noted-same zero t h l = absurd (omega arith)
+  noted-same (suc n) t h l = decided (equal t n) (noted-same n t (omega arith))
     where
-      decided : {p : Bool} → Reflects (T (isTold mask r)) p →
-          Above w (Spread 96) i r c ↔ (((¬ T (isTold mask r)) × Above w b i r c) ⊎ (T (isTold mask r) × Above w b i hub c))
-      decided (right t) =
-          let q = spread-told 96 r (omega arith) h t in
-          (λ a. inr (t, record { above = rw q at (a .above) }), ⊎-elim (λ a. absurd (a .0 t)) (λ a. record { above = rw q (a .1 .above) }))
-      decided (wrong f) =
-          let q = spread-kept 96 r (λ x. f (x .1)) in
-          (λ a. inl (f, record { above = rw q at (a .above) }), ⊎-elim (λ a. record { above = rw q (a .1 .above) }) (λ a. absurd (f (a .0))))
+      decided : {p : Bool} → Reflects (t ≡ n) p → (t < n → cell w (Noted n) 81 t ≡ cond (bit mask t) 1 (cell w b 81 t)) →
+          cell w (set (Noted n) (81 * w + n) (cond (bit mask n) 1 (cell w (Noted n) 81 n))) 81 t ≡ cond (bit mask t) 1 (cell w b 81 t)
+      decided (right e) f =
+          rw (e, ← noted-other n 81 n (omega arith) (omega arith) (λ x. omega (arith, x .1)))
+          (cell-set-same (sized-turns n (λ k x z. sized-set z _ _) s) 81 n _ (omega arith) (omega arith))
+      decided (wrong d) f = cell-set-other w (Noted n) 81 n _ 81 t (omega arith) (omega arith) (λ x. d (x .1)) ∙ f (omega arith)
 
--- over a mark each told row knows what some heard row knew, and the others what they knew
-pub mix-above : {w : ℕ} {b : List ℕ} {i r c : ℕ} → Sized w b → (mask : ℕ) → r < 96 → c < w →
-    Above w (mix w mask b) i r c
-    ↔ (((¬ T (isTold mask r)) × Above w b i r c) ⊎ (T (isTold mask r) × ((q : ℕ) × (q < 96) × T (isHeard mask q) × Above w b i q c)))
+  named-other : (r c : ℕ) → c < w → ¬ (r ≡ 81) → cell w (noteNamed w mask b) r c ≡ cell w b r c
+  unfolding noteNamed
+  named-other r c l d = noted-other 16 r c (omega arith) l (λ x. d (x .0))
+
+  named-cell : (t : ℕ) → t < 16 → cell w (noteNamed w mask b) 81 t ≡ cond (bit mask t) 1 (cell w b 81 t)
+  unfolding noteNamed
+  named-cell t l = noted-same 16 t (omega arith) l
+
+-- Marks
+
+module _ {j : ℕ → ℕ → ℕ} {P : ℕ → Type 0} (joins : Joins j P) {w : ℕ} {b : List ℕ} (s : Sized w b) (mask c : ℕ) (wide : 16 ≤ w) (l : c < w) where
+  sized-gathered : Sized w (gather j w mask b)
+  sized-gathered = sized-gather s j mask
+
+  -- over a mark the hub and each told row know what the hub or a named task's next act knew
+  pub mix-hub : Knows P w (mix j w mask b) hub c ↔ (Knows P w b hub c ⊎ NamedKnows P w mask b c 16)
+  unfolding mix
+  mix-hub =
+      let q = knows-same {P = P} (named-other (sized-spread sized-gathered mask) mask wide hub c l (λ e. omega arith) ∙ untold-cell sized-gathered mask c l hub (λ x. omega (arith, x .0))) in
+      let g = gather-hub joins s mask c l in
+      (λ a. g .0 (q .0 a), λ a. q .1 (g .1 a))
+
+  pub mix-told : (r : ℕ) → r < 80 → T (isTold mask r) → Knows P w (mix j w mask b) r c ↔ (Knows P w b hub c ⊎ NamedKnows P w mask b c 16)
+  unfolding mix
+  mix-told r h t =
+      let q = knows-same {P = P} (named-other (sized-spread sized-gathered mask) mask wide r c l (λ e. omega arith) ∙ told-cell sized-gathered mask c l r h t) in
+      let g = gather-hub joins s mask c l in
+      (λ a. g .0 (q .0 a), λ a. q .1 (g .1 a))
+
+  -- and the others what they knew
+  pub mix-untold : (r : ℕ) → r < 80 → ¬ T (isTold mask r) → Knows P w (mix j w mask b) r c ↔ Knows P w b r c
+  unfolding mix
+  mix-untold r h n =
+      knows-same
+      (named-other (sized-spread sized-gathered mask) mask wide r c l (λ e. omega arith)
+      ∙ (untold-cell sized-gathered mask c l r (λ x. n (x .1)) ∙ gather-kept j s mask r c l (λ e. omega arith)))
+
+-- the named tasks have acted, and those that had
+pub mix-acted : {w : ℕ} {b : List ℕ} → Sized w b → (j : ℕ → ℕ → ℕ) (mask t : ℕ) → 16 ≤ w → t < 16 → cell w (mix j w mask b) 81 t ≡ cond (bit mask t) 1 (cell w b 81 t)
 unfolding mix
-mix-above {w} {b} {i} {r} {c} s mask h l = (λ a. ⊎-elim at-row at-hub (on-spread .0 a), from)
-  where
-    gathered : List ℕ
-    gathered = gather w mask b
-
-    on-gather : (q : ℕ) → q < 96 → Above w gathered i q c ↔ (Above w b i q c ⊎ ((q ≡ hub) × HeardBelow w mask b i c 96))
-    on-gather = gather-above s mask i c l
-
-    on-spread : Above w (spread w mask gathered) i r c ↔ (((¬ T (isTold mask r)) × Above w gathered i r c) ⊎ (T (isTold mask r) × Above w gathered i hub c))
-    on-spread = spread-above (sized-gather s mask) mask i c l r h
-
-    at-row : (¬ T (isTold mask r)) × Above w gathered i r c → ((¬ T (isTold mask r)) × Above w b i r c) ⊎ (T (isTold mask r) × HeardBelow w mask b i c 96)
-    at-row (f, a) = ⊎-elim (λ x. inl (f, x)) (λ x. inr (rw (x .0) tt, x .1)) (on-gather r h .0 a)
-
-    at-hub : T (isTold mask r) × Above w gathered i hub c → ((¬ T (isTold mask r)) × Above w b i r c) ⊎ (T (isTold mask r) × HeardBelow w mask b i c 96)
-    at-hub (t, a) = inr (t, ⊎-elim (λ x. (hub, lit< tt, tt, x)) (λ x. x .1) (on-gather hub (lit< tt) .0 a))
-
-    from : ((¬ T (isTold mask r)) × Above w b i r c) ⊎ (T (isTold mask r) × HeardBelow w mask b i c 96) → Above w (spread w mask gathered) i r c
-    from (inl (f, a)) = on-spread .1 (inl (f, on-gather r h .1 (inl a)))
-    from (inr (t, x)) = on-spread .1 (inr (t, on-gather hub (lit< tt) .1 (inr (refl, x))))
+mix-acted {w} {b} s j mask t wide h =
+    named-cell (sized-spread (sized-gather s j mask) mask) mask wide t h
+    ∙ ap (cond (bit mask t) 1) (untold-cell (sized-gather s j mask) mask t (omega arith) 81 (λ x. omega (arith, x .0)) ∙ gather-kept j s mask 81 t (omega arith) (λ e. omega arith))

@@ -1,13 +1,15 @@
--- Nodes and the rows that the tables have for them: one row for each node in range. Assumes nothing.
+-- Nodes and the rows that the tables have for them: one row for each node in range. That a task has acted has none: where it has, order
+-- that has come to its next act has come to that (Joined). Assumes nothing.
 use mathlib.Core.Path.{_≡_, refl, sym, _∙_, ap}
-use mathlib.Core.Bool.{Bool, cond}
+use mathlib.Core.Bool.{Bool, true, false, cond}
+use mathlib.Core.List.{List}
 use mathlib.Core.Logic.{_⊎_, inl, inr}
 use Prim.Native.Nat.{ℕ, suc, _+_, _-_, _≤_, _<_}
 use native.Mathlib.Omega.{arith}
 use borrow.Author.Tests.{lt-ltb, le-ltb}
 use lib.Dec.{ltb}
 use Rattle.theory.specs.Recording.{Op, read, write, take, give, look, set, start, join, act, series, kind}
-use Rattle.theory.specs.Tables.{heardRow, toldRow}
+use Rattle.theory.specs.Tables.{cell, actedRow, joinsActed, heardRow, toldRow}
 use Rattle.theory.proofs.Reflects.{Reflects, right, wrong, at-most}
 use Rattle.theory.proofs.Carry.{Node, due, acted, semaphore, flag, Hears, own, by-take, by-look, by-join, Tells, own-next, own-acted, by-give, by-set, by-start}
 
@@ -15,55 +17,59 @@ use Rattle.theory.proofs.Carry.{Node, due, acted, semaphore, flag, Hear
 
 abbrev pub row : Node → ℕ
 row (due t) = t
-row (acted t) = 16 + t
-row (semaphore s) = 32 + s
-row (flag f) = 64 + f
+row (acted t) = t
+row (semaphore s) = 16 + s
+row (flag f) = 48 + f
 
 pub data InRange : Node → Type 0 where
   due-in : {t : ℕ} → t < 16 → InRange (due t)
-  acted-in : {t : ℕ} → t < 16 → InRange (acted t)
   semaphore-in : {s : ℕ} → s < 32 → InRange (semaphore s)
   flag-in : {f : ℕ} → f < 32 → InRange (flag f)
 
-pub row-below : {n : Node} → InRange n → row n < 96
+-- the semaphores and flags
+pub data Object : Node → Type 0 where
+  a-semaphore : {s : ℕ} → s < 32 → Object (semaphore s)
+  a-flag : {f : ℕ} → f < 32 → Object (flag f)
+
+pub object-in : {n : Node} → Object n → InRange n
+object-in (a-semaphore h) = semaphore-in h
+object-in (a-flag h) = flag-in h
+
+pub object-row : {n : Node} → Object n → 16 ≤ row n
+object-row (a-semaphore h) = omega arith
+object-row (a-flag h) = omega arith
+
+pub row-below : {n : Node} → InRange n → row n < 80
 row-below (due-in h) = omega arith
-row-below (acted-in h) = omega arith
 row-below (semaphore-in h) = omega arith
 row-below (flag-in h) = omega arith
 
 abbrev pub node : ℕ → Node
-node r = cond (ltb r 16) (due r) (cond (ltb r 32) (acted (r - 16)) (cond (ltb r 64) (semaphore (r - 32)) (flag (r - 64))))
+node r = cond (ltb r 16) (due r) (cond (ltb r 48) (semaphore (r - 16)) (flag (r - 48)))
 
 minus : (k n : ℕ) → k + n - k ≡ n
 minus k n = omega arith
 
 pub node-row : {n : Node} → InRange n → node (row n) ≡ n
 node-row (due-in {t = t} h) = rw (lt-ltb t 16 h)
-node-row (acted-in {t = t} h) = rw (le-ltb (16 + t) 16 (omega arith), lt-ltb (16 + t) 32 (omega arith), minus 16 t)
-node-row (semaphore-in {s = s} h) =
-    rw (le-ltb (32 + s) 16 (omega arith), le-ltb (32 + s) 32 (omega arith), lt-ltb (32 + s) 64 (omega arith), minus 32 s)
-node-row (flag-in {f = f} h) =
-    rw (le-ltb (64 + f) 16 (omega arith), le-ltb (64 + f) 32 (omega arith), le-ltb (64 + f) 64 (omega arith), minus 64 f)
+node-row (semaphore-in {s = s} h) = rw (le-ltb (16 + s) 16 (omega arith), lt-ltb (16 + s) 48 (omega arith), minus 16 s)
+node-row (flag-in {f = f} h) = rw (le-ltb (48 + f) 16 (omega arith), le-ltb (48 + f) 48 (omega arith), minus 48 f)
 
 -- the row tells the node
 pub row-one : {n m : Node} → InRange n → InRange m → row n ≡ row m → n ≡ m
 row-one a b e = sym (node-row a) ∙ (ap node e ∙ node-row b)
 
--- each row is that of a node
-pub row-node : (r : ℕ) → r < 96 → (n : Node) × InRange n × (row n ≡ r)
+-- each row of a task or an object is that of a node
+pub row-node : (r : ℕ) → r < 80 → (n : Node) × InRange n × (row n ≡ r)
 row-node r h = low (at-most (suc r) 16)
   where
-    top : {b : Bool} → 32 ≤ r → Reflects (r < 64) b → (n : Node) × InRange n × (row n ≡ r)
-    top l (right k) = (semaphore (r - 32), semaphore-in {s = r - 32} (omega arith), omega arith)
-    top l (wrong k) = (flag (r - 64), flag-in {f = r - 64} (omega arith), omega arith)
-
-    middle : {b : Bool} → 16 ≤ r → Reflects (r < 32) b → (n : Node) × InRange n × (row n ≡ r)
-    middle l (right k) = (acted (r - 16), acted-in {t = r - 16} (omega arith), omega arith)
-    middle l (wrong k) = top (omega arith) (at-most (suc r) 64)
+    top : {b : Bool} → 16 ≤ r → Reflects (r < 48) b → (n : Node) × InRange n × (row n ≡ r)
+    top l (right k) = (semaphore (r - 16), semaphore-in {s = r - 16} (omega arith), omega arith)
+    top l (wrong k) = (flag (r - 48), flag-in {f = r - 48} (omega arith), omega arith)
 
     low : {b : Bool} → Reflects (r < 16) b → (n : Node) × InRange n × (row n ≡ r)
     low (right k) = (due r, due-in k, refl)
-    low (wrong k) = middle (omega arith) (at-most (suc r) 32)
+    low (wrong k) = top (omega arith) (at-most (suc r) 48)
 
 -- Acts
 
@@ -87,15 +93,30 @@ toldNode set t n = flag n
 toldNode start t n = due n
 toldNode join t n = due t
 
-pub heard-row : (o : Op) (t n : ℕ) → heardRow (kind o) t n ≡ row (heardNode o t n)
-heard-row read t n = refl
-heard-row write t n = refl
-heard-row take t n = refl
-heard-row give t n = refl
-heard-row look t n = refl
-heard-row set t n = refl
-heard-row start t n = refl
-heard-row join t n = refl
+-- the node whose row an act reads: for a join that of the task's next act, if the task has acted, and the act's own if not
+abbrev pub readNode : Op → ℕ → ℕ → Bool → Node
+readNode read t n joins = due t
+readNode write t n joins = due t
+readNode take t n joins = semaphore n
+readNode give t n joins = due t
+readNode look t n joins = flag n
+readNode set t n joins = due t
+readNode start t n joins = due t
+readNode join t n joins = cond joins (due n) (due t)
+
+pub read-row : (o : Op) (t n w : ℕ) (b : List ℕ) → heardRow (kind o) t n (joinsActed w b (kind o) n) ≡ row (readNode o t n (ltb 0 (cell w b actedRow n)))
+read-row read t n w b = refl
+read-row write t n w b = refl
+read-row take t n w b = refl
+read-row give t n w b = refl
+read-row look t n w b = refl
+read-row set t n w b = refl
+read-row start t n w b = refl
+read-row join t n w b = of (ltb 0 (cell w b actedRow n))
+  where
+    of : (x : Bool) → cond x n t ≡ row (cond x (due n) (due t))
+    of true = refl
+    of false = refl
 
 pub told-row : (o : Op) (t n : ℕ) → toldRow (kind o) t n ≡ row (toldNode o t n)
 told-row read t n = refl
@@ -107,15 +128,16 @@ told-row set t n = refl
 told-row start t n = refl
 told-row join t n = refl
 
-pub heard-in : (o : Op) {t n : ℕ} → t < 16 → n < series o → InRange (heardNode o t n)
-heard-in read h l = due-in h
-heard-in write h l = due-in h
-heard-in take h l = semaphore-in l
-heard-in give h l = due-in h
-heard-in look h l = flag-in l
-heard-in set h l = due-in h
-heard-in start h l = due-in h
-heard-in join h l = acted-in l
+pub read-in : (o : Op) {t n : ℕ} (joins : Bool) → t < 16 → n < series o → InRange (readNode o t n joins)
+read-in read joins h l = due-in h
+read-in write joins h l = due-in h
+read-in take joins h l = semaphore-in l
+read-in give joins h l = due-in h
+read-in look joins h l = flag-in l
+read-in set joins h l = due-in h
+read-in start joins h l = due-in h
+read-in join true h l = due-in l
+read-in join false h l = due-in h
 
 pub told-in : (o : Op) {t n : ℕ} → t < 16 → n < series o → InRange (toldNode o t n)
 told-in read h l = due-in h
@@ -126,16 +148,6 @@ told-in look h l = due-in h
 told-in set h l = flag-in l
 told-in start h l = due-in l
 told-in join h l = due-in h
-
-pub heard-hears : (o : Op) (t n : ℕ) → Hears (heardNode o t n) (act o t n)
-heard-hears read t n = own
-heard-hears write t n = own
-heard-hears take t n = by-take
-heard-hears give t n = own
-heard-hears look t n = by-look
-heard-hears set t n = own
-heard-hears start t n = own
-heard-hears join t n = by-join
 
 pub told-tells : (o : Op) (t n : ℕ) → Tells (act o t n) (toldNode o t n)
 told-tells read t n = own-next
@@ -153,9 +165,46 @@ hears-cases by-take = inr refl
 hears-cases by-look = inr refl
 hears-cases by-join = inr refl
 
+-- what the row that an act reads tells of: a node that the act hears, or for a join the next act of a task that has acted
+pub read-hears : (o : Op) (t n : ℕ) (joins : Bool) → Hears (readNode o t n joins) (act o t n) ⊎ (Hears (acted n) (act o t n) × (readNode o t n joins ≡ due n) × (joins ≡ true))
+read-hears read t n joins = inl own
+read-hears write t n joins = inl own
+read-hears take t n joins = inl by-take
+read-hears give t n joins = inl own
+read-hears look t n joins = inl by-look
+read-hears set t n joins = inl own
+read-hears start t n joins = inl own
+read-hears join t n true = inr (by-join, refl, refl)
+read-hears join t n false = inl own
+
+pub heard-read : (o : Op) (t n : ℕ) (joins : Bool) →
+    (heardNode o t n ≡ readNode o t n joins) ⊎ (Hears (acted n) (act o t n) × (heardNode o t n ≡ acted n) × (readNode o t n true ≡ due n))
+heard-read read t n joins = inl refl
+heard-read write t n joins = inl refl
+heard-read take t n joins = inl refl
+heard-read give t n joins = inl refl
+heard-read look t n joins = inl refl
+heard-read set t n joins = inl refl
+heard-read start t n joins = inl refl
+heard-read join t n joins = inr (by-join, refl, refl)
+
+pub joined-in : {o : Op} {t n : ℕ} → Hears (acted n) (act o t n) → n < series o → n < 16
+joined-in by-join l = l
+
 pub tells-cases : {o : Op} {t n : ℕ} {p : Node} → Tells (act o t n) p → (p ≡ due t) ⊎ ((p ≡ acted t) ⊎ (p ≡ toldNode o t n))
 tells-cases own-next = inl refl
 tells-cases own-acted = inr (inl refl)
 tells-cases by-give = inr (inr refl)
 tells-cases by-set = inr (inr refl)
 tells-cases by-start = inr (inr refl)
+
+-- a row of an object that an act tells is that of the object it names
+pub told-object : (o : Op) {t n : ℕ} → t < 16 → n < series o → 16 ≤ row (toldNode o t n) → Object (toldNode o t n)
+told-object read h l k = absurd (omega arith)
+told-object write h l k = absurd (omega arith)
+told-object take h l k = absurd (omega arith)
+told-object give h l k = a-semaphore l
+told-object look h l k = absurd (omega arith)
+told-object set h l k = a-flag l
+told-object start h l k = absurd (omega arith)
+told-object join h l k = absurd (omega arith)

@@ -91,27 +91,27 @@ access-op o e = decided (by-test (isAccess o))
 pub clock-paths : ClockPaths
 clock-paths rs r e k = of-shape (shape-of (recording rs) r e) k (clocks-after [] freshClocks rs fresh-represents-clocks)
   where
-    of-shape : {es : List Event} {s : ClockState} {r : Record} → Shape r → accesses (r .kind) ≡ true → RepresentsClocks es s →
+    of-shape : {es : List Event} {s : ClockState} {r : Record} → Shape es r → accesses (r .kind) ≡ true → RepresentsClocks es s →
         SaysPaths es (eventOf r) (clockApart (s .clocks) (s .last) (r .kind) (r .task) (r .on)) (clockApart (s .fullclocks) (s .last) (r .kind) (r .task) (r .on))
-    of-shape {es} {s} (an-act o t n f) k x =
+    of-shape {es} {s} (an-act o t n f live starts) k x =
         let a = access-op o k in
         let hv = access-on o a (on-series o f) in
         rw (event-act o t n)
         (says o t n
         (λ u h. (λ y. let (i, c, q) = clock-sound o t n (x .clocks .as-arrived) (x .base .history) a (f .task-fits) hv u h y in (i, c), λ c. clock-complete o t n (x .clocks .as-arrived) (x .base .history) a (f .task-fits) hv u (c .0) h (c .1)))
         (λ u h. (λ y. let (i, c, q) = clock-sound o t n (x .clocks .in-full) (x .base .history) a (f .task-fits) hv u h y in (i, c), λ c. clock-complete o t n (x .clocks .in-full) (x .base .history) a (f .task-fits) hv u (c .0) h (c .1))))
-    of-shape (a-mark t n some) k x = absurd (true≢false (sym k))
+    of-shape (a-mark t n some live) k x = absurd (true≢false (sym k))
 
 pub set-paths : SetPaths
 set-paths rs r e k = of-shape (shape-of (recording rs) r e) k (sets-after [] freshSets rs fresh-represents-sets)
   where
-    of-shape : {es : List Event} {s : SetState} {r : Record} → Shape r → accesses (r .kind) ≡ true → RepresentsSets es s →
+    of-shape : {es : List Event} {s : SetState} {r : Record} → Shape es r → accesses (r .kind) ≡ true → RepresentsSets es s →
         SaysPaths es (eventOf r) (setApart (s .sets) (s .last) (r .kind) (r .task) (r .on)) (setApart (s .fullsets) (s .last) (r .kind) (r .task) (r .on))
-    of-shape {es} {s} (an-act o t n f) k x =
+    of-shape {es} {s} (an-act o t n f live starts) k x =
         let a = access-op o k in
         let hv = access-on o a (on-series o f) in
         rw (event-act o t n)
         (says o t n
         (λ u h. (λ y. let (i, c, q) = set-sound o t n (x .sets .as-arrived) (x .base .history) a (f .task-fits) hv u h y in (i, c), λ c. set-complete o t n (x .sets .as-arrived) (x .base .history) a (f .task-fits) hv u (c .0) h (c .1)))
         (λ u h. (λ y. let (i, c, q) = set-sound o t n (x .sets .in-full) (x .base .history) a (f .task-fits) hv u h y in (i, c), λ c. set-complete o t n (x .sets .in-full) (x .base .history) a (f .task-fits) hv u (c .0) h (c .1))))
-    of-shape (a-mark t n some) k x = absurd (true≢false (sym k))
+    of-shape (a-mark t n some live) k x = absurd (true≢false (sym k))

@@ -1,21 +1,27 @@
 -- The ranges that acceptance gives: rows and slots of an act are in their tables. Assumes nothing.
-use mathlib.Core.Path.{_≡_, refl, subst}
-use mathlib.Core.Bool.{Bool, false, cond}
+use mathlib.Core.Path.{_≡_, refl, sym, subst}
+use mathlib.Core.Bool.{Bool, true, false, cond, _&&_, true≢false}
+use mathlib.Core.List.{List}
 use Prim.Native.Nat.{ℕ, zero, suc, _<_}
 use native.Mathlib.Nat.{not-suc-le-zero, le-of-suc-le-suc}
 use native.Mathlib.Omega.{arith}
 use borrow.Author.Tests.{ne-eqb}
-use lib.Dec.{eqb}
+use lib.Dec.{ltb, eqb}
 use Rattle.theory.specs.Recording.{seriesOf}
 use Rattle.theory.specs.Acceptance.{Fitting}
-use Rattle.theory.specs.Tables.{heardRow, toldRow}
+use Rattle.theory.specs.Tables.{cell, actedRow, joinsActed, heardRow, toldRow}
 use Rattle.theory.proofs.Reflects.{Reflects, right, wrong, equal}
 
--- a row chosen by the kind is in the table if each choice is
-chosen : (k j x y : ℕ) → (k ≡ j → x < 96) → y < 96 → cond (eqb k j) x y < 96
-chosen k j x y h l = decided (equal k j)
+-- a row that is chosen by a test is in the table if each choice is
+chosen : (b : Bool) (x y : ℕ) → (b ≡ true → x < 80) → y < 80 → cond b x y < 80
+chosen true x y h l = h refl
+chosen false x y h l = l
+
+-- one that is chosen by the kind
+of-kind : (k j x y : ℕ) → (k ≡ j → x < 80) → y < 80 → cond (eqb k j) x y < 80
+of-kind k j x y h l = decided (equal k j)
   where
-    decided : {b : Bool} → Reflects (k ≡ j) b → cond b x y < 96
+    decided : {b : Bool} → Reflects (k ≡ j) b → cond b x y < 80
     decided (right e) = h e
     decided (wrong n) = l
 
@@ -23,22 +29,37 @@ chosen k j x y h l = decided (equal k j)
 on-below : {k t n : ℕ} (j : ℕ) → Fitting k t n → k ≡ j → n < seriesOf j
 on-below {n = n} j f e = subst (λ (i : ℕ). n < seriesOf i) e (f .on-fits)
 
-pub heard-fits : {k t n : ℕ} → Fitting k t n → heardRow k t n < 96
-heard-fits {k} {t} {n} f =
+-- the rows that an act hears and tells are of tasks and objects
+pub heard-fits : {k t n : ℕ} {joins : Bool} → Fitting k t n → (joins ≡ true → k ≡ 7) → heardRow k t n joins < 80
+heard-fits {k} {t} {n} {joins} f j =
     let h = f .task-fits in
-    chosen k 2 _ _ (λ e. let l = on-below 2 f e in omega arith)
-    (chosen k 4 _ _ (λ e. let l = on-below 4 f e in omega arith) (chosen k 7 _ _ (λ e. let l = on-below 7 f e in omega arith) (omega arith)))
+    of-kind k 2 _ _ (λ e. let l = on-below 2 f e in omega arith)
+    (of-kind k 4 _ _ (λ e. let l = on-below 4 f e in omega arith) (chosen joins n t (λ e. let l = on-below 7 f (j e) in omega arith) (omega arith)))
 
-pub told-fits : {k t n : ℕ} → Fitting k t n → toldRow k t n < 96
+pub told-fits : {k t n : ℕ} → Fitting k t n → toldRow k t n < 80
 told-fits {k} {t} {n} f =
     let h = f .task-fits in
-    chosen k 3 _ _ (λ e. let l = on-below 3 f e in omega arith)
-    (chosen k 5 _ _ (λ e. let l = on-below 5 f e in omega arith) (chosen k 6 _ _ (λ e. let l = on-below 6 f e in omega arith) (omega arith)))
+    of-kind k 3 _ _ (λ e. let l = on-below 3 f e in omega arith)
+    (of-kind k 5 _ _ (λ e. let l = on-below 5 f e in omega arith) (of-kind k 6 _ _ (λ e. let l = on-below 6 f e in omega arith) (omega arith)))
+
+-- a join that is known to join a task that has acted is a join, of a task
+pub joins-kind : (w : ℕ) (b : List ℕ) (k on : ℕ) → joinsActed w b k on ≡ true → k ≡ 7
+joins-kind w b k on e = decided (equal k 7) e
+  where
+    decided : {c : Bool} → Reflects (k ≡ 7) c → (c && ltb 0 (cell w b actedRow on)) ≡ true → k ≡ 7
+    decided (right q) e = q
+    decided (wrong n) e = absurd (true≢false (sym e))
 
 access-series : (k : ℕ) → k < 2 → seriesOf k ≡ 64
 access-series zero h = refl
 access-series (suc zero) h = refl
 access-series (suc (suc k)) h = absurd (not-suc-le-zero (le-of-suc-le-suc (le-of-suc-le-suc h)))
+
+-- an access hears and tells no other row
+pub access-alone : (w : ℕ) (b : List ℕ) (k t n : ℕ) → k < 2 → (heardRow k t n (joinsActed w b k n) ≡ t) × (toldRow k t n ≡ t)
+access-alone w b zero t n h = (refl, refl)
+access-alone w b (suc zero) t n h = (refl, refl)
+access-alone w b (suc (suc k)) t n h = absurd (not-suc-le-zero (le-of-suc-le-suc (le-of-suc-le-suc h)))
 
 -- `on` of an access is a variable
 pub access-fits : {k t n : ℕ} → Fitting k t n → k < 2 → n < 64

@@ -1,20 +1,20 @@
 -- Each reckoning on its own says which tasks' latest conflicting access has no path to an access: just where Order has none, in the
 -- recording as it arrived and in the fullest filling. Assumes nothing.
-use mathlib.Core.Path.{_≡_, refl, sym, ap, subst}
-use mathlib.Core.Bool.{Bool}
+use mathlib.Core.Path.{_≡_, refl, sym, _∙_, ap, subst}
+use mathlib.Core.Bool.{Bool, true, false, cond, _&&_, not}
 use mathlib.Core.Logic.{_↔_, _⊎_, inl, inr, _≢_}
 use mathlib.Core.List.{List}
 use Prim.Native.Nat.{ℕ, zero, suc, _≤_, _<_, zero-le}
 use native.Mathlib.Nat.{le-refl}
 use native.Mathlib.Omega.{arith}
-use lib.Dec.{T}
+use lib.Dec.{T, ltb}
 use Rattle.theory.specs.Recording.{Op, read, write, Event, act, lost, kind, ActsIn, acts}
 use Rattle.theory.specs.Order.{isAccess, Conflict, conflict}
-use Rattle.theory.specs.Completion.{fillWith}
+use Rattle.theory.specs.Completion.{bit, fillWith}
 use Rattle.theory.specs.Tables.{cell}
-use Rattle.theory.specs.History.{latestSlot, latestNumber}
-use Rattle.theory.specs.Reckonings.{clockApart, setApart}
-use Rattle.theory.proofs.Reflects.{Reflects, right, wrong, equal, at-most, fails, both, passed, passes}
+use Rattle.theory.specs.History.{slot, otherKind, otherLater, latestSlot, latestNumber}
+use Rattle.theory.specs.Reckonings.{hasSlot, knownSlots, clockApart, setApart, maskOf, setMask}
+use Rattle.theory.proofs.Reflects.{Reflects, right, wrong, by-test, equal, at-most, fails, both, passed, passes}
 use Rattle.theory.proofs.Leads.{Leads}
 use Rattle.theory.proofs.Carry.{Node, due, Hears, own, own-next, Carry, pass, move, carry-skip, carry-append}
 use Rattle.theory.proofs.Reach.{Filling, filling, Reach, leads-reach}
@@ -25,8 +25,11 @@ use Rattle.theory.proofs.Nodes.{due-in, heardNode, hears-cases}
 use Rattle.theory.proofs.Came.{Came}
 use Rattle.theory.proofs.ExactClocks.{ExactClocks, OfTask}
 use Rattle.theory.proofs.ExactSets.{ExactSets, KeptIn}
-use Rattle.theory.proofs.Slots.{InSlot, ExactHistory}
-use Rattle.theory.proofs.Conflicts.{conflicting-below, occurs-same, number-final, final-number, latest-conflicting}
+use Rattle.theory.proofs.Slots.{InSlot, in-slot, access-kind, slot-one, ExactHistory}
+use Rattle.theory.proofs.Conflicts.{Conflicting, writes, reads, conflicting-below, occurs-same, number-final, final-number}
+use Rattle.theory.proofs.Conflicts.{latest-conflicting, latest-later}
+use Rattle.theory.proofs.Words.{slot-known}
+use Rattle.theory.proofs.Bits.{mask-ext}
 
 -- Paths to an access
 
@@ -63,6 +66,21 @@ reach-older (next o) (next q) h a b r = reach-older o q (omega arith) a b r
 occurs-there : {es after : List Event} {i j : ℕ} {e : Event} → i ≡ j → Occurs es j e after → Occurs es i e after
 occurs-there {es} {after} {e = e} q o = subst (λ (k : ℕ). Occurs es k e after) (sym q) o
 
+-- What a slot keeps
+
+-- a slot of a task keeps accesses of the task
+kept-task : (k v u : ℕ) {e : Event} → k < 2 → v < 64 → u < 16 → InSlot (slot k v u) e → ActsIn u e
+kept-task k v u hk hv hu (in-slot {o = o} {u = t} {v = n} a ht hn e) =
+    subst (λ (y : ℕ). ActsIn u (act o y n)) (slot-one hk (access-kind o a) hv hn hu ht e .2) acts
+
+slot-task : {p : Op} {v u s : ℕ} {e : Event} → v < 64 → u < 16 → Conflicting p v u s → InSlot s e → ActsIn u e
+slot-task {v = v} {u} hv hu writes q = kept-task 1 v u (omega arith) hv hu q
+slot-task {v = v} {u} hv hu (reads _) q = kept-task 0 v u (omega arith) hv hu q
+
+-- order from an act of a task has come to the task's next act
+acts-reach : {w : Filling} {u : ℕ} {e : Event} {after : List Event} → ActsIn u e → Reach w e after (due u)
+acts-reach {u = u} acts = record { n = due u; told = own-next; carried = carry-skip _ }
+
 -- Candidates by the number
 
 -- the latest conflicting access of task u, by its number and place, with or without a path
@@ -92,32 +110,44 @@ module _ {w : Filling} {es : List Event} {b last : List ℕ} (p : Op) (t v : ℕ
     (hv : v < 64) where
   -- what the cell of the task's next act and column u says
   clock-cell : (u i : ℕ) → u < 16 → (i < cell 16 b t u) ↔ Came w (OfTask u) es i (due t)
-  clock-cell u i hu = (λ l. x .column u i hu .cells (due t) (due-in ht) .0 (record { above = l }), λ c. x .column u i hu .cells (due t) (due-in ht) .1 c .above)
+  clock-cell u i hu = (λ l. x .column u i hu .cells (due t) (due-in ht) .0 (record { knows = l }), λ c. x .column u i hu .cells (due t) (due-in ht) .1 c .knows)
 
-  clock-test : (u : ℕ) → Reflects ((u ≢ t) × (cell 16 b t u < latestNumber last (kind p) v u)) (clockApart b last (kind p) t v u)
-  clock-test u = both (fails (equal u t)) (at-most (suc (cell 16 b t u)) (latestNumber last (kind p) v u))
+  clock-test : (u : ℕ) → Reflects (cell 16 b t u < latestNumber last (kind p) v u) (clockApart b last (kind p) t v u)
+  clock-test u = at-most (suc (cell 16 b t u)) (latestNumber last (kind p) v u)
+
+  -- the task knows of its own
+  clock-other : (u i : ℕ) → u < 16 → latestNumber last (kind p) v u ≡ suc i → cell 16 b t u < suc i → u ≢ t
+  clock-other u i hu n l e = let k = clock-cell u i hu .1 (subst (λ (y : ℕ). Came w (OfTask u) es i (due y)) e own-came) in omega arith
+    where
+      own-came : Came w (OfTask u) es i (due u)
+      own-came =
+          let c = latest-conflicting p ap v u last in
+          let d = h .held (latestSlot last (kind p) v u) i (conflicting-below hv hu c) .0 (omega arith) in
+          let a = slot-task hv hu c (d .inside) in
+          record { j = d .j; e = d .e; after = d .after; recent = d .recent; occurs = d .occurs; chosen = a; reach = acts-reach a }
 
   pub clock-sound : (u : ℕ) → u < 16 → T (clockApart b last (kind p) t v u) →
       (i : ℕ) × Candidate (filling w) (act p t v) es u i × (latestNumber last (kind p) v u ≡ suc i)
   clock-sound u hu a = found (latestNumber last (kind p) v u) refl
     where
-      test : (u ≢ t) × (cell 16 b t u < latestNumber last (kind p) v u)
+      test : cell 16 b t u < latestNumber last (kind p) v u
       test = passed (clock-test u) a
 
       found : (l : ℕ) → latestNumber last (kind p) v u ≡ l → (i : ℕ) × Candidate (filling w) (act p t v) es u i × (latestNumber last (kind p) v u ≡ suc i)
-      found zero e = let k = test .1 in absurd (omega arith)
+      found zero e = let k = test in absurd (omega arith)
       found (suc i) e =
-          let f = number-final h ap hv hu (test .0) e in
-          (i, candidate-of {w = w} h ap hv hu (test .0) f (λ r. over f r), e)
+          let other = clock-other u i hu e (rw e at test) in
+          let f = number-final h ap hv hu other e in
+          (i, candidate-of {w = w} h ap hv hu other f (λ r. over f r), e)
         where
           over : (f : Final u (act p t v) es i) → Reach w (f .x) (f .after) (due t) → ⊥
           over f r =
               let c = clock-cell u i hu .1 (record { j = i; e = f .x; after = f .after; recent = le-refl i; occurs = f .occurs; chosen = f .acting; reach = r }) in
-              let k = test .1 in
+              let k = test in
               omega arith
 
   pub clock-complete : (u i : ℕ) → u < 16 → Candidate (filling w) (act p t v) es u i → T (clockApart b last (kind p) t v u)
-  clock-complete u i hu c = passes (clock-test u) (candidate-apart c, decided (at-most (latestNumber last (kind p) v u) (cell 16 b t u)))
+  clock-complete u i hu c = passes (clock-test u) (decided (at-most (latestNumber last (kind p) v u) (cell 16 b t u)))
     where
       number : latestNumber last (kind p) v u ≡ suc i
       number = final-number h ap hv hu (candidate-apart c) (final-of c)
@@ -137,11 +167,11 @@ module _ {w : Filling} {es : List Event} {b last : List ℕ} (p : Op) (t v : ℕ
 
 module _ {w : Filling} {es : List Event} {b last : List ℕ} (p : Op) (t v : ℕ) (x : ExactSets w es b) (h : ExactHistory es last) (ap : T (isAccess p)) (ht : t < 16)
     (hv : v < 64) where
-  set-cell : (s : ℕ) → s < 2048 → (0 < cell 2048 b t s) ↔ Came w (KeptIn s) es 0 (due t)
-  set-cell s l = (λ k. x .column s l .cells (due t) (due-in ht) .0 (record { above = k }), λ c. x .column s l .cells (due t) (due-in ht) .1 c .above)
+  set-cell : (s : ℕ) → s < 2048 → T (hasSlot b t s) ↔ Came w (KeptIn s) es 0 (due t)
+  set-cell s l = (λ k. x .column s l .cells (due t) (due-in ht) .0 (record { knows = k }), λ c. x .column s l .cells (due t) (due-in ht) .1 c .knows)
 
-  set-test : (u : ℕ) → Reflects ((u ≢ t) × ((0 < latestNumber last (kind p) v u) × (cell 2048 b t (latestSlot last (kind p) v u) ≡ 0))) (setApart b last (kind p) t v u)
-  set-test u = both (fails (equal u t)) (both (at-most 1 (latestNumber last (kind p) v u)) (equal (cell 2048 b t (latestSlot last (kind p) v u)) 0))
+  set-test : (u : ℕ) → Reflects ((0 < latestNumber last (kind p) v u) × (¬ T (hasSlot b t (latestSlot last (kind p) v u)))) (setApart b last (kind p) t v u)
+  set-test u = both (at-most 1 (latestNumber last (kind p) v u)) (fails (by-test (hasSlot b t (latestSlot last (kind p) v u))))
 
   slot-in : (u : ℕ) → u < 16 → latestSlot last (kind p) v u < 2048
   slot-in u hu = conflicting-below hv hu (latest-conflicting p ap v u last)
@@ -161,28 +191,39 @@ module _ {w : Filling} {es : List Event} {b last : List ℕ} (p : Op) (t v : ℕ
           let k = h .held (latestSlot last (kind p) v u) j′ (slot-in u hu) .1 (record { j = j′; e = e; after = after′; recent = le-refl _; occurs = r; inside = a }) in
           omega arith
 
+  set-other : (u i : ℕ) → u < 16 → latestNumber last (kind p) v u ≡ suc i → ¬ T (hasSlot b t (latestSlot last (kind p) v u)) → u ≢ t
+  set-other u i hu n f e = f (set-cell (latestSlot last (kind p) v u) (slot-in u hu) .1 (subst (λ (y : ℕ). Came w (KeptIn (latestSlot last (kind p) v u)) es 0 (due y)) e own-came))
+    where
+      own-came : Came w (KeptIn (latestSlot last (kind p) v u)) es 0 (due u)
+      own-came =
+          let d = h .held (latestSlot last (kind p) v u) i (slot-in u hu) .0 (omega arith) in
+          let k = h .held (latestSlot last (kind p) v u) (d .j) (slot-in u hu) .1 (record { j = d .j; e = d .e; after = d .after; recent = le-refl _; occurs = d .occurs; inside = d .inside }) in
+          let l = d .recent in
+          let q : i ≡ d .j = omega arith in
+          let o = occurs-there q (d .occurs) in
+          record { j = i; e = d .e; after = d .after; recent = zero-le; occurs = o; chosen = kept-at u i hu n o; reach = acts-reach (slot-task hv hu (latest-conflicting p ap v u last) (d .inside)) }
+
   pub set-sound : (u : ℕ) → u < 16 → T (setApart b last (kind p) t v u) →
       (i : ℕ) × Candidate (filling w) (act p t v) es u i × (latestNumber last (kind p) v u ≡ suc i)
   set-sound u hu a = found (latestNumber last (kind p) v u) refl
     where
-      test : (u ≢ t) × ((0 < latestNumber last (kind p) v u) × (cell 2048 b t (latestSlot last (kind p) v u) ≡ 0))
+      test : (0 < latestNumber last (kind p) v u) × (¬ T (hasSlot b t (latestSlot last (kind p) v u)))
       test = passed (set-test u) a
 
       found : (l : ℕ) → latestNumber last (kind p) v u ≡ l → (i : ℕ) × Candidate (filling w) (act p t v) es u i × (latestNumber last (kind p) v u ≡ suc i)
-      found zero e = let k = test .1 .0 in absurd (omega arith)
+      found zero e = let k = test .0 in absurd (omega arith)
       found (suc i) e =
-          let f = number-final h ap hv hu (test .0) e in
-          (i, candidate-of {w = w} h ap hv hu (test .0) f (λ r. over f r), e)
+          let other = set-other u i hu e (test .1) in
+          let f = number-final h ap hv hu other e in
+          (i, candidate-of {w = w} h ap hv hu other f (λ r. over f r), e)
         where
           over : (f : Final u (act p t v) es i) → Reach w (f .x) (f .after) (due t) → ⊥
           over f r =
-              let c = set-cell (latestSlot last (kind p) v u) (slot-in u hu) .1
-              (record { j = i; e = f .x; after = f .after; recent = zero-le; occurs = f .occurs; chosen = kept-at u i hu e (f .occurs); reach = r }) in
-              let k = test .1 .1 in
-              omega arith
+              test .1 (set-cell (latestSlot last (kind p) v u) (slot-in u hu) .1
+              (record { j = i; e = f .x; after = f .after; recent = zero-le; occurs = f .occurs; chosen = kept-at u i hu e (f .occurs); reach = r }))
 
   pub set-complete : (u i : ℕ) → u < 16 → Candidate (filling w) (act p t v) es u i → T (setApart b last (kind p) t v u)
-  set-complete u i hu c = passes (set-test u) (candidate-apart c, (omega (arith, number), decided (equal (cell 2048 b t (latestSlot last (kind p) v u)) 0)))
+  set-complete u i hu c = passes (set-test u) (omega (arith, number), λ a. c .apart .unordered (due-leads ap (ordered (set-cell (latestSlot last (kind p) v u) (slot-in u hu) .0 a))))
     where
       number : latestNumber last (kind p) v u ≡ suc i
       number = final-number h ap hv hu (candidate-apart c) (final-of c)
@@ -198,6 +239,22 @@ module _ {w : Filling} {es : List Event} {b last : List ℕ} (p : Op) (t v : ℕ
           by-place (right e) = occurs-same (λ e after. Reach w e after (due t)) (c .occurs) (occurs-there e (d .occurs)) (d .reach)
           by-place (wrong n) = absurd (d .chosen .1 (some-after (d .occurs) (c .occurs) (omega (arith, number, held-number)) (kept-at u i hu number (c .occurs) .0)))
 
-      decided : {q : Bool} → Reflects (cell 2048 b t (latestSlot last (kind p) v u) ≡ 0) q → cell 2048 b t (latestSlot last (kind p) v u) ≡ 0
-      decided (right l) = l
-      decided (wrong l) = absurd (c .apart .unordered (due-leads ap (ordered (set-cell (latestSlot last (kind p) v u) (slot-in u hu) .0 (omega arith)))))
+-- By words
+
+-- whether order from task u's latest conflicting access has not come, by a word with a bit for each task's write and one for the other kind
+abbrev pub apartBy : List ℕ → ℕ → ℕ → ℕ → ℕ → ℕ → Bool
+apartBy last k v x y u = ltb 0 (latestNumber last k v u) && not (bit (cond (otherLater last k v u) y x) u)
+
+-- with what a row knows of the writes and of the other kind it is the test of the sets
+apart-by : (b last : List ℕ) (k t v u : ℕ) → u < 16 → apartBy last k v (knownSlots b t 1 v) (knownSlots b t (otherKind k) v) u ≡ setApart b last k t v u
+apart-by b last k t v u h =
+    ap (λ (c : Bool). ltb 0 (latestNumber last k v u) && not c) (sym (ap (hasSlot b t) (latest-later last k v u) ∙ of (otherLater last k v u)))
+  where
+    of : (c : Bool) → hasSlot b t (cond c (slot (otherKind k) v u) (slot 1 v u)) ≡ bit (cond c (knownSlots b t (otherKind k) v) (knownSlots b t 1 v)) u
+    of true = slot-known b t (otherKind k) v u h
+    of false = slot-known b t 1 v u h
+
+-- so that the tasks that pass are the mask of the sets
+pub mask-by : (b last : List ℕ) (k t v : ℕ) {o x y : ℕ} → o ≡ otherKind k → x ≡ knownSlots b t 1 v → y ≡ knownSlots b t o v →
+    maskOf (apartBy last k v x y) ≡ setMask b last k t v
+mask-by b last k t v e p q = rw (p, q, e) (mask-ext _ (setApart b last k t v) (apart-by b last k t v))

@@ -7,36 +7,54 @@ use mathlib.Core.List.{List}
 use Prim.Native.Nat.{ℕ, zero, suc, _+_, _*_, _-_, _≤_, _<_, max}
 use native.Mathlib.Nat.{mul-le-mul-right, suc-mul}
 use native.Mathlib.Omega.{arith}
+use lib.Bits.{bitOr, or-self}
 use lib.ListN.{length, getD, set, length-set, replicate, length-replicate, getD-replicate}
 use lib.Seq.{set-getD, getD-set-same, getD-set-other, ext-getD}
 use Rattle.theory.specs.Turns.{turns}
-use Rattle.theory.specs.Tables.{cell, joinCell, joinRow, rowOf, joinWithCell, joinWith, heardWith, putRow, copyRow}
+use Rattle.theory.specs.Tables.{cell, joinCell, joinRow, rowOf, joinWithCell, joinWith, heardWith, putRow}
 use Rattle.theory.proofs.Reflects.{Reflects, right, wrong, equal, at-most}
-
--- a row knows what it knows
-self-turns : (w r n : ℕ) (b : List ℕ) → turns n (joinCell w r r) b ≡ b
-unfolding turns
-self-turns w r zero b = refl
-self-turns w r (suc n) b =
-    ap (joinCell w r r n) (self-turns w r n b)
-    ∙ (ap (set b (r * w + n)) (max-same (cell w b r n)) ∙ set-getD b (r * w + n) 0)
-  where
-    max-same : (x : ℕ) → max x x ≡ x
-    max-same x = omega arith
-
-pub join-self : (w r : ℕ) (b : List ℕ) → b ≡ joinRow w r r b
-unfolding joinRow
-join-self w r b = sym (self-turns w r w b)
 
 -- Definition
 
--- a table of 96 rows
+-- a table of 82 rows
 pub record Sized (w : ℕ) (b : List ℕ) : Type 0 where
-  pub size : length b ≡ 96 * w
+  pub size : length b ≡ 82 * w
 
--- the cell of row r and column c is above i
-pub record Above (w : ℕ) (b : List ℕ) (i r c : ℕ) : Type 0 where
-  pub above : i < cell w b r c
+-- a cell that is joined with itself is as it was
+pub record Same (j : ℕ → ℕ → ℕ) : Type 0 where
+  pub same : (x : ℕ) → j x x ≡ x
+
+-- P is something that a cell can know, and that two joined cells know if one of them does
+pub record Joins (j : ℕ → ℕ → ℕ) (P : ℕ → Type 0) : Type 0 where
+  pub alone : Same j
+  pub joined : (x y : ℕ) → P (j x y) ↔ (P x ⊎ P y)
+  pub nothing : ¬ P 0
+
+-- the cell of row r and column c knows it
+pub record Knows (P : ℕ → Type 0) (w : ℕ) (b : List ℕ) (r c : ℕ) : Type 0 where
+  pub knows : P (cell w b r c)
+
+pub knows-same : {P : ℕ → Type 0} {w : ℕ} {b b′ : List ℕ} {r r′ c : ℕ} → cell w b r c ≡ cell w b′ r′ c → Knows P w b r c ↔ Knows P w b′ r′ c
+knows-same e = (λ a. record { knows = rw e at (a .knows) }, λ a. record { knows = rw e (a .knows) })
+
+-- a row knows what it knows
+module _ {j : ℕ → ℕ → ℕ} (s : Same j) where
+  self-turns : (w r n : ℕ) (b : List ℕ) → turns n (joinCell j w r r) b ≡ b
+  unfolding turns
+  self-turns w r zero b = refl
+  self-turns w r (suc n) b =
+      ap (joinCell j w r r n) (self-turns w r n b) ∙ (ap (set b (r * w + n)) (s .same (cell w b r n)) ∙ set-getD b (r * w + n) 0)
+
+  pub join-self : (w r : ℕ) (b : List ℕ) → b ≡ joinRow j w r r b
+  unfolding joinRow
+  join-self w r b = sym (self-turns w r w b)
+
+-- the greater of two numbers, and the bits of both
+pub same-max : Same max
+same-max = record { same = λ x. omega arith }
+
+pub same-or : Same bitOr
+same-or = record { same = or-self }
 
 -- Size
 
@@ -49,9 +67,9 @@ unfolding turns
 sized-turns zero h s = s
 sized-turns (suc n) h s = h n _ (sized-turns n h s)
 
-pub sized-join : {w : ℕ} {b : List ℕ} → Sized w b → (to from : ℕ) → Sized w (joinRow w to from b)
+pub sized-join : {w : ℕ} {b : List ℕ} → Sized w b → (j : ℕ → ℕ → ℕ) (to from : ℕ) → Sized w (joinRow j w to from b)
 unfolding joinRow
-sized-join {w} s to from = sized-turns w (λ k x t. sized-set t _ _) s
+sized-join {w} s j to from = sized-turns w (λ k x t. sized-set t _ _) s
 
 -- Places
 
@@ -59,8 +77,8 @@ sized-join {w} s to from = sized-turns w (λ k x t. sized-set t _ _) s
 row-end : (w r q : ℕ) → r < q → r * w + w ≤ q * w
 row-end w r q h = omega (arith, suc-mul r w, mul-le-mul-right w h)
 
-in-table : {w : ℕ} {b : List ℕ} {r c : ℕ} → Sized w b → r < 96 → c < w → r * w + c < length b
-in-table {w} {r = r} s h l = omega (arith, row-end w r 96 h)
+in-table : {w : ℕ} {b : List ℕ} {r c : ℕ} → Sized w b → r < 82 → c < w → r * w + c < length b
+in-table {w} {r = r} s h l = omega (arith, row-end w r 82 h)
 
 -- each place is in one row and one column
 row-at-most : (w r q c d : ℕ) → d < w → r * w + c ≡ q * w + d → r ≤ q
@@ -78,7 +96,7 @@ one-place w r q c d l m e = (same, omega (arith, ap (λ (k : ℕ). k * w) same))
 
 -- Stores
 
-pub cell-set-same : {w : ℕ} {b : List ℕ} → Sized w b → (r c v : ℕ) → r < 96 → c < w → cell w (set b (r * w + c) v) r c ≡ v
+pub cell-set-same : {w : ℕ} {b : List ℕ} → Sized w b → (r c v : ℕ) → r < 82 → c < w → cell w (set b (r * w + c) v) r c ≡ v
 cell-set-same {w} {b} s r c v h l = getD-set-same b (r * w + c) v 0 (in-table s h l)
 
 pub cell-set-other : (w : ℕ) (b : List ℕ) (q d v r c : ℕ) → d < w → c < w → ¬ ((r ≡ q) × (c ≡ d)) →
@@ -88,42 +106,42 @@ cell-set-other w b q d v r c m l n = getD-set-other b (q * w + d) (r * w + c) v 
 -- Joining a row
 
 -- n turns leave the other rows as they were, and the columns from n on
-turns-other : (w : ℕ) (b : List ℕ) (to from n r c : ℕ) → n ≤ w → c < w → ¬ ((r ≡ to) × (c < n)) →
-    cell w (turns n (joinCell w to from) b) r c ≡ cell w b r c
+turns-other : (j : ℕ → ℕ → ℕ) (w : ℕ) (b : List ℕ) (to from n r c : ℕ) → n ≤ w → c < w → ¬ ((r ≡ to) × (c < n)) →
+    cell w (turns n (joinCell j w to from) b) r c ≡ cell w b r c
 unfolding turns
-turns-other w b to from zero r c h l f = refl
-turns-other w b to from (suc n) r c h l f =
-    cell-set-other w (turns n (joinCell w to from) b) to n _ r c h l (λ x. f (x .0, omega arith))
-    ∙ turns-other w b to from n r c (omega arith) l (λ x. f (x .0, omega arith))
+turns-other j w b to from zero r c h l f = refl
+turns-other j w b to from (suc n) r c h l f =
+    cell-set-other w (turns n (joinCell j w to from) b) to n _ r c h l (λ x. f (x .0, omega arith))
+    ∙ turns-other j w b to from n r c (omega arith) l (λ x. f (x .0, omega arith))
 
-module _ {w : ℕ} {b : List ℕ} (s : Sized w b) (to from : ℕ) where
-  -- and below n the joined row has the greater
-  turns-same : (n c : ℕ) → to < 96 → n ≤ w → c < n → cell w (turns n (joinCell w to from) b) to c ≡ max (cell w b to c) (cell w b from c)
+module _ (j : ℕ → ℕ → ℕ) {w : ℕ} {b : List ℕ} (s : Sized w b) (to from : ℕ) where
+  -- and below n the joined row has both
+  turns-same : (n c : ℕ) → to < 82 → n ≤ w → c < n → cell w (turns n (joinCell j w to from) b) to c ≡ j (cell w b to c) (cell w b from c)
   unfolding turns
   turns-same zero c t h l = absurd (omega arith)
   turns-same (suc n) c t h l = decided (equal c n) (turns-same n c t (omega arith))
     where
       past : List ℕ
-      past = turns n (joinCell w to from) b
+      past = turns n (joinCell j w to from) b
 
       -- column n is as it was
       here : (r : ℕ) → cell w past r n ≡ cell w b r n
-      here r = turns-other w b to from n r n (omega arith) h (λ x. omega arith)
+      here r = turns-other j w b to from n r n (omega arith) h (λ x. omega arith)
 
-      decided : {p : Bool} → Reflects (c ≡ n) p → (c < n → cell w past to c ≡ max (cell w b to c) (cell w b from c)) →
-          cell w (joinCell w to from n past) to c ≡ max (cell w b to c) (cell w b from c)
+      decided : {p : Bool} → Reflects (c ≡ n) p → (c < n → cell w past to c ≡ j (cell w b to c) (cell w b from c)) →
+          cell w (joinCell j w to from n past) to c ≡ j (cell w b to c) (cell w b from c)
       decided (right e) f = rw e (cell-set-same (sized-turns n (λ k x t. sized-set t _ _) s) to n _ t h ∙ (rw (here to, here from)))
       decided (wrong d) f = cell-set-other w past to n _ to c h (omega arith) (λ x. d (x .1)) ∙ f (omega arith)
 
-pub join-cell-same : {w : ℕ} {b : List ℕ} → Sized w b → (to from c : ℕ) → to < 96 → c < w →
-    cell w (joinRow w to from b) to c ≡ max (cell w b to c) (cell w b from c)
+pub join-cell-same : (j : ℕ → ℕ → ℕ) {w : ℕ} {b : List ℕ} → Sized w b → (to from c : ℕ) → to < 82 → c < w →
+    cell w (joinRow j w to from b) to c ≡ j (cell w b to c) (cell w b from c)
 unfolding joinRow
-join-cell-same {w} s to from c h l = turns-same s to from w c h (omega arith) l
+join-cell-same j {w} s to from c h l = turns-same j s to from w c h (omega arith) l
 
-pub join-cell-other : {w : ℕ} {b : List ℕ} → Sized w b → (to from r c : ℕ) → c < w → ¬ (r ≡ to) →
-    cell w (joinRow w to from b) r c ≡ cell w b r c
+pub join-cell-other : (j : ℕ → ℕ → ℕ) {w : ℕ} {b : List ℕ} → Sized w b → (to from r c : ℕ) → c < w → ¬ (r ≡ to) →
+    cell w (joinRow j w to from b) r c ≡ cell w b r c
 unfolding joinRow
-join-cell-other {w} {b} s to from r c l f = turns-other w b to from w r c (omega arith) l (λ x. f (x .0))
+join-cell-other j {w} {b} s to from r c l f = turns-other j w b to from w r c (omega arith) l (λ x. f (x .0))
 
 -- Joining a copy of a row
 
@@ -149,45 +167,45 @@ unfolding rowOf
 row-cell w from b c h = filled w (λ k. cell w b from k) (replicate w 0) c h (omega (arith, length-replicate {A = ℕ} w 0))
 
 -- the copy has what the row has, since no column is stored to before it is read
-pub join-copy : (w to from : ℕ) (b : List ℕ) → joinWith w to (rowOf w from b) b ≡ joinRow w to from b
+pub join-copy : (j : ℕ → ℕ → ℕ) (w to from : ℕ) (b : List ℕ) → joinWith j w to (rowOf w from b) b ≡ joinRow j w to from b
 unfolding joinRow joinWith turns
-join-copy w to from b = steps w (omega arith)
+join-copy j w to from b = steps w (omega arith)
   where
-    steps : (n : ℕ) → n ≤ w → turns n (joinWithCell w to (rowOf w from b)) b ≡ turns n (joinCell w to from) b
+    steps : (n : ℕ) → n ≤ w → turns n (joinWithCell j w to (rowOf w from b)) b ≡ turns n (joinCell j w to from) b
     steps zero h = refl
     steps (suc n) h =
-        let q : getD (rowOf w from b) n 0 ≡ cell w (turns n (joinCell w to from) b) from n =
-        row-cell w from b n h ∙ sym (turns-other w b to from n from n (omega arith) h (λ x. omega (arith, x .1))) in
+        let q : getD (rowOf w from b) n 0 ≡ cell w (turns n (joinCell j w to from) b) from n =
+        row-cell w from b n h ∙ sym (turns-other j w b to from n from n (omega arith) h (λ x. omega (arith, x .1))) in
         rw (steps n (omega arith), q)
 
 -- a row stays as it is where another is joined with it
-other-kept : (w to from : ℕ) (b : List ℕ) → ¬ (to ≡ from) → rowOf w from (joinRow w to from b) ≡ rowOf w from b
+other-kept : (j : ℕ → ℕ → ℕ) (w to from : ℕ) (b : List ℕ) → ¬ (to ≡ from) → rowOf w from (joinRow j w to from b) ≡ rowOf w from b
 unfolding rowOf joinRow turns
-other-kept w to from b d = steps w (omega arith)
+other-kept j w to from b d = steps w (omega arith)
   where
     steps : (n : ℕ) → n ≤ w →
-        turns n (λ c row. set row c (cell w (turns w (joinCell w to from) b) from c)) (replicate w 0)
+        turns n (λ c row. set row c (cell w (turns w (joinCell j w to from) b) from c)) (replicate w 0)
         ≡ turns n (λ c row. set row c (cell w b from c)) (replicate w 0)
     steps zero h = refl
-    steps (suc n) h = rw (steps n (omega arith), turns-other w b to from w from n (omega arith) h (λ x. d (sym (x .0))))
+    steps (suc n) h = rw (steps n (omega arith), turns-other j w b to from w from n (omega arith) h (λ x. d (sym (x .0))))
 
 -- and where it is joined with itself
-row-kept : (w to from : ℕ) (b : List ℕ) → rowOf w from (joinRow w to from b) ≡ rowOf w from b
-row-kept w to from b = decided (equal to from)
+row-kept : {j : ℕ → ℕ → ℕ} → Same j → (w to from : ℕ) (b : List ℕ) → rowOf w from (joinRow j w to from b) ≡ rowOf w from b
+row-kept {j} s w to from b = decided (equal to from)
   where
-    decided : {p : Bool} → Reflects (to ≡ from) p → rowOf w from (joinRow w to from b) ≡ rowOf w from b
-    decided (right e) = rw e (ap (rowOf w from) (sym (join-self w from b)))
-    decided (wrong d) = other-kept w to from b d
+    decided : {p : Bool} → Reflects (to ≡ from) p → rowOf w from (joinRow j w to from b) ≡ rowOf w from b
+    decided (right e) = rw e (ap (rowOf w from) (sym (join-self s w from b)))
+    decided (wrong d) = other-kept j w to from b d
 
 -- so one copy serves joins with any number of rows
-pub join-kept : (w to from : ℕ) (b : List ℕ) {x row : List ℕ} → rowOf w from b ≡ row → x ≡ joinWith w to row b →
-    (x ≡ joinRow w to from b) × (rowOf w from x ≡ row)
-join-kept w to from b {x} e h = (same, ap (rowOf w from) same ∙ (row-kept w to from b ∙ e))
+pub join-kept : {j : ℕ → ℕ → ℕ} → Same j → (w to from : ℕ) (b : List ℕ) {x row : List ℕ} → rowOf w from b ≡ row → x ≡ joinWith j w to row b →
+    (x ≡ joinRow j w to from b) × (rowOf w from x ≡ row)
+join-kept {j} s w to from b {x} e h = (joined, ap (rowOf w from) joined ∙ (row-kept s w to from b ∙ e))
   where
-    same : x ≡ joinRow w to from b
-    same = h ∙ (rw (← e) (join-copy w to from b))
+    joined : x ≡ joinRow j w to from b
+    joined = h ∙ (rw (← e) (join-copy j w to from b))
 
--- Joining by way of a row that gathers
+-- Overwriting a row
 
 -- stores to n places in turn, from place k on
 abbrev stores : ℕ → (ℕ → List ℕ → ℕ) → ℕ → List ℕ → List ℕ
@@ -215,82 +233,96 @@ module _ (k : ℕ) (h : ℕ → List ℕ → ℕ) (b : List ℕ) where
       decided (right e) ih = rw e (getD-set-same (stores k h n b) (k + n) _ 0 (omega (arith, stores-length n)))
       decided (wrong d) ih = getD-set-other (stores k h n b) (k + n) (k + c) _ 0 (λ q. d (omega arith)) ∙ ih (omega arith)
 
+pub sized-put : {w : ℕ} {b : List ℕ} → Sized w b → (to : ℕ) (row : List ℕ) → Sized w (putRow w to row b)
+unfolding putRow
+sized-put {w} s to row = sized-turns w (λ k x t. sized-set t _ _) s
+
+pub put-same : {w : ℕ} {b : List ℕ} → Sized w b → (to c : ℕ) (row : List ℕ) → to < 82 → c < w → cell w (putRow w to row b) to c ≡ getD row c 0
+unfolding putRow
+put-same {w} {b} s to c row h l = stores-at (to * w) (λ c x. getD row c 0) b w c l (in-table s h l)
+
+pub put-other : (w : ℕ) (b row : List ℕ) (to r c : ℕ) → c < w → ¬ (r ≡ to) → cell w (putRow w to row b) r c ≡ cell w b r c
+unfolding putRow
+put-other w b row to r c l d = stores-other (to * w) (λ c x. getD row c 0) b w (r * w + c) (λ k h e. d ((one-place w r to c k l h e) .0))
+
+-- Joining by way of a row that gathers, for clocks
+
 -- the cells of a row that n turns of a join with a row by itself have not come to, and of all other rows
 with-other : (w : ℕ) (b row : List ℕ) (to n r c : ℕ) → n ≤ w → c < w → ¬ ((r ≡ to) × (c < n)) →
-    cell w (turns n (joinWithCell w to row) b) r c ≡ cell w b r c
+    cell w (turns n (joinWithCell max w to row) b) r c ≡ cell w b r c
 unfolding turns
 with-other w b row to zero r c h l f = refl
 with-other w b row to (suc n) r c h l f =
-    cell-set-other w (turns n (joinWithCell w to row) b) to n _ r c h l (λ x. f (x .0, omega arith))
+    cell-set-other w (turns n (joinWithCell max w to row) b) to n _ r c h l (λ x. f (x .0, omega arith))
     ∙ with-other w b row to n r c (omega arith) l (λ x. f (x .0, omega arith))
 
 module _ (w to from : ℕ) (b row : List ℕ) where
-  joined-at : (c : ℕ) → c < w → to * w + c < length b → cell w (joinRow w to from b) to c ≡ max (cell w b to c) (cell w b from c)
+  joined-at : (c : ℕ) → c < w → to * w + c < length b → cell w (joinRow max w to from b) to c ≡ max (cell w b to c) (cell w b from c)
   unfolding joinRow
   joined-at c l m =
       stores-at (to * w) (λ c x. max (cell w x to c) (cell w x from c)) b w c l m
-      ∙ rw (turns-other w b to from c to c (omega arith) l (λ x. omega (arith, x .1)), turns-other w b to from c from c (omega arith) l (λ x. omega (arith, x .1)))
+      ∙ rw (turns-other max w b to from c to c (omega arith) l (λ x. omega (arith, x .1)), turns-other max w b to from c from c (omega arith) l (λ x. omega (arith, x .1)))
 
-  with-at : (c : ℕ) → c < w → to * w + c < length b → cell w (joinWith w to row b) to c ≡ max (cell w b to c) (getD row c 0)
+  with-at : (c : ℕ) → c < w → to * w + c < length b → cell w (joinWith max w to row b) to c ≡ max (cell w b to c) (getD row c 0)
   unfolding joinWith
   with-at c l m =
       stores-at (to * w) (λ c x. max (cell w x to c) (getD row c 0)) b w c l m
       ∙ rw (with-other w b row to c to c (omega arith) l (λ x. omega (arith, x .1)))
 
-  heard-cell : (c : ℕ) → c < w → getD (heardWith w from row b) c 0 ≡ max (getD row c 0) (cell w b from c)
+  heard-cell : (c : ℕ) → c < w → getD (heardWith max w from row b) c 0 ≡ max (getD row c 0) (cell w b from c)
   unfolding heardWith
   heard-cell c h = filled w (λ k. max (getD row k 0) (cell w b from k)) (replicate w 0) c h (omega (arith, length-replicate {A = ℕ} w 0))
 
 -- a row that is joined with another knows what a row by itself has gathered from it
 module _ (w to from : ℕ) (b row : List ℕ) where
-  with-length : (row : List ℕ) → length (joinWith w to row b) ≡ length b
+  with-length : (row : List ℕ) → length (joinWith max w to row b) ≡ length b
   unfolding joinWith
   with-length row = stores-length (to * w) (λ c x. max (cell w x to c) (getD row c 0)) b w
 
-  join-length : (x : List ℕ) → length (joinRow w to from x) ≡ length x
+  join-length : (x : List ℕ) → length (joinRow max w to from x) ≡ length x
   unfolding joinRow
   join-length x = stores-length (to * w) (λ c x. max (cell w x to c) (cell w x from c)) x w
 
-  with-outside : (row : List ℕ) (i : ℕ) → ((c : ℕ) → c < w → ¬ (i ≡ to * w + c)) → getD (joinWith w to row b) i 0 ≡ getD b i 0
+  with-outside : (row : List ℕ) (i : ℕ) → ((c : ℕ) → c < w → ¬ (i ≡ to * w + c)) → getD (joinWith max w to row b) i 0 ≡ getD b i 0
   unfolding joinWith
   with-outside row i f = stores-other (to * w) (λ c x. max (cell w x to c) (getD row c 0)) b w i f
 
-  join-outside : (x : List ℕ) (i : ℕ) → ((c : ℕ) → c < w → ¬ (i ≡ to * w + c)) → getD (joinRow w to from x) i 0 ≡ getD x i 0
+  join-outside : (x : List ℕ) (i : ℕ) → ((c : ℕ) → c < w → ¬ (i ≡ to * w + c)) → getD (joinRow max w to from x) i 0 ≡ getD x i 0
   unfolding joinRow
   join-outside x i f = stores-other (to * w) (λ c x. max (cell w x to c) (cell w x from c)) x w i f
 
   with-from : (c : ℕ) → c < w → to * w + c < length b →
-      max (cell w (joinWith w to row b) to c) (cell w (joinWith w to row b) from c) ≡ max (cell w b to c) (max (getD row c 0) (cell w b from c))
+      max (cell w (joinWith max w to row b) to c) (cell w (joinWith max w to row b) from c) ≡ max (cell w b to c) (max (getD row c 0) (cell w b from c))
   with-from c l m = decided (equal from to)
     where
-      there : cell w (joinWith w to row b) to c ≡ max (cell w b to c) (getD row c 0)
+      there : cell w (joinWith max w to row b) to c ≡ max (cell w b to c) (getD row c 0)
       there = with-at w to from b row c l m
 
-      other : ¬ (from ≡ to) → cell w (joinWith w to row b) from c ≡ cell w b from c
+      other : ¬ (from ≡ to) → cell w (joinWith max w to row b) from c ≡ cell w b from c
       other d = unfold joinWith in with-other w b row to w from c (omega arith) l (λ x. d (x .0))
 
       decided : {p : Bool} → Reflects (from ≡ to) p →
-          max (cell w (joinWith w to row b) to c) (cell w (joinWith w to row b) from c) ≡ max (cell w b to c) (max (getD row c 0) (cell w b from c))
+          max (cell w (joinWith max w to row b) to c) (cell w (joinWith max w to row b) from c) ≡ max (cell w b to c) (max (getD row c 0) (cell w b from c))
       decided (right e) = rw (e, there) (omega arith)
       decided (wrong d) = rw (there, other d) (omega arith)
 
   heard-inside : (c : ℕ) → c < w → to * w + c < length b →
-      cell w (joinRow w to from (joinWith w to row b)) to c ≡ cell w (joinWith w to (heardWith w from row b) b) to c
+      cell w (joinRow max w to from (joinWith max w to row b)) to c ≡ cell w (joinWith max w to (heardWith max w from row b) b) to c
   heard-inside c l m =
-      joined-at w to from (joinWith w to row b) row c l (omega (arith, with-length row))
-      ∙ (with-from c l m ∙ sym (with-at w to from b (heardWith w from row b) c l m ∙ rw (heard-cell w to from b row c l)))
+      joined-at w to from (joinWith max w to row b) row c l (omega (arith, with-length row))
+      ∙ (with-from c l m ∙ sym (with-at w to from b (heardWith max w from row b) c l m ∙ rw (heard-cell w to from b row c l)))
 
-  pub join-heard : joinRow w to from (joinWith w to row b) ≡ joinWith w to (heardWith w from row b) b
-  join-heard = ext-getD 0 _ _ (long ∙ sym (with-length (heardWith w from row b))) (λ i h. decided i (omega (arith, long)) (at-most (to * w) i) (at-most (suc i) (to * w + w)))
+  pub join-heard : joinRow max w to from (joinWith max w to row b) ≡ joinWith max w to (heardWith max w from row b) b
+  join-heard = ext-getD 0 _ _ (long ∙ sym (with-length (heardWith max w from row b))) (λ i h. decided i (omega (arith, long)) (at-most (to * w) i) (at-most (suc i) (to * w + w)))
     where
-      long : length (joinRow w to from (joinWith w to row b)) ≡ length b
-      long = join-length (joinWith w to row b) ∙ with-length row
+      long : length (joinRow max w to from (joinWith max w to row b)) ≡ length b
+      long = join-length (joinWith max w to row b) ∙ with-length row
 
       Same : ℕ → Type 0
-      Same i = getD (joinRow w to from (joinWith w to row b)) i 0 ≡ getD (joinWith w to (heardWith w from row b) b) i 0
+      Same i = getD (joinRow max w to from (joinWith max w to row b)) i 0 ≡ getD (joinWith max w to (heardWith max w from row b) b) i 0
 
       outside : (i : ℕ) → ((c : ℕ) → c < w → ¬ (i ≡ to * w + c)) → Same i
-      outside i f = join-outside (joinWith w to row b) i f ∙ (with-outside row i f ∙ sym (with-outside (heardWith w from row b) i f))
+      outside i f = join-outside (joinWith max w to row b) i f ∙ (with-outside row i f ∙ sym (with-outside (heardWith max w from row b) i f))
 
       decided : (i : ℕ) → i < length b → {p q : Bool} → Reflects (to * w ≤ i) p → Reflects (i < to * w + w) q → Same i
       decided i h (right l) (right m) =
@@ -300,98 +332,45 @@ module _ (w to from : ℕ) (b row : List ℕ) where
       decided i h (right l) (wrong f) = outside i (λ c l e. f (omega arith))
 
 -- a row of zeros has gathered nothing
-pub join-nothing : (w to : ℕ) (b : List ℕ) → joinWith w to (replicate w 0) b ≡ b
+pub join-nothing : (w to : ℕ) (b : List ℕ) → joinWith max w to (replicate w 0) b ≡ b
 unfolding joinWith turns
 join-nothing w to b = steps w (omega arith)
   where
     nothing : (x n : ℕ) → n < w → max x (getD (replicate w 0) n 0) ≡ x
     nothing x n h = rw (getD-replicate {A = ℕ} w n 0 0 h) (omega arith)
 
-    steps : (n : ℕ) → n ≤ w → turns n (joinWithCell w to (replicate w 0)) b ≡ b
+    steps : (n : ℕ) → n ≤ w → turns n (joinWithCell max w to (replicate w 0)) b ≡ b
     steps zero h = refl
     steps (suc n) h = rw (steps n (omega arith), nothing (cell w b to n) n h) (set-getD b (to * w + n) 0)
 
--- Copying a row
+-- What a joined row knows
 
-pub sized-put : {w : ℕ} {b : List ℕ} → Sized w b → (to : ℕ) (row : List ℕ) → Sized w (putRow w to row b)
-unfolding putRow
-sized-put {w} s to row = sized-turns w (λ k x t. sized-set t _ _) s
-
-pub sized-copy : {w : ℕ} {b : List ℕ} → Sized w b → (to from : ℕ) → Sized w (copyRow w to from b)
-unfolding copyRow
-sized-copy s to from = sized-put s to _
-
-pub put-same : {w : ℕ} {b : List ℕ} → Sized w b → (to c : ℕ) (row : List ℕ) → to < 96 → c < w → cell w (putRow w to row b) to c ≡ getD row c 0
-unfolding putRow
-put-same {w} {b} s to c row h l = stores-at (to * w) (λ c x. getD row c 0) b w c l (in-table s h l)
-
-pub put-other : (w : ℕ) (b row : List ℕ) (to r c : ℕ) → c < w → ¬ (r ≡ to) → cell w (putRow w to row b) r c ≡ cell w b r c
-unfolding putRow
-put-other w b row to r c l d = stores-other (to * w) (λ c x. getD row c 0) b w (r * w + c) (λ k h e. d ((one-place w r to c k l h e) .0))
-
-pub copy-above : {w : ℕ} {b : List ℕ} {to from i r c : ℕ} → Sized w b → to < 96 → r < 96 → c < w →
-    Above w (copyRow w to from b) i r c ↔ (((¬ (r ≡ to)) × Above w b i r c) ⊎ ((r ≡ to) × Above w b i from c))
-unfolding copyRow
-copy-above {w} {b} {to} {from} {i} {r} {c} s h k l = decided (equal r to)
+pub join-knows : {j : ℕ → ℕ → ℕ} {P : ℕ → Type 0} → Joins j P → {w : ℕ} {b : List ℕ} {to from r c : ℕ} → Sized w b → to < 82 → c < w →
+    Knows P w (joinRow j w to from b) r c ↔ (Knows P w b r c ⊎ ((r ≡ to) × Knows P w b from c))
+join-knows {j} {P} joins {w} {b} {to} {from} {r} {c} s h l = decided (equal r to)
   where
-    decided : {p : Bool} → Reflects (r ≡ to) p → Above w (putRow w to (rowOf w from b) b) i r c ↔ (((¬ (r ≡ to)) × Above w b i r c) ⊎ ((r ≡ to) × Above w b i from c))
-    decided (right e) =
-        let q : cell w (putRow w to (rowOf w from b) b) r c ≡ cell w b from c = rw e (put-same s to c (rowOf w from b) h l ∙ row-cell w from b c l) in
-        (λ a. inr (e, record { above = rw q at (a .above) }), ⊎-elim (λ a. absurd (a .0 e)) (λ a. record { above = rw q (a .1 .above) }))
-    decided (wrong f) =
-        let q = put-other w b (rowOf w from b) to r c l f in
-        (λ a. inl (f, record { above = rw q at (a .above) }), ⊎-elim (λ a. record { above = rw q (a .1 .above) }) (λ a. absurd (f (a .0))))
-
--- a row stays as it is where another is overwritten
-put-kept : (w to from : ℕ) (b row : List ℕ) → ¬ (from ≡ to) → rowOf w from (putRow w to row b) ≡ rowOf w from b
-unfolding rowOf turns
-put-kept w to from b row d = steps w (omega arith)
-  where
-    steps : (n : ℕ) → n ≤ w →
-        turns n (λ c x. set x c (cell w (putRow w to row b) from c)) (replicate w 0)
-        ≡ turns n (λ c x. set x c (cell w b from c)) (replicate w 0)
-    steps zero h = refl
-    steps (suc n) h = rw (steps n (omega arith), put-other w b row to from n h d)
-
--- so the copy serves afterwards, too
-pub copy-kept : (w to from : ℕ) (b : List ℕ) {x row : List ℕ} → ¬ (from ≡ to) → rowOf w from b ≡ row → x ≡ putRow w to row b →
-    (x ≡ copyRow w to from b) × (rowOf w from x ≡ row)
-unfolding copyRow
-copy-kept w to from b {x} {row} d e h = (h ∙ ap (λ (l : List ℕ). putRow w to l b) (sym e), ap (rowOf w from) h ∙ (put-kept w to from b row d ∙ e))
-
-above-max : (i x y : ℕ) → i < max x y → (i < x) ⊎ (i < y)
-above-max i x y g = decided (at-most (suc i) x)
-  where
-    decided : {p : Bool} → Reflects (i < x) p → (i < x) ⊎ (i < y)
-    decided (right h) = inl h
-    decided (wrong f) = inr (omega arith)
-
-pub join-above : {w : ℕ} {b : List ℕ} {to from i r c : ℕ} → Sized w b → to < 96 → from < 96 → r < 96 → c < w →
-    Above w (joinRow w to from b) i r c ↔ (Above w b i r c ⊎ ((r ≡ to) × Above w b i from c))
-join-above {w} {b} {to} {from} {i} {r} {c} s h k l m = decided (equal r to)
-  where
-    joined : (x : ℕ) → r ≡ to → x ≡ max (cell w b r c) (cell w b from c) → (i < x) ↔ (Above w b i r c ⊎ ((r ≡ to) × Above w b i from c))
-    joined x e q = (
-      λ g. ⊎-elim (λ v. inl (record { above = v })) (λ v. inr (e, record { above = v })) (above-max i _ _ (rw q at g)),
-      λ a. rw q (⊎-elim (λ v. omega arith) (λ v. omega arith) a),
+    both : (x : ℕ) → r ≡ to → x ≡ j (cell w b r c) (cell w b from c) → P x ↔ (Knows P w b r c ⊎ ((r ≡ to) × Knows P w b from c))
+    both x e q = (
+      λ g. ⊎-elim (λ v. inl (record { knows = v })) (λ v. inr (e, record { knows = v })) (joins .joined _ _ .0 (rw q at g)),
+      λ a. rw q (joins .joined _ _ .1 (⊎-elim (λ v. inl (v .knows)) (λ v. inr (v .1 .knows)) a)),
     )
 
-    decided : {p : Bool} → Reflects (r ≡ to) p → Above w (joinRow w to from b) i r c ↔ (Above w b i r c ⊎ ((r ≡ to) × Above w b i from c))
+    decided : {p : Bool} → Reflects (r ≡ to) p → Knows P w (joinRow j w to from b) r c ↔ (Knows P w b r c ⊎ ((r ≡ to) × Knows P w b from c))
     decided (right e) =
-        let j = joined (cell w (joinRow w to from b) r c) e (rw e (join-cell-same s to from c h m)) in
-        (λ a. j .0 (a .above), λ a. record { above = j .1 a })
+        let q = both (cell w (joinRow j w to from b) r c) e (rw e (join-cell-same j s to from c h l)) in
+        (λ a. q .0 (a .knows), λ a. record { knows = q .1 a })
     decided (wrong f) =
-        let q = join-cell-other s to from r c m f in
-        (λ a. inl (record { above = rw q at (a .above) }), ⊎-elim (λ a. record { above = rw q (a .above) }) (λ a. absurd (f (a .0))))
+        let q = knows-same (join-cell-other j s to from r c l f) in
+        (λ a. inl (q .0 a), ⊎-elim (λ a. q .1 a) (λ a. absurd (f (a .0))))
 
 -- Fresh tables
 
-pub sized-fresh : (w : ℕ) → Sized w (replicate (96 * w) 0)
-sized-fresh w = record { size = length-replicate (96 * w) 0 }
+pub sized-fresh : (w : ℕ) → Sized w (replicate (82 * w) 0)
+sized-fresh w = record { size = length-replicate (82 * w) 0 }
 
-pub fresh-cell : (w r c : ℕ) → r < 96 → c < w → cell w (replicate (96 * w) 0) r c ≡ 0
-fresh-cell w r c h l = getD-replicate (96 * w) (r * w + c) 0 0 (omega (arith, row-end w r 96 h))
+pub fresh-cell : (w r c : ℕ) → r < 82 → c < w → cell w (replicate (82 * w) 0) r c ≡ 0
+fresh-cell w r c h l = getD-replicate (82 * w) (r * w + c) 0 0 (omega (arith, row-end w r 82 h))
 
 -- nothing is known in a fresh table
-pub fresh-none : (w i r c : ℕ) → r < 96 → c < w → ¬ Above w (replicate (96 * w) 0) i r c
-fresh-none w i r c hr hc a = let h : i < 0 = rw (fresh-cell w r c hr hc) at (a .above) in omega arith
+pub fresh-none : {P : ℕ → Type 0} → ¬ P 0 → (w r c : ℕ) → r < 82 → c < w → ¬ Knows P w (replicate (82 * w) 0) r c
+fresh-none n w r c hr hc a = n (rw (fresh-cell w r c hr hc) at (a .knows))

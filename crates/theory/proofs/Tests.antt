@@ -2,7 +2,7 @@
 use mathlib.Core.Path.{_≡_, refl, sym, _∙_, ap}
 use mathlib.Core.Bool.{Bool, true, false, _||_}
 use mathlib.Core.Logic.{_⊎_, inl, inr, _≢_}
-use mathlib.Core.List.{List, [], _∷_}
+use mathlib.Core.List.{List, [], _∷_, _++_}
 use Prim.Native.Nat.{ℕ}
 use lib.Dec.{T}
 use Rattle.theory.specs.Recording.{Op, read, write, take, give, look, set, start, join, Event, act, lost, kind, opOf, _is_, ActsIn, acts}
@@ -35,6 +35,26 @@ pub data Some (P : Event → Type 0) : List Event → Type 0 where
 pub some-map : {P Q : Event → Type 0} {es : List Event} → ((e : Event) → P e → Q e) → Some P es → Some Q es
 some-map h (this p) = this (h _ p)
 some-map h (further s) = further (some-map h s)
+
+-- a list with one event more
+
+pub some-snoc : {P : Event → Type 0} (after : List Event) {x : Event} → Some P (after ++ (x ∷ [])) → Some P after ⊎ P x
+some-snoc [] (this p) = inr p
+some-snoc [] (further q) = elim q [ ]
+some-snoc (e ∷ after) (this p) = inl (this p)
+some-snoc (e ∷ after) (further q) = later (some-snoc after q)
+  where
+    later : {P : Event → Type 0} {e x : Event} {after : List Event} → Some P after ⊎ P x → Some P (e ∷ after) ⊎ P x
+    later (inl q) = inl (further q)
+    later (inr p) = inr p
+
+pub snoc-some : {P : Event → Type 0} {after : List Event} (x : Event) → Some P after → Some P (after ++ (x ∷ []))
+snoc-some x (this p) = this p
+snoc-some x (further q) = further (snoc-some x q)
+
+pub snoc-last : {P : Event → Type 0} (after : List Event) (x : Event) → P x → Some P (after ++ (x ∷ []))
+snoc-last [] x p = this p
+snoc-last (e ∷ after) x p = further (snoc-last after x p)
 
 none-of : {P : Event → Type 0} → ¬ Some P []
 none-of s = elim s [ ]

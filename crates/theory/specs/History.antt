@@ -10,15 +10,20 @@ use Rattle.theory.specs.Recording.{Op, kind}
 abbrev pub accesses : ℕ → Bool
 accesses k = ltb k 2
 
-abbrev pub slotCount : ℕ
-slotCount = 2048
-
 -- where the latest access of a kind to variable v by task u is kept
 abbrev pub slot : ℕ → ℕ → ℕ → ℕ
 slot k v u = (k * 64 + v) * 16 + u
 
 abbrev pub lastOf : List ℕ → ℕ → ℕ
 lastOf last s = getD last s 0
+
+-- the kind of access beside a write that conflicts with one of kind k: a read with a write, and nothing but a write with a read
+abbrev pub otherKind : ℕ → ℕ
+otherKind k = cond (eqb k (kind Op.write)) (kind Op.read) (kind Op.write)
+
+-- task u's latest access of that kind to v came after its latest write
+abbrev pub otherLater : List ℕ → ℕ → ℕ → ℕ → Bool
+otherLater last k v u = ltb (lastOf last (slot (kind Op.write) v u)) (lastOf last (slot (otherKind k) v u))
 
 -- the slot of task u's latest access to v that conflicts with one of kind k: a write conflicts with reads and writes, a read with writes
 abbrev pub latestSlot : List ℕ → ℕ → ℕ → ℕ → ℕ

@@ -1,7 +1,8 @@
 -- The two reckonings on tables: clocks and sets, each for the recording as it arrived and for the fullest filling.
-use Prim.Native.Nat.{ℕ, _+_, _*_, _-_}
+use Prim.Native.Nat.{ℕ, _+_, _*_, _-_, _/_, _%_, _^_, max}
 use mathlib.Core.Bool.{Bool, true, false, cond, _&&_, not}
 use mathlib.Core.List.{List}
+use lib.Bits.{bitAnd, bitOr}
 use lib.Count.{trailingZeros}
 use lib.Dec.{ltb, eqb}
 use lib.ListN.{set}
@@ -9,53 +10,77 @@ use Rattle.theory.specs.declared.masks.Masks.{Masks}
 use Rattle.theory.specs.Turns.{turns}
 use Rattle.theory.specs.Limits.{tasks}
 use Rattle.theory.specs.Recording.{lossMark}
-use Rattle.theory.specs.Tables.{rowCount, dueRow, cell, heardRow, toldRow, flow, mix}
-use Rattle.theory.specs.History.{accesses, slotCount, slot, latestSlot, latestNumber}
-
--- a table after a mark, or after an act whose own part is in it already
-abbrev pub onward : ℕ → ℕ → ℕ → ℕ → List ℕ → List ℕ
-onward w k task on b = flow w (heardRow k task on) (toldRow k task on) task b
+use Rattle.theory.specs.Completion.{bit}
+use Rattle.theory.specs.Tables.{rowCount, dueRow, cell, noteActed, onward, mix}
+use Rattle.theory.specs.History.{accesses, slot, latestSlot, latestNumber}
 
 -- Clocks: at row n and column u the number of the last record of task u from which order has come to node n
 
 abbrev pub clockOwn : ℕ → ℕ → List ℕ → List ℕ
-clockOwn task number b = set b (dueRow task * tasks + task) number
+clockOwn task number b = noteActed tasks task (set b (dueRow task * tasks + task) number)
 
 abbrev pub clockAct : ℕ → ℕ → ℕ → ℕ → List ℕ → List ℕ
-clockAct k task on number b = onward tasks k task on (clockOwn task number b)
+clockAct k task on number b = onward max tasks k task on (clockOwn task number b)
 
 -- after a record: as it arrived, and in the fullest filling
 abbrev pub clocksArrived : ℕ → ℕ → ℕ → ℕ → List ℕ → List ℕ
 clocksArrived k task on number b = cond (eqb k lossMark) b (clockAct k task on number b)
 
 abbrev pub clocksFull : ℕ → ℕ → ℕ → ℕ → List ℕ → List ℕ
-clocksFull k task on number b = cond (eqb k lossMark) (mix tasks on b) (clockAct k task on number b)
+clocksFull k task on number b = cond (eqb k lossMark) (mix max tasks on b) (clockAct k task on number b)
 
--- Sets: at row n and column s whether order from the kept access of slot s has come to node n
+-- Sets: at row n and slot s whether order from the kept access of slot s has come to node n, as a bit: a word has 32 slots
 
-unfoldable pub clearColumn : ℕ → List ℕ → List ℕ
-clearColumn s b = turns rowCount (λ r b. set b (r * slotCount + s) 0) b
+abbrev pub words : ℕ
+words = 64
+
+abbrev pub wordOf : ℕ → ℕ
+wordOf s = s / 32
+
+abbrev pub placeOf : ℕ → ℕ
+placeOf s = s % 32
+
+abbrev pub hasSlot : List ℕ → ℕ → ℕ → Bool
+hasSlot b r s = bit (cell words b r (wordOf s)) (placeOf s)
+
+-- what row r knows of the tasks' accesses of a kind to variable v: from bit 0 on a bit for each task
+abbrev pub knownSlots : List ℕ → ℕ → ℕ → ℕ → ℕ
+knownSlots b r k v = cell words b r (wordOf (slot k v 0)) / 2 ^ placeOf (slot k v 0)
+
+-- a word with the bit of weight 2 ^ k, and without it
+abbrev pub withBit : ℕ → ℕ → ℕ
+withBit k x = bitOr x (2 ^ k)
+
+abbrev pub withoutBit : ℕ → ℕ → ℕ
+withoutBit k x = bitAnd x (2 ^ 32 - 1 - 2 ^ k)
+
+-- no row knows of the slot's access
+unfoldable pub clearSlot : ℕ → List ℕ → List ℕ
+clearSlot s b = turns rowCount (λ r b. set b (r * words + wordOf s) (withoutBit (placeOf s) (cell words b r (wordOf s)))) b
+
+-- row r does
+abbrev pub addSlot : ℕ → ℕ → List ℕ → List ℕ
+addSlot r s b = set b (r * words + wordOf s) (withBit (placeOf s) (cell words b r (wordOf s)))
 
 abbrev pub setOwn : ℕ → ℕ → ℕ → List ℕ → List ℕ
-setOwn k task on b = cond (accesses k) (set (clearColumn (slot k on task) b) (dueRow task * slotCount + slot k on task) 1) b
+setOwn k task on b = noteActed words task (cond (accesses k) (addSlot (dueRow task) (slot k on task) (clearSlot (slot k on task) b)) b)
 
 abbrev pub setAct : ℕ → ℕ → ℕ → List ℕ → List ℕ
-setAct k task on b = onward slotCount k task on (setOwn k task on b)
+setAct k task on b = onward bitOr words k task on (setOwn k task on b)
 
 abbrev pub setsArrived : ℕ → ℕ → ℕ → List ℕ → List ℕ
 setsArrived k task on b = cond (eqb k lossMark) b (setAct k task on b)
 
 abbrev pub setsFull : ℕ → ℕ → ℕ → List ℕ → List ℕ
-setsFull k task on b = cond (eqb k lossMark) (mix slotCount on b) (setAct k task on b)
+setsFull k task on b = cond (eqb k lossMark) (mix bitOr words on b) (setAct k task on b)
 
--- Which tasks' latest conflicting access has no path to an access
+-- Which tasks' latest conflicting access has no path to an access. A task's own never counts: order from it has come to its next act.
 
 abbrev pub clockApart : List ℕ → List ℕ → ℕ → ℕ → ℕ → ℕ → Bool
-clockApart cells last k task on u = not (eqb u task) && ltb (cell tasks cells (dueRow task) u) (latestNumber last k on u)
+clockApart cells last k task on u = ltb (cell tasks cells (dueRow task) u) (latestNumber last k on u)
 
 abbrev pub setApart : List ℕ → List ℕ → ℕ → ℕ → ℕ → ℕ → Bool
-setApart cells last k task on u =
-    not (eqb u task) && (ltb 0 (latestNumber last k on u) && eqb (cell slotCount cells (dueRow task) (latestSlot last k on u)) 0)
+setApart cells last k task on u = ltb 0 (latestNumber last k on u) && not (hasSlot cells (dueRow task) (latestSlot last k on u))
 
 abbrev pub bitOf : Bool → ℕ
 bitOf true = 1

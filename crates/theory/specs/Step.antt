@@ -137,20 +137,20 @@ abbrev pub freshControl : List ℕ
 freshControl = set (replicate 17 0) 0 1
 
 unfoldable pub freshClocks : ClockState
-freshClocks = record { control = freshControl; last = replicate 2048 0; clocks = replicate 1536 0; fullclocks = replicate 1536 0 }
+freshClocks = record { control = freshControl; last = replicate 2048 0; clocks = replicate 1312 0; fullclocks = replicate 1312 0 }
 
 unfoldable pub freshSets : SetState
-freshSets = record { control = freshControl; last = replicate 2048 0; sets = replicate 196608 0; fullsets = replicate 196608 0 }
+freshSets = record { control = freshControl; last = replicate 2048 0; sets = replicate 5248 0; fullsets = replicate 5248 0 }
 
 unfoldable pub freshState : State
 freshState =
     record {
       control = freshControl;
       last = replicate 2048 0;
-      clocks = replicate 1536 0;
-      fullclocks = replicate 1536 0;
-      sets = replicate 196608 0;
-      fullsets = replicate 196608 0;
+      clocks = replicate 1312 0;
+      fullclocks = replicate 1312 0;
+      sets = replicate 5248 0;
+      fullsets = replicate 5248 0;
     }
 
 -- Tables, and tables with an answer, as one value, for the contracts of the steps in place

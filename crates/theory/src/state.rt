@@ -7,11 +7,11 @@ pub struct State {
     // The kept accesses, by variable, task and kind.
     pub last: [u32; 2048],
     // The clocks of the recording as it arrived, and those of the fullest filling.
-    pub clocks: [u32; 1536],
-    pub fullclocks: [u32; 1536],
+    pub clocks: [u32; 1312],
+    pub fullclocks: [u32; 1312],
     // The sets likewise.
-    pub sets: [u8; 196608],
-    pub fullsets: [u8; 196608],
+    pub sets: [u32; 5248],
+    pub fullsets: [u32; 5248],
 }
 
 pub struct Stepped {
@@ -23,8 +23,8 @@ pub struct Stepped {
 pub struct ClockState {
     pub control: [u32; 17],
     pub last: [u32; 2048],
-    pub clocks: [u32; 1536],
-    pub fullclocks: [u32; 1536],
+    pub clocks: [u32; 1312],
+    pub fullclocks: [u32; 1312],
 }
 
 pub struct ClockStepped {
@@ -36,8 +36,8 @@ pub struct ClockStepped {
 pub struct SetState {
     pub control: [u32; 17],
     pub last: [u32; 2048],
-    pub sets: [u8; 196608],
-    pub fullsets: [u8; 196608],
+    pub sets: [u32; 5248],
+    pub fullsets: [u32; 5248],
 }
 
 pub struct SetStepped {

@@ -1,22 +1,66 @@
--- A mark mixes the fullest clocks; an act goes to both.
-use borrow.Author.Tests.{eq-eqb, ne-eqb}
+-- A mark mixes the fullest clocks; an act goes to both, and an access hears and tells no other row.
+use mathlib.Core.Path.{_≡_, sym, ap, _∙_}
+use mathlib.Core.List.{List}
+use Prim.Native.Nat.{ℕ, _<_, max}
+use borrow.Author.Tests.{eq-eqb, ne-eqb, ltb-true}
+use Rattle.theory.specs.Tables.{flow, joinsActed, heardRow, toldRow, onward}
+use Rattle.theory.specs.Reckonings.{clockOwn, clockAct}
+use Rattle.theory.proofs.Tables.{same-max}
+use Rattle.theory.proofs.Acting.{flow-alone}
+use Rattle.theory.proofs.Ranges.{access-alone}
 use borrow.Author.Needs.{needs}
 use Rattle.checker.proofs.clocks.advance_clocks.Statement.{statement}
 use Rattle.checker.proofs.clocks.advance_clocks.Tie as tie
 
+module _ (k t n m : ℕ) (b : List ℕ) {x : List ℕ} (e : x ≡ clockOwn t m b) where
+  -- after an access its own part is all
+  accessed : k < 2 → t < 16 → x ≡ clockAct k t n m b
+  accessed h l = let a = access-alone 16 (clockOwn t m b) k t n h in e ∙ rw (a .0, a .1) (flow-alone same-max 16 t (clockOwn t m b) l)
+
+  -- after another act its order, too
+  passed : {y : List ℕ} → y ≡ flow max 16 (heardRow k t n (joinsActed 16 x k n)) (toldRow k t n) t x → y ≡ clockAct k t n m b
+  passed q = q ∙ ap (onward max 16 k t n) e
+
 returns : tie.Need-returns
 returns c = simp (eq-eqb _ _ (c .before .before .if1 .taken)) (search needs)
 
-act-requires : tie.Need-act-requires
-act-requires c κs = c .before .before .pre (ne-eqb _ _ (c .before .if1 .left))
+own-requires : tie.Need-own-requires
+own-requires c κs = (c .before .before .pre (ne-eqb _ _ (c .before .if1 .left))) .task-fits
 
-act-requires-2 : tie.Need-act-requires-2
-act-requires-2 c κs = c .before .before .before .before .pre (ne-eqb _ _ (c .before .before .before .if1 .left))
+own-requires-2 : tie.Need-own-requires-2
+own-requires-2 c κs = (c .before .before .before .before .pre (ne-eqb _ _ (c .before .before .before .if1 .left))) .task-fits
 
 returns-2 : tie.Need-returns-2
-returns-2 c = simp (ne-eqb _ _ (c .before .before .before .before .if1 .left)) (c .before .before .act .ensures, c .act2 .ensures)
+returns-2 c =
+    let b = c .before .before .before .before .before .before in
+    let d = ne-eqb _ _ (b .if1 .left) in
+    let a = b .before .args in
+    let h = ltb-true _ _ (sym (c .before .is-access .ensures) ∙ c .if2 .taken) in
+    let l = (b .before .pre d) .task-fits in
+    simp d (
+      accessed (a .kind) (a .task) (a .on) (a .number) (a .clocks .now) (c .before .before .before .before .own .ensures) h l,
+      accessed (a .kind) (a .task) (a .on) (a .number) (a .fullclocks .now) (c .before .before .own2 .ensures) h l,
+    )
+
+pass-on-requires : tie.Need-pass-on-requires
+pass-on-requires c κs = let b = c .before .before .before .before .before .before .before in b .before .pre (ne-eqb _ _ (b .if1 .left))
+
+pass-on-requires-2 : tie.Need-pass-on-requires-2
+pass-on-requires-2 c κs =
+    let b = c .before .before .before .before .before .before .before .before .before in b .before .pre (ne-eqb _ _ (b .if1 .left))
+
+returns-3 : tie.Need-returns-3
+returns-3 c =
+    let o = c .before .before .before .before .before .before in
+    let b = o .before .before .before .before in
+    let a = b .before .args in
+    simp (ne-eqb _ _ (b .if1 .left)) (
+      passed (a .kind) (a .task) (a .on) (a .number) (a .clocks .now) (o .before .before .own .ensures) (c .before .before .pass-on .ensures),
+      passed (a .kind) (a .task) (a .on) (a .number) (a .fullclocks .now) (o .own2 .ensures) (c .pass-on2 .ensures),
+    )
 
 pub advance-clocks-spec : {M : Type 1} → statement M
 advance-clocks-spec =
     tie.close (tie.spec
-    (λ c κs. search needs) returns act-requires act-requires-2 returns-2)
+    (λ c κs. search needs) returns own-requires own-requires-2 (λ c κs. search needs) returns-2 pass-on-requires
+    pass-on-requires-2 returns-3)

@@ -1,21 +1,21 @@
 -- A row of the clocks joined with another, column by column; a row with itself is as it was.
-use Prim.Native.Nat.{_≤_, _-_}
+use Prim.Native.Nat.{_≤_, _-_, max}
 use native.Mathlib.Omega.{arith}
 use Rattle.theory.specs.Tables.{joinCell, joinRow}
 use Rattle.theory.proofs.Turns.{Turned, no-turn, one-turn, all-turns}
-use Rattle.theory.proofs.Tables.{join-self}
+use Rattle.theory.proofs.Tables.{same-max, join-self}
 use borrow.Author.Needs.{needs}
 use Rattle.checker.proofs.clocks.join_row.Statement.{statement}
 use Rattle.checker.proofs.clocks.join_row.Tie as tie
 
 abbrev Inv-loop : tie.InvT-loop
-Inv-loop cells₀ to from c₀ cells c = (c ≤ 16) × Turned (joinCell 16 to from) cells₀ c cells
+Inv-loop cells₀ to from c₀ cells c = (c ≤ 16) × Turned (joinCell max 16 to from) cells₀ c cells
 
 abbrev μ-loop : tie.MeasureT-loop
 μ-loop cells₀ to from c₀ cells c = 16 - c
 
 returns : tie.Need-returns Inv-loop μ-loop
-returns c = rw (← c .if1 .taken) (join-self 16 _ _)
+returns c = rw (← c .if1 .taken) (join-self same-max 16 _ _)
 
 loop-holds : tie.Need-loop-holds Inv-loop μ-loop
 loop-holds c = (search needs, no-turn)

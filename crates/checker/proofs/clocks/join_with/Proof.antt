@@ -1,5 +1,5 @@
 -- A row of the clocks joined with one that stands by itself, column by column.
-use Prim.Native.Nat.{_≤_, _-_}
+use Prim.Native.Nat.{_≤_, _-_, max}
 use native.Mathlib.Omega.{arith}
 use Rattle.theory.specs.Tables.{joinWithCell, joinWith}
 use Rattle.theory.proofs.Turns.{Turned, no-turn, one-turn, all-turns}
@@ -8,7 +8,7 @@ use Rattle.checker.proofs.clocks.join_with.Statement.{statement}
 use Rattle.checker.proofs.clocks.join_with.Tie as tie
 
 abbrev Inv-loop : tie.InvT-loop
-Inv-loop cells₀ to row c₀ cells c = (c ≤ 16) × Turned (joinWithCell 16 to row) cells₀ c cells
+Inv-loop cells₀ to row c₀ cells c = (c ≤ 16) × Turned (joinWithCell max 16 to row) cells₀ c cells
 
 abbrev μ-loop : tie.MeasureT-loop
 μ-loop cells₀ to row c₀ cells c = 16 - c

@@ -1,4 +1,4 @@
--- Gathered, then spread.
+-- Gathered, then spread, and the named tasks noted.
 use Rattle.theory.specs.Tables.{mix}
 use borrow.Author.Needs.{needs}
 use Rattle.checker.proofs.clocks.mix.Statement.{statement}
@@ -10,4 +10,4 @@ returns c = cc
 
 pub mix-spec : {M : Type 1} → statement M
 mix-spec = tie.close (tie.spec
-    (λ c κs. search needs) (λ c κs. search needs) returns)
+    (λ c κs. search needs) (λ c κs. search needs) (λ c κs. search needs) returns)

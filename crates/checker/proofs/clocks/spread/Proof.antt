@@ -14,17 +14,17 @@ abbrev told : ℕ → List ℕ → ℕ → List ℕ → List ℕ
 told mask hub q x = putRow 16 (rowOrHub (isTold mask q) q) hub x
 
 abbrev Inv-loop : tie.InvT-loop
-Inv-loop cells₀ mask hub r₀ cells r = (r ≤ 32) × Turned (told mask hub) cells₀ r cells
+Inv-loop cells₀ mask hub r₀ cells r = (r ≤ 16) × Turned (told mask hub) cells₀ r cells
 
 abbrev μ-loop : tie.MeasureT-loop
-μ-loop cells₀ mask hub r₀ cells r = 32 - r
+μ-loop cells₀ mask hub r₀ cells r = 16 - r
 
 abbrev Inv-loop2 : tie.InvT-loop2
 Inv-loop2 cells₀ mask hub r₀ cells r =
-    (32 ≤ r) × (r ≤ 96) × ((b : List ℕ) → Turned (told mask hub) b r₀ cells₀ → Turned (told mask hub) b r cells)
+    (16 ≤ r) × (r ≤ 80) × ((b : List ℕ) → Turned (told mask hub) b r₀ cells₀ → Turned (told mask hub) b r cells)
 
 abbrev μ-loop2 : tie.MeasureT-loop2
-μ-loop2 cells₀ mask hub r₀ cells r = 96 - r
+μ-loop2 cells₀ mask hub r₀ cells r = 80 - r
 
 loop-holds : tie.Need-loop-holds Inv-loop μ-loop Inv-loop2 μ-loop2
 loop-holds c = (search needs, no-turn)
@@ -46,7 +46,7 @@ returns : tie.Need-returns Inv-loop μ-loop Inv-loop2 μ-loop2
 unfolding spread
 returns c =
     rw (← c .before .before .before .before .row-of .ensures)
-    (all-turns 96 (c .before .loop2 .inv .2 _ (c .before .before .before .loop .inv .1)) (omega arith) (omega arith))
+    (all-turns 80 (c .before .loop2 .inv .2 _ (c .before .before .before .loop .inv .1)) (omega arith) (omega arith))
 
 pub spread-spec : {M : Type 1} → statement M
 spread-spec =

@@ -1,27 +1,30 @@
--- What a mark can hear is joined to the hub, row by row.
+-- The named tasks' rows are joined to the hub, row by row.
 use Prim.Native.Nat.{_≤_, _-_}
 use native.Mathlib.Omega.{arith}
-use Rattle.theory.specs.Tables.{joinRow, isHeard, rowOrHub, gather}
+use lib.Bits.{bitOr}
+use Rattle.theory.specs.Completion.{bit}
+use Rattle.theory.specs.Tables.{joinRow, rowOrHub, gather}
 use Rattle.theory.proofs.Turns.{Turned, no-turn, one-turn, all-turns}
 use borrow.Author.Needs.{needs}
 use Rattle.checker.proofs.sets.gather.Statement.{statement}
 use Rattle.checker.proofs.sets.gather.Tie as tie
 
 abbrev Inv-loop : tie.InvT-loop
-Inv-loop cells₀ mask r₀ cells r = (r ≤ 96) × Turned (λ q b. joinRow 2048 32 (rowOrHub (isHeard mask q) q) b) cells₀ r cells
+Inv-loop cells₀ mask t₀ cells t = (t ≤ 16) × Turned (λ q b. joinRow bitOr 64 80 (rowOrHub (bit mask q) q) b) cells₀ t cells
 
 abbrev μ-loop : tie.MeasureT-loop
-μ-loop cells₀ mask r₀ cells r = 96 - r
+μ-loop cells₀ mask t₀ cells t = 16 - t
 
 loop-holds : tie.Need-loop-holds Inv-loop μ-loop
 loop-holds c = (search needs, no-turn)
 
 loop-again : tie.Need-loop-again Inv-loop μ-loop
-loop-again c = (search needs, one-turn (c .before .before .before .before .loop .inv .1) (rw (← c .before .heard-by .ensures .0) (c .join-copied .ensures)))
+loop-again c =
+    (search needs, one-turn (c .before .before .before .before .loop .inv .1) (rw (← c .before .named-row .ensures .0) (c .join-copied .ensures)))
 
 returns : tie.Need-returns Inv-loop μ-loop
 unfolding gather
-returns c = all-turns 96 (c .before .loop .inv .1) (omega arith) (omega arith)
+returns c = all-turns 16 (c .before .loop .inv .1) (omega arith) (omega arith)
 
 pub gather-spec : {M : Type 1} → statement M
 gather-spec =

@@ -1,6 +1,8 @@
 -- A row of the sets joined with one that stands by itself, column by column.
+use mathlib.Core.Path.{refl}
 use Prim.Native.Nat.{_≤_, _-_}
 use native.Mathlib.Omega.{arith}
+use lib.Bits.{bitOr}
 use Rattle.theory.specs.Tables.{joinWithCell, joinWith}
 use Rattle.theory.proofs.Turns.{Turned, no-turn, one-turn, all-turns}
 use borrow.Author.Needs.{needs}
@@ -8,24 +10,24 @@ use Rattle.checker.proofs.sets.join_with.Statement.{statement}
 use Rattle.checker.proofs.sets.join_with.Tie as tie
 
 abbrev Inv-loop : tie.InvT-loop
-Inv-loop cells₀ to row c₀ cells c = (c ≤ 2048) × Turned (joinWithCell 2048 to row) cells₀ c cells
+Inv-loop cells₀ to row c₀ cells c = (c ≤ 64) × Turned (joinWithCell bitOr 64 to row) cells₀ c cells
 
 abbrev μ-loop : tie.MeasureT-loop
-μ-loop cells₀ to row c₀ cells c = 2048 - c
+μ-loop cells₀ to row c₀ cells c = 64 - c
 
 loop-holds : tie.Need-loop-holds Inv-loop μ-loop
 loop-holds c = (search needs, no-turn)
 
 loop-again : tie.Need-loop-again Inv-loop μ-loop
-loop-again c = (search needs, one-turn (c .before .before .before .before .loop .inv .1) (rw (c .greater .ensures)))
+loop-again c = (search needs, one-turn (c .before .before .before .loop .inv .1) refl)
 
 returns : tie.Need-returns Inv-loop μ-loop
 unfolding joinWith
-returns c = all-turns 2048 (c .before .loop .inv .1) (omega arith) (omega arith)
+returns c = all-turns 64 (c .before .loop .inv .1) (omega arith) (omega arith)
 
 pub join-with-spec : {M : Type 1} → statement M
 join-with-spec =
     tie.close (tie.spec
     Inv-loop μ-loop loop-holds (λ c. search needs) (λ c. search needs) (λ c. search needs) (λ c. search needs)
-    (λ c κs. search needs) (λ c. search needs) (λ c. search needs) (λ c. search needs) (λ c. search needs)
-    (λ c. search needs) loop-again returns)
+    (λ c. search needs) (λ c. search needs) (λ c. search needs) (λ c. search needs) (λ c. search needs)
+    (λ c. search needs) (λ c. search needs) (λ c. search needs) loop-again returns)

@@ -1,4 +1,4 @@
--- Gathered, then spread.
+-- Gathered, then spread, then noted.
 use Rattle.theory.specs.Tables.{mix}
 use borrow.Author.Needs.{needs}
 use Rattle.checker.proofs.sets.mix.Statement.{statement}
@@ -9,5 +9,6 @@ unfolding mix
 returns c = cc
 
 pub mix-spec : {M : Type 1} → statement M
-mix-spec = tie.close (tie.spec
-    (λ c κs. search needs) (λ c κs. search needs) returns)
+mix-spec =
+    tie.close (tie.spec
+    (λ c κs. search needs) (λ c κs. search needs) (λ c κs. search needs) returns)

@@ -8,10 +8,10 @@ use Rattle.checker.proofs.sets.spread.Statement.{statement}
 use Rattle.checker.proofs.sets.spread.Tie as tie
 
 abbrev Inv-loop : tie.InvT-loop
-Inv-loop cells₀ mask hub r₀ cells r = (r ≤ 96) × Turned (λ q x. putRow 2048 (rowOrHub (isTold mask q) q) hub x) cells₀ r cells
+Inv-loop cells₀ mask hub r₀ cells r = (r ≤ 80) × Turned (λ q x. putRow 64 (rowOrHub (isTold mask q) q) hub x) cells₀ r cells
 
 abbrev μ-loop : tie.MeasureT-loop
-μ-loop cells₀ mask hub r₀ cells r = 96 - r
+μ-loop cells₀ mask hub r₀ cells r = 80 - r
 
 loop-holds : tie.Need-loop-holds Inv-loop μ-loop
 loop-holds c = (search needs, no-turn)
@@ -24,7 +24,7 @@ returns : tie.Need-returns Inv-loop μ-loop
 unfolding spread
 returns c =
     rw (← c .before .before .row-of .ensures)
-    (all-turns 96 (c .before .loop .inv .1) (omega arith) (omega arith))
+    (all-turns 80 (c .before .loop .inv .1) (omega arith) (omega arith))
 
 pub spread-spec : {M : Type 1} → statement M
 spread-spec =

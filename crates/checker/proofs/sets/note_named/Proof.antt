@@ -1,0 +1,35 @@
+-- The tasks that the mask names have acted, task by task.
+use Prim.Native.Nat.{_≤_, _+_, _-_}
+use native.Mathlib.Omega.{arith}
+use mathlib.Core.Bool.{cond}
+use lib.ListN.{set}
+use Rattle.theory.specs.Completion.{bit}
+use Rattle.theory.specs.Tables.{cell, noteNamed}
+use Rattle.theory.proofs.Turns.{Turned, no-turn, one-turn, all-turns}
+use borrow.Author.Needs.{needs}
+use Rattle.checker.proofs.sets.note_named.Statement.{statement}
+use Rattle.checker.proofs.sets.note_named.Tie as tie
+
+abbrev Inv-loop : tie.InvT-loop
+Inv-loop cells₀ mask t₀ cells t = (t ≤ 16) × Turned (λ q b. set b (5184 + q) (cond (bit mask q) 1 (cell 64 b 81 q))) cells₀ t cells
+
+abbrev μ-loop : tie.MeasureT-loop
+μ-loop cells₀ mask t₀ cells t = 16 - t
+
+loop-holds : tie.Need-loop-holds Inv-loop μ-loop
+loop-holds c = (search needs, no-turn)
+
+loop-again : tie.Need-loop-again Inv-loop μ-loop
+loop-again c =
+    (search needs, one-turn (c .before .before .before .before .loop .inv .1) (rw (c .acted-after .ensures, c .before .before .has-bit .ensures)))
+
+returns : tie.Need-returns Inv-loop μ-loop
+unfolding noteNamed
+returns c = all-turns 16 (c .before .loop .inv .1) (omega arith) (omega arith)
+
+pub note-named-spec : {M : Type 1} → statement M
+note-named-spec =
+    tie.close (tie.spec
+    Inv-loop μ-loop loop-holds (λ c. search needs) (λ c κs. search needs) (λ c. search needs) (λ c. search needs)
+    (λ c. search needs) (λ c κs. search needs) (λ c. search needs) (λ c. search needs) (λ c. search needs)
+    (λ c. search needs) (λ c. search needs) loop-again returns)
