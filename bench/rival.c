@@ -3,7 +3,8 @@
  * Text in, happens-before by vector clocks for the recording as it arrived and for the fullest filling, verdicts, partners and refusals,
  * report text out: byte for byte the report of `order_report`. It leaves out what a proof has to carry along and a programmer in a hurry
  * would not write down:
- * - Clocks are 16 numbers of 16 bits, since a recording ends at 60,000 records.
+ * - Clocks are 16 numbers of 16 bits, since a recording ends at 60,000 records. With -DWIDE they have 32, as the checker's have and as a longer
+ *   recording needs, and their loops are plain C.
  * - An access changes one number; no row is joined for it.
  * - Once a task has acted, what a join of it hears is what its next act would know: one bit for each task, not a row.
  * - A mark makes all objects know the same: one row stands for all that no give or set has told since.
@@ -21,9 +22,23 @@
 
 enum { READ, WRITE, TAKE, GIVE, LOOK, SET, START, JOIN, LOST, NONE };
 
+#ifdef WIDE
+
+typedef uint32_t Cell;
+
+typedef struct {
+    Cell cell[16];
+} Clock; /* a cell for each task */
+
+#else
+
+typedef uint16_t Cell;
+
 typedef struct {
     __m128i half[2];
-} Clock; /* 16 numbers of 16 bits, a cell for each task */
+} Clock;
+
+#endif
 
 typedef struct {
     Clock task[16], object[64], hub; /* an object whose bit in `told` is not set knows what the hub knows */
@@ -46,7 +61,22 @@ static void fresh(State *s) {
 
 /* ---- clocks */
 
-static uint16_t *cells(Clock *c) { return (uint16_t *)c; }
+static Cell *cells(Clock *c) { return (Cell *)c; }
+
+#ifdef WIDE
+
+static void join_clock(Clock *to, const Clock *from) {
+    for (int u = 0; u < 16; u++) to->cell[u] = to->cell[u] < from->cell[u] ? from->cell[u] : to->cell[u];
+}
+
+/* The tasks whose latest access is not known. */
+static uint32_t apart(const Clock *latest, const Clock *known) {
+    uint32_t mask = 0;
+    for (int u = 0; u < 16; u++) mask |= known->cell[u] < latest->cell[u] ? 1u << u : 0;
+    return mask;
+}
+
+#else
 
 /* SSE2 has no maximum of unsigned 16-bit numbers: a + (b - a, or 0 if that is negative). */
 static __m128i greater(__m128i a, __m128i b) { return _mm_add_epi16(a, _mm_subs_epu16(b, a)); }
@@ -64,6 +94,8 @@ static uint32_t apart(const Clock *latest, const Clock *known) {
     return (uint32_t)_mm_movemask_epi8(_mm_packs_epi16(low, high)) ^ 0xffff;
 }
 
+#endif
+
 static void hear(Filling *f, unsigned task, unsigned object) {
     join_clock(&f->task[task], f->told >> object & 1 ? &f->object[object] : &f->hub);
 }
@@ -75,7 +107,7 @@ static void tell(Filling *f, unsigned task, unsigned object) {
 }
 
 static void act(Filling *f, unsigned kind, unsigned task, unsigned on, unsigned number) {
-    cells(&f->task[task])[task] = (uint16_t)number;
+    cells(&f->task[task])[task] = (Cell)number;
     f->acted |= 1u << task;
     switch (kind) {
     case TAKE: hear(f, task, on); break;
@@ -181,10 +213,10 @@ static uint8_t *judge(State *s, uint8_t *o, uint32_t kind, uint32_t task, uint32
     }
     /* A task's own cell is the number of its last act, so it is never apart from itself. */
     if (mask) with = cells(latest)[__builtin_ctz(mask)];
-    cells(&s->any[on])[task] = (uint16_t)number;
-    if (kind == WRITE) cells(&s->writes[on])[task] = (uint16_t)number;
-    cells(&s->arrived.task[task])[task] = (uint16_t)number;
-    cells(&s->fullest.task[task])[task] = (uint16_t)number;
+    cells(&s->any[on])[task] = (Cell)number;
+    if (kind == WRITE) cells(&s->writes[on])[task] = (Cell)number;
+    cells(&s->arrived.task[task])[task] = (Cell)number;
+    cells(&s->fullest.task[task])[task] = (Cell)number;
     s->arrived.acted |= 1u << task;
     s->fullest.acted |= 1u << task;
     return put_access(o, number, task, on, verdict, with);
