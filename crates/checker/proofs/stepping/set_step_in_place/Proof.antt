@@ -11,26 +11,55 @@ unfolding setStepOf
 returns c = rw (← c .before .refusal .ensures) (set-refused _ _ _ (c .if1 .taken))
 
 add-number : tie.Need-add-number
-add-number c = let a = accepts (c .before .before .before .before .args .control .now) (c .before .before .before .before .args .r) _ (c .before .before .refusal .ensures) (c .before .if1 .left) in omega arith
+add-number c =
+    let at-start = c .before .before .before .before in
+    let a = accepts (at-start .args .control .now) (at-start .args .r) _ (c .before .before .refusal .ensures) (c .before .if1 .left) in omega arith
 
 set-masks-requires : tie.Need-set-masks-requires
-set-masks-requires c κs = (accepts (c .before .before .before .before .before .before .before .args .control .now) (c .before .before .before .before .before .before .before .args .r) _ (c .before .before .before .before .before .refusal .ensures) (c .before .before .before .before .if1 .left)) .fits
+set-masks-requires c κs =
+    let at-if1 = c .before .before .before .before in
+    let at-refusal = at-if1 .before in
+    let at-start = at-refusal .before .before in
+    (accepts (at-start .args .control .now) (at-start .args .r) _ (at-refusal .refusal .ensures) (at-if1 .if1 .left)) .fits
 
 answered-requires : tie.Need-answered-requires
-answered-requires c κs = (accepts (c .before .before .before .before .before .before .before .before .before .args .control .now) (c .before .before .before .before .before .before .before .before .before .args .r) _ (c .before .before .before .before .before .before .before .refusal .ensures) (c .before .before .before .before .before .before .if1 .left)) .fits
+answered-requires c κs =
+    let at-if1 = c .before .before .before .before .before .before in
+    let at-refusal = at-if1 .before in
+    let at-start = at-refusal .before .before in
+    (accepts (at-start .args .control .now) (at-start .args .r) _ (at-refusal .refusal .ensures) (at-if1 .if1 .left)) .fits
 
 note-requires : tie.Need-note-requires
-note-requires c κs = let a = accepts (c .before .before .before .before .before .before .before .before .before .before .before .before .args .control .now) (c .before .before .before .before .before .before .before .before .before .before .before .before .args .r) _ (c .before .before .before .before .before .before .before .before .before .before .refusal .ensures) (c .before .before .before .before .before .before .before .before .before .if1 .left) in (a .on-task, a .room)
+note-requires c κs =
+    let at-if1 = c .before .before .before .before .before .before .before .before .before in
+    let at-refusal = at-if1 .before in
+    let at-start = at-refusal .before .before in
+    let a = accepts (at-start .args .control .now) (at-start .args .r) _ (at-refusal .refusal .ensures) (at-if1 .if1 .left) in (a .on-task, a .room)
 
 keep-requires : tie.Need-keep-requires
-keep-requires c κs = (accepts (c .before .before .before .before .before .before .before .before .before .before .before .before .before .before .args .control .now) (c .before .before .before .before .before .before .before .before .before .before .before .before .before .before .args .r) _ (c .before .before .before .before .before .before .before .before .before .before .before .before .refusal .ensures) (c .before .before .before .before .before .before .before .before .before .before .before .if1 .left)) .fits
+keep-requires c κs =
+    let at-if1 = c .before .before .before .before .before .before .before .before .before .before .before in
+    let at-refusal = at-if1 .before in
+    let at-start = at-refusal .before .before in
+    (accepts (at-start .args .control .now) (at-start .args .r) _ (at-refusal .refusal .ensures) (at-if1 .if1 .left)) .fits
 
 advance-sets-requires : tie.Need-advance-sets-requires
-advance-sets-requires c κs = (accepts (c .before .before .before .before .before .before .before .before .before .before .before .before .before .before .before .before .before .args .control .now) (c .before .before .before .before .before .before .before .before .before .before .before .before .before .before .before .before .before .args .r) _ (c .before .before .before .before .before .before .before .before .before .before .before .before .before .before .before .refusal .ensures) (c .before .before .before .before .before .before .before .before .before .before .before .before .before .before .if1 .left)) .fits
+advance-sets-requires c κs =
+    let at-if1 = c .before .before .before .before .before .before .before .before .before .before .before .before .before .before in
+    let at-refusal = at-if1 .before in
+    let at-start = at-refusal .before .before in
+    (accepts (at-start .args .control .now) (at-start .args .r) _ (at-refusal .refusal .ensures) (at-if1 .if1 .left)) .fits
 
 returns-2 : tie.Need-returns-2
 unfolding setStepOf
-returns-2 c = rw (← c .before .before .before .before .before .before .before .before .before .before .before .before .before .before .before .before .refusal .ensures, c .before .before .before .before .before .before .before .before .before .before .before .before .before .before .before .if1 .left, c .before .before .before .before .before .note .ensures, c .before .before .before .keep .ensures, c .advance-sets .ensures .0, c .advance-sets .ensures .1, c .before .before .before .before .before .before .before .before .answered .ensures, c .before .before .before .before .before .before .before .before .before .before .set-masks .ensures)
+returns-2 c =
+    let at-keep = c .before .before .before in
+    let at-note = at-keep .before .before in
+    let at-answered = at-note .before .before .before in
+    let at-set-masks = at-answered .before .before in
+    let at-if1 = at-set-masks .before .before .before .before .before in
+    let at-refusal = at-if1 .before in
+    rw (← at-refusal .refusal .ensures, at-if1 .if1 .left, at-note .note .ensures, at-keep .keep .ensures, c .advance-sets .ensures .0, c .advance-sets .ensures .1, at-answered .answered .ensures, at-set-masks .set-masks .ensures)
 
 pub set-step-in-place-spec : {M : Type 1} → statement M
 set-step-in-place-spec =

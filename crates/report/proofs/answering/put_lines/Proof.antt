@@ -32,14 +32,27 @@ next-parsed-requires c κs = c .before .before .loop .inv .0
 
 put-parsed-requires : tie.Need-put-parsed-requires Inv-loop μ-loop
 put-parsed-requires c κs =
-    let e = ends-before _ _ _ (c .before .before .before .before .before .before .before .before .before .loop-test .taken) (c .before .before .before .before .before .before .before .before .before .before .before .rest-start .ensures .0) (c .before .before .before .before .before .before .before .before .before .before .before .rest-start .ensures .2) in
-    (left-room (c .before .before .before .before .before .before .before .before .before .before .loop .inv .3) refl e, λ r q. only-sayable _ r (sym (c .before .before .before .before .before .before .before .next-parsed .ensures .0) ∙ q))
+    let at-next-parsed = c .before .before .before .before .before .before .before in
+    let at-loop-test = at-next-parsed .before .before in
+    let at-loop = at-loop-test .before in
+    let at-rest-start = at-loop .before in
+    let e = ends-before _ _ _ (at-loop-test .loop-test .taken) (at-rest-start .rest-start .ensures .0) (at-rest-start .rest-start .ensures .2) in
+    (left-room (at-loop .loop .inv .3) refl e, λ r q. only-sayable _ r (sym (at-next-parsed .next-parsed .ensures .0) ∙ q))
 
 loop-less : tie.Need-loop-less Inv-loop μ-loop
-loop-less c = let m = moved _ _ (ends-before _ _ _ (c .before .before .before .before .before .before .before .before .before .before .before .before .loop-test .taken) (c .before .before .before .before .before .before .before .before .before .before .before .before .before .before .rest-start .ensures .0) (c .before .before .before .before .before .before .before .before .before .before .before .before .before .before .rest-start .ensures .2)) (c .before .before .before .before .before .before .before .before .before .before .next-parsed .ensures .1) in omega (arith, m .0, m .1)
+loop-less c =
+    let at-next-parsed = c .before .before .before .before .before .before .before .before .before .before in
+    let at-loop-test = at-next-parsed .before .before in
+    let at-rest-start = at-loop-test .before .before in
+    let m = moved _ _ (ends-before _ _ _ (at-loop-test .loop-test .taken) (at-rest-start .rest-start .ensures .0) (at-rest-start .rest-start .ensures .2)) (at-next-parsed .next-parsed .ensures .1) in omega (arith, m .0, m .1)
 
 loop-again : tie.Need-loop-again Inv-loop μ-loop
-loop-again c = let e = ends-before _ _ _ (c .before .before .before .before .before .before .before .before .before .before .before .before .loop-test .taken) (c .before .before .before .before .before .before .before .before .before .before .before .before .before .before .rest-start .ensures .0) (c .before .before .before .before .before .before .before .before .before .before .before .before .before .before .rest-start .ensures .2) in let m = moved _ _ e (c .before .before .before .before .before .before .before .before .before .before .next-parsed .ensures .1) in (m .1, omega (arith, m .0, m .1, c .before .before .before .before .before .before .before .before .before .before .before .before .before .loop .inv .1), as-long (c .before .before .put-parsed .ensures .0 .1) ∙ c .before .before .before .before .before .before .before .before .before .before .before .before .before .loop .inv .2, left-taken (c .before .before .before .before .before .before .before .before .before .before .before .before .before .loop .inv .3) e (c .before .before .before .before .before .before .before .before .before .before .next-parsed .ensures .0) (c .before .before .before .before .before .before .before .before .before .before .next-parsed .ensures .1) (c .before .before .put-parsed .ensures .0 .1) (c .before .before .put-parsed .ensures .0 .0) (c .before .before .put-parsed .ensures .1))
+loop-again c =
+    let at-next-parsed = c .before .before .before .before .before .before .before .before .before .before in
+    let at-loop-test = at-next-parsed .before .before in
+    let at-loop = at-loop-test .before in
+    let at-rest-start = at-loop .before in
+    let e = ends-before _ _ _ (at-loop-test .loop-test .taken) (at-rest-start .rest-start .ensures .0) (at-rest-start .rest-start .ensures .2) in let m = moved _ _ e (at-next-parsed .next-parsed .ensures .1) in (m .1, omega (arith, m .0, m .1, at-loop .loop .inv .1), as-long (c .before .before .put-parsed .ensures .0 .1) ∙ at-loop .loop .inv .2, left-taken (at-loop .loop .inv .3) e (at-next-parsed .next-parsed .ensures .0) (at-next-parsed .next-parsed .ensures .1) (c .before .before .put-parsed .ensures .0 .1) (c .before .before .put-parsed .ensures .0 .0) (c .before .before .put-parsed .ensures .1))
 
 returns : tie.Need-returns Inv-loop μ-loop
 returns c = let w = past-last _ _ _ (c .loop-test .left) (c .before .before .rest-start .ensures .1) in (left-said (c .before .loop .inv .3) w, (c .before .loop .inv .0, c .before .loop .inv .3 .room, left-kept (c .before .loop .inv .3) w))

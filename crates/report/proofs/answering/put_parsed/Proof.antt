@@ -10,7 +10,10 @@ returns : tie.Need-returns
 returns c = let e = c .before .before .before .before .enum-told .given .1 in ((c .before .before .put-refused .ensures .1, rw e (c .before .before .put-refused .ensures .0)), rw e)
 
 put-answer-requires : tie.Need-put-answer-requires
-put-answer-requires c κs = let s = c .before .before .before .before .before .before .before .before .before .before .before .before .pre .1 _ (c .before .before .before .before .before .before .before .before .before .parsed .given .1) in (search needs, omega (arith, s .task-short), omega (arith, s .on-short))
+put-answer-requires c κs =
+    let at-parsed = c .before .before .before .before .before .before .before .before .before in
+    let at-start = at-parsed .before .before .before in
+    let s = at-start .pre .1 _ (at-parsed .parsed .given .1) in (search needs, omega (arith, s .task-short), omega (arith, s .on-short))
 
 returns-2 : tie.Need-returns-2
 returns-2 c =

@@ -10,7 +10,10 @@ returns : tie.Need-returns
 returns c = let e = lt-ltb _ _ (rw (c .before .line-count .ensures) at (c .if1 .taken)) in (rw e, rw e)
 
 returns-2 : tie.Need-returns-2
-returns-2 c = let e = le-ltb _ _ (rw (c .before .before .before .before .before .line-count .ensures) at (c .before .before .before .before .if1 .left)) in (rw e (c .before .before .write-report .ensures .place ∙ zero-add _), rw e (c .before .before .write-report .ensures .memory))
+returns-2 c =
+    let at-if1 = c .before .before .before .before in
+    let at-line-count = at-if1 .before in
+    let e = le-ltb _ _ (rw (at-line-count .line-count .ensures) at (at-if1 .if1 .left)) in (rw e (c .before .before .write-report .ensures .place ∙ zero-add _), rw e (c .before .before .write-report .ensures .memory))
 
 pub order-report-spec : {M : Type 1} → statement M
 order-report-spec =

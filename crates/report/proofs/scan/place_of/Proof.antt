@@ -29,22 +29,29 @@ passed-eight b s from h l =
 passed-sixteen : (c : tie.After-index-in) → let a = c .before .before .before .before .before .before .before .args in
     a .from + indexOf (a .b) (drop (a .from) (a .text .now)) ≡ a .from + 16 + indexOf (a .b) (drop (a .from + 16) (a .text .now))
 passed-sixteen c =
-    let a = c .before .before .before .before .before .before .before .args in
-    passed-over (a .b) (a .text .now) (a .from) (a .from + 16) (omega arith) (omega (arith, c .before .before .before .before .before .if1 .left)) (sym (c .before .before .before .has .ensures) ∙ c .before .before .if2 .left)
+    let at-has = c .before .before .before in
+    let at-if1 = at-has .before .before in
+    let at-start = at-if1 .before .before in
+    let a = at-start .args in
+    passed-over (a .b) (a .text .now) (a .from) (a .from + 16) (omega arith) (omega (arith, at-if1 .if1 .left)) (sym (at-has .has .ensures) ∙ c .before .before .if2 .left)
 
 returns-3 : tie.Need-returns-3
 returns-3 c =
+    let at-if1 = c .before .before .before .before .before .before in
+    let at-start = at-if1 .before .before in
     let n = c .before .index-in in
-    let a = c .before .before .before .before .before .before .before .before .args in
-    let l : a .from + 24 ≤ length (a .text .now) = omega (arith, c .before .before .before .before .before .before .if1 .left, c .before .before .before .before .before .before .before .before .pre) in
+    let a = at-start .args in
+    let l : a .from + 24 ≤ length (a .text .now) = omega (arith, at-if1 .if1 .left, at-start .pre) in
     let q : indexOf (a .b) (eight (a .text .now) (a .from)) < 8 = omega (arith, n .ensures, c .if3 .taken) in
     (omega (arith, passed-sixteen (c .before), found-eight (a .b) (a .text .now) (a .from) l q, n .ensures), omega (arith, l, c .if3 .taken))
 
 returns-4 : tie.Need-returns-4
 returns-4 c =
+    let at-if1 = c .before .before .before .before .before .before .before in
+    let at-start = at-if1 .before .before in
     let n = c .before .before .index-in in
-    let a = c .before .before .before .before .before .before .before .before .before .args in
-    let l : a .from + 24 ≤ length (a .text .now) = omega (arith, c .before .before .before .before .before .before .before .if1 .left, c .before .before .before .before .before .before .before .before .before .pre) in
+    let a = at-start .args in
+    let l : a .from + 24 ≤ length (a .text .now) = omega (arith, at-if1 .if1 .left, at-start .pre) in
     let q : 8 ≤ indexOf (a .b) (eight (a .text .now) (a .from)) = omega (arith, n .ensures, c .before .if3 .left) in
     (omega (arith, c .place-in3 .ensures .0, passed-sixteen (c .before .before), passed-eight (a .b) (a .text .now) (a .from) l q), search needs)
 

@@ -34,7 +34,9 @@ loop-less : tie.Need-loop-less Inv-loop μ-loop
 loop-less c = omega (arith, c .before .before .loop-test .taken)
 
 loop-again : tie.Need-loop-again Inv-loop μ-loop
-loop-again c = (omega (arith, c .before .before .before .loop .inv .0), one-before _ _ (c .before .before .loop-test .taken) (c .before .before .before .loop .inv .0) (c .if1 .left) (c .before .before .before .loop .inv .1))
+loop-again c =
+    let at-loop = c .before .before .before in
+    (omega (arith, at-loop .loop .inv .0), one-before _ _ (c .before .before .loop-test .taken) (at-loop .loop .inv .0) (c .if1 .left) (at-loop .loop .inv .1))
 
 returns-2 : tie.Need-returns-2 Inv-loop μ-loop
 returns-2 c = (c .before .loop .inv .0, c .before .loop .inv .1, λ h. absurd (omega (arith, c .loop-test .left)))

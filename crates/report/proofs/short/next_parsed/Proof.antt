@@ -12,7 +12,10 @@ returns-2 : tie.Need-returns-2
 returns-2 c = (sym (c .enum-told .given .1) ∙ c .before .before .parse-line .ensures ∙ ap parseOf (c .before .before .before .take-line .ensures .0), c .before .before .before .take-line .ensures .1)
 
 returns-3 : tie.Need-returns-3
-returns-3 c = (sym (c .before .r .given .1) ∙ c .before .before .before .parse-line .ensures ∙ ap parseOf (c .before .before .before .before .take-line .ensures .0), c .before .before .before .before .take-line .ensures .1)
+returns-3 c =
+    let at-parse-line = c .before .before .before in
+    let at-take-line = at-parse-line .before in
+    (sym (c .before .r .given .1) ∙ at-parse-line .parse-line .ensures ∙ ap parseOf (at-take-line .take-line .ensures .0), at-take-line .take-line .ensures .1)
 
 pub next-parsed-spec : {M : Type 1} → statement M
 next-parsed-spec =

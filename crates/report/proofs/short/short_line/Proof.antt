@@ -11,7 +11,10 @@ use Rattle.report.proofs.short.short_line.Tie as tie
 
 -- the op is within eight of the 24 bytes
 room : (c : tie.After-op-end) → let start = c .before .before .before .before .before in start .args .p + c .op-end .result + 16 ≤ length (start .args .s .now)
-room c = omega (arith, c .op-end .ensures, op-long (c .before .before .known-op .result) (omega (arith, c .before .if2 .left)), c .before .before .before .if1 .left, c .before .before .before .before .before .pre)
+room c =
+    let at-if1 = c .before .before .before in
+    let at-start = at-if1 .before .before in
+    omega (arith, c .op-end .ensures, op-long (c .before .before .known-op .result) (omega (arith, c .before .if2 .left)), at-if1 .if1 .left, at-start .pre)
 
 returns : tie.Need-returns
 returns c = λ h. absurd (omega (arith, h, c .not-short .ensures))
@@ -44,10 +47,16 @@ add-end : tie.Need-add-end
 add-end c = omega (arith, room (c .before .before .before .before .before .before .before .before), c .before .before .before .before .before .before .before .task-at .ensures .0, c .before .before .before .on-at .ensures .0)
 
 shared-slice-read-if5 : tie.Need-shared-slice-read-if5
-shared-slice-read-if5 c = omega (arith, room (c .before .before .before .before .before .before .before .before .before), c .before .before .before .before .before .before .before .before .task-at .ensures .0, c .before .before .before .before .on-at .ensures .0)
+shared-slice-read-if5 c =
+    let at-on-at = c .before .before .before .before in
+    let at-before = at-on-at .before .before .before .before in
+    omega (arith, room (at-before .before), at-before .task-at .ensures .0, at-on-at .on-at .ensures .0)
 
 add-to : tie.Need-add-to
-add-to c = omega (arith, room (c .before .before .before .before .before .before .before .before .before .before), c .before .before .before .before .before .before .before .before .before .task-at .ensures .0, c .before .before .before .before .before .on-at .ensures .0)
+add-to c =
+    let at-on-at = c .before .before .before .before .before in
+    let at-before = at-on-at .before .before .before .before in
+    omega (arith, room (at-before .before), at-before .task-at .ensures .0, at-on-at .on-at .ensures .0)
 
 returns-6 : tie.Need-returns-6
 returns-6 c =

@@ -17,10 +17,13 @@ returns-2 c = (omega arith, λ h. absurd (omega (arith, h)))
 
 returns-3 : tie.Need-returns-3
 returns-3 c =
-    let start = c .before .before .before .before .before .before .before .before in (
+    let at-if1 = c .before .before .before .before in
+    let at-has-four = at-if1 .before in
+    let at-before = at-has-four .before .before in
+    let start = at-before .before in (
       c .field-after .ensures .0,
       λ h. c .field-after .ensures .1 h (space ∷ taskName) refl
-          (says-task (start .args .s .now) (start .args .p) (c .before .before .before .before .before .has-four .ensures (not-false _ (c .before .before .before .before .if1 .left))) (c .before .before .has-four2 .ensures (not-false _ (c .before .if2 .left)))),
+          (says-task (start .args .s .now) (start .args .p) (at-has-four .has-four .ensures (not-false _ (at-if1 .if1 .left))) (c .before .before .has-four2 .ensures (not-false _ (c .before .if2 .left)))),
     )
 
 pub task-at-spec : {M : Type 1} → statement M

@@ -10,10 +10,15 @@ slice-aggregate-put-bytes : tie.Need-slice-aggregate-put-bytes
 slice-aggregate-put-bytes c = counted _ _ (c .before .before .least .ensures .1)
 
 put-bytes-requires : tie.Need-put-bytes-requires
-put-bytes-requires c κs = let l = length-take (c .before .before .least .result) (c .before .before .before .before .before .args .s .now) in omega (arith, l, c .before .before .least .ensures .0, c .before .before .before .before .before .pre .0, c .before .before .before .before .before .pre .1)
+put-bytes-requires c κs =
+    let at-start = c .before .before .before .before .before in
+    let l = length-take (c .before .before .least .result) (at-start .args .s .now) in omega (arith, l, c .before .before .least .ensures .0, at-start .pre .0, at-start .pre .1)
 
 returns : tie.Need-returns
-returns c = holds _ (c .before .before .before .before .before .before .before .before .pre .0) (c .before .before .before .before .before .before .before .before .pre .1) (c .before .before .before .before .before .least .ensures .0) (c .before .before .put-bytes .ensures)
+returns c =
+    let at-least = c .before .before .before .before .before in
+    let at-start = at-least .before .before .before in
+    holds _ (at-start .pre .0) (at-start .pre .1) (at-least .least .ensures .0) (c .before .before .put-bytes .ensures)
 
 pub hold-spec : {M : Type 1} → statement M
 hold-spec =

@@ -11,9 +11,11 @@ returns c = λ h. absurd (omega (arith, h))
 
 returns-2 : tie.Need-returns-2
 returns-2 c =
-    let start = c .before .before .before .before .before in
-    λ _. says-op (start .args .s .now) (start .args .p) (c .before .before .guess .result) (c .before .before .guess .ensures) (λ i. c .before .before .before .before .shared-slice-known .given i .fits)
-    (start .pre) (sym (c .before .before .before .eight .ensures) ∙ c .if1 .left ∙ c .before .op-bytes .ensures)
+    let at-eight = c .before .before .before in
+    let at-before = at-eight .before in
+    let start = at-before .before in
+    λ _. says-op (start .args .s .now) (start .args .p) (c .before .before .guess .result) (c .before .before .guess .ensures) (λ i. at-before .shared-slice-known .given i .fits)
+    (start .pre) (sym (at-eight .eight .ensures) ∙ c .if1 .left ∙ c .before .op-bytes .ensures)
 
 pub known-op-spec : {M : Type 1} → statement M
 known-op-spec =

@@ -45,10 +45,14 @@ returns-8 c = c .eight8 .ensures ∙ first-eight (c .before .before .if8 .taken)
 
 returns-9 : tie.Need-returns-9
 returns-9 c =
-    let k : ℕ = c .before .before .before .before .before .before .before .before .before .before .args .kind in
-    let h = c .before .before .before .before .before .before in
+    let at-if7 = c .before .before .before in
+    let at-if6 = at-if7 .before in
+    let at-before = at-if6 .before in
+    let at-start = at-before .before .before .before .before .before in
+    let k : ℕ = at-start .args .kind in
+    let h = at-before .before in
     let l : 4 ≤ k = four-on k (h .before .before .before .if1 .left) (h .before .before .if2 .left) (h .before .if3 .left) (h .if4 .left) in
-    c .eight9 .ensures ∙ first-eight (only-eight k (h .before .before .before .before .pre) l (c .before .before .before .before .before .if5 .left) (c .before .before .before .before .if6 .left) (c .before .before .before .if7 .left) (c .before .before .if8 .left))
+    c .eight9 .ensures ∙ first-eight (only-eight k (h .before .before .before .before .pre) l (at-before .if5 .left) (at-if6 .if6 .left) (at-if7 .if7 .left) (c .before .before .if8 .left))
 
 pub op-bytes-spec : {M : Type 1} → statement M
 op-bytes-spec =

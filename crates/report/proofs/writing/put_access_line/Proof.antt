@@ -10,23 +10,33 @@ use Rattle.report.proofs.writing.put_access_line.Tie as tie
 
 put-access-part-requires : tie.Need-put-access-part-requires
 unfolding digitsOf
-put-access-part-requires c κs = let a = c .before .before .before .args in omega (arith, length-access-part (a .number) (a .r .task) (a .r .on), length-access-line (a .number) (a .r .task) (a .r .on) (a .verdict .now) (a .partner))
+put-access-part-requires c κs =
+    let at-start = c .before .before .before in
+    let a = at-start .args in omega (arith, length-access-part (a .number) (a .r .task) (a .r .on), length-access-line (a .number) (a .r .task) (a .r .on) (a .verdict .now) (a .partner))
 
 put-bytes-requires : tie.Need-put-bytes-requires
 unfolding digitsOf
-put-bytes-requires c κs = let a = c .before .before .before .before .before .before .before .before .args in omega (arith, length-access-part (a .number) (a .r .task) (a .r .on), length-access-line (a .number) (a .r .task) (a .r .on) (a .verdict .now) (a .partner))
+put-bytes-requires c κs =
+    let at-start = c .before .before .before .before .before .before .before .before in
+    let a = at-start .args in omega (arith, length-access-part (a .number) (a .r .task) (a .r .on), length-access-line (a .number) (a .r .task) (a .r .on) (a .verdict .now) (a .partner))
 
 put-bytes-requires-2 : tie.Need-put-bytes-requires-2
 unfolding digitsOf
-put-bytes-requires-2 c κs = let a = c .before .before .before .before .before .before .before .before .before .before .before .before .args in omega (arith, length-access-part (a .number) (a .r .task) (a .r .on), length-access-line (a .number) (a .r .task) (a .r .on) (a .verdict .now) (a .partner))
+put-bytes-requires-2 c κs =
+    let at-start = c .before .before .before .before .before .before .before .before .before .before .before .before in
+    let a = at-start .args in omega (arith, length-access-part (a .number) (a .r .task) (a .r .on), length-access-line (a .number) (a .r .task) (a .r .on) (a .verdict .now) (a .partner))
 
 put-bytes-requires-3 : tie.Need-put-bytes-requires-3
 unfolding digitsOf
-put-bytes-requires-3 c κs = let a = c .before .before .before .before .before .before .before .before .before .before .before .before .before .before .before .before .before .args in omega (arith, length-access-part (a .number) (a .r .task) (a .r .on), length-access-line (a .number) (a .r .task) (a .r .on) (a .verdict .now) (a .partner))
+put-bytes-requires-3 c κs =
+    let at-start = c .before .before .before .before .before .before .before .before .before .before .before .before .before .before .before .before .before in
+    let a = at-start .args in omega (arith, length-access-part (a .number) (a .r .task) (a .r .on), length-access-line (a .number) (a .r .task) (a .r .on) (a .verdict .now) (a .partner))
 
 put-five-requires : tie.Need-put-five-requires
 unfolding digitsOf
-put-five-requires c κs = let a = c .before .before .before .before .before .before .before .before .before .before .before .before .before .before .before .before .before .before .before .before .before .args in omega (arith, length-access-part (a .number) (a .r .task) (a .r .on), length-access-line (a .number) (a .r .task) (a .r .on) (a .verdict .now) (a .partner))
+put-five-requires c κs =
+    let at-start = c .before .before .before .before .before .before .before .before .before .before .before .before .before .before .before .before .before .before .before .before .before in
+    let a = at-start .args in omega (arith, length-access-part (a .number) (a .r .task) (a .r .on), length-access-line (a .number) (a .r .task) (a .r .on) (a .verdict .now) (a .partner))
 
 put-bytes-requires-4 : tie.Need-put-bytes-requires-4
 unfolding digitsOf

@@ -18,19 +18,27 @@ put-five-requires c κs = let a = c .before .before .before .before .before .bef
 
 put-bytes-requires-2 : tie.Need-put-bytes-requires-2
 unfolding digitsOf
-put-bytes-requires-2 c κs = let a = c .before .before .before .before .before .before .before .before .before .before .before .before .args in omega (arith, length-access-part (a .number) (a .task) (a .variable))
+put-bytes-requires-2 c κs =
+    let at-start = c .before .before .before .before .before .before .before .before .before .before .before .before in
+    let a = at-start .args in omega (arith, length-access-part (a .number) (a .task) (a .variable))
 
 put-decimal-requires : tie.Need-put-decimal-requires
 unfolding digitsOf
-put-decimal-requires c κs = let a = c .before .before .before .before .before .before .before .before .before .before .before .before .before .before .before .before .args in omega (arith, length-access-part (a .number) (a .task) (a .variable))
+put-decimal-requires c κs =
+    let at-start = c .before .before .before .before .before .before .before .before .before .before .before .before .before .before .before .before in
+    let a = at-start .args in omega (arith, length-access-part (a .number) (a .task) (a .variable))
 
 put-bytes-requires-3 : tie.Need-put-bytes-requires-3
 unfolding digitsOf
-put-bytes-requires-3 c κs = let a = c .before .before .before .before .before .before .before .before .before .before .before .before .before .before .before .before .before .before .before .before .before .args in omega (arith, length-access-part (a .number) (a .task) (a .variable))
+put-bytes-requires-3 c κs =
+    let at-start = c .before .before .before .before .before .before .before .before .before .before .before .before .before .before .before .before .before .before .before .before .before in
+    let a = at-start .args in omega (arith, length-access-part (a .number) (a .task) (a .variable))
 
 put-decimal-requires-2 : tie.Need-put-decimal-requires-2
 unfolding digitsOf
-put-decimal-requires-2 c κs = let a = c .before .before .before .before .before .before .before .before .before .before .before .before .before .before .before .before .before .before .before .before .before .before .before .before .before .args in omega (arith, length-access-part (a .number) (a .task) (a .variable))
+put-decimal-requires-2 c κs =
+    let at-start = c .before .before .before .before .before .before .before .before .before .before .before .before .before .before .before .before .before .before .before .before .before .before .before .before .before in
+    let a = at-start .args in omega (arith, length-access-part (a .number) (a .task) (a .variable))
 
 returns : tie.Need-returns
 unfolding accessPart

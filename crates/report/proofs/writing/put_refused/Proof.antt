@@ -12,13 +12,19 @@ put-decimal-requires : tie.Need-put-decimal-requires
 put-decimal-requires c κs = let a = c .before .before .before .before .before .before .before .args in omega (arith, decimal-fits 19 (a .line) (omega arith), decimal-fits 9 (a .number) (omega arith))
 
 put-bytes-requires-2 : tie.Need-put-bytes-requires-2
-put-bytes-requires-2 c κs = let a = c .before .before .before .before .before .before .before .before .before .before .before .before .args in omega (arith, decimal-fits 19 (a .line) (omega arith), decimal-fits 9 (a .number) (omega arith))
+put-bytes-requires-2 c κs =
+    let at-start = c .before .before .before .before .before .before .before .before .before .before .before .before in
+    let a = at-start .args in omega (arith, decimal-fits 19 (a .line) (omega arith), decimal-fits 9 (a .number) (omega arith))
 
 put-decimal-requires-2 : tie.Need-put-decimal-requires-2
-put-decimal-requires-2 c κs = let a = c .before .before .before .before .before .before .before .before .before .before .before .before .before .before .before .before .args in omega (arith, decimal-fits 19 (a .line) (omega arith), decimal-fits 9 (a .number) (omega arith))
+put-decimal-requires-2 c κs =
+    let at-start = c .before .before .before .before .before .before .before .before .before .before .before .before .before .before .before .before in
+    let a = at-start .args in omega (arith, decimal-fits 19 (a .line) (omega arith), decimal-fits 9 (a .number) (omega arith))
 
 put-bytes-requires-3 : tie.Need-put-bytes-requires-3
-put-bytes-requires-3 c κs = let a = c .before .before .before .before .before .before .before .before .before .before .before .before .before .before .before .before .before .before .before .before .before .args in omega (arith, decimal-fits 19 (a .line) (omega arith), decimal-fits 9 (a .number) (omega arith))
+put-bytes-requires-3 c κs =
+    let at-start = c .before .before .before .before .before .before .before .before .before .before .before .before .before .before .before .before .before .before .before .before .before in
+    let a = at-start .args in omega (arith, decimal-fits 19 (a .line) (omega arith), decimal-fits 9 (a .number) (omega arith))
 
 returns : tie.Need-returns
 unfolding refusedLine
