@@ -12,9 +12,9 @@ use Rattle.theory.specs.Acceptance.{Phase, isLive, isUnseen, phaseBy, ph
 use Rattle.theory.proofs.ExactControl.{phase-snoc}
 use Rattle.theory.proofs.Carry.{Node, due, acted, Tells, own, own-next, own-acted, by-start}
 use Rattle.theory.proofs.Reach.{Filling, arrived, full, heard-due, told-due, told-acted}
-use Rattle.theory.proofs.Tests.{Some, this, further, some-map, some-snoc, snoc-some, snoc-last}
+use Rattle.theory.proofs.Tests.{Some, some-map, some-snoc, snoc-some, snoc-last}
 use Rattle.theory.proofs.Came.{Came, Newly, Onward, came-next}
-use Rattle.theory.proofs.Reflects.{Reflects, right, wrong, equal, by-test}
+use Rattle.theory.proofs.Reflects.{Reflects, right, wrong, equal}
 
 -- Definition
 

@@ -10,11 +10,8 @@ use lib.Pow.{pow-mono}
 use Rattle.theory.specs.Turns.{turns}
 use Rattle.theory.specs.Reckonings.{bitOf, maskOf, lowestTask}
 
--- a mask of i bits leaves room for one more
-pub mask-room : (i m : ℕ) → i < 16 → m < 2 ^ i → 2 * m + 1 < 65536
-mask-room i m h l = let k : i ≤ 15 = omega arith in let p : 2 ^ i ≤ 2 ^ 15 = pow-mono k in omega arith
-
-pub mask-next : (i m b : ℕ) → m < 2 ^ i → b ≤ 1 → b + 2 * m < 2 ^ (i + 1)
+-- a mask of i bits with one more
+mask-next : (i m b : ℕ) → m < 2 ^ i → b ≤ 1 → b + 2 * m < 2 ^ (i + 1)
 mask-next i m b h l = rw (add-one i) (omega (arith, pow-suc 2 i))
 
 -- the lowest bit of a number that is not 0 is one of its bits

@@ -18,7 +18,7 @@ use Rattle.theory.proofs.Reach.{Filling, arrived, full, heard-due, hear
 use Rattle.theory.proofs.Tables.{Sized, Joins, Knows, fresh-cell, fresh-none}
 use Rattle.theory.proofs.Acting.{flow-knows}
 use Rattle.theory.proofs.Mixing.{NamedKnows, mix-hub, mix-told, mix-untold}
-use Rattle.theory.proofs.Nodes.{row, InRange, due-in, Object, a-semaphore, a-flag, object-in, object-row, row-below, row-one, heardNode, toldNode, readNode, read-row, told-row, read-in, told-in, told-tells, hears-cases, tells-cases, read-hears, heard-read, joined-in, told-object}
+use Rattle.theory.proofs.Nodes.{row, InRange, due-in, Object, a-semaphore, a-flag, object-row, row-below, row-one, heardNode, toldNode, readNode, read-row, told-row, read-in, told-in, told-tells, hears-cases, tells-cases, read-hears, heard-read, joined-in, told-object}
 use Rattle.theory.proofs.Marks.{bit-named, named-bit, told-test, test-told}
 use Rattle.theory.proofs.Tests.{some-snoc, snoc-some, snoc-last}
 use Rattle.theory.proofs.Places.{Occurs}

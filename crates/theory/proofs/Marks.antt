@@ -8,9 +8,9 @@ use lib.Dec.{T}
 use Rattle.theory.specs.Completion.{bit, Named}
 use Rattle.theory.specs.Tables.{isTold}
 use Rattle.theory.proofs.Reflects.{by-test, both, at-most, passed, passes}
-use Rattle.theory.proofs.Carry.{Node, due, acted, semaphore, flag}
-use Rattle.theory.proofs.Fullest.{Heard, Told, named-task}
-use Rattle.theory.proofs.Reach.{heard-due, heard-acted, heard-semaphore, heard-flag, told-due, told-semaphore, told-flag}
+use Rattle.theory.proofs.Carry.{Node}
+use Rattle.theory.proofs.Fullest.{Told}
+use Rattle.theory.proofs.Reach.{told-due, told-semaphore, told-flag}
 use Rattle.theory.proofs.Nodes.{row, InRange, due-in, semaphore-in, flag-in}
 
 pub bit-named : (mask t : ℕ) → t < 16 → T (bit mask t) → Named mask t
@@ -42,10 +42,3 @@ module _ {mask : ℕ} where
   test-told some (due-in {t = t} h) x = told-due .1 (bit-named mask t h (subst T (told-at-due mask t h) x))
   test-told some (semaphore-in h) x = told-semaphore .1 (h, some)
   test-told some (flag-in h) x = told-flag .1 (h, some)
-
--- what a mark hears is in range
-pub heard-in-range : {mask : ℕ} {n : Node} → Heard mask n → InRange n
-heard-in-range {n = due t} x = due-in (named-task (heard-due .0 x))
-heard-in-range {n = acted t} x = absurd (heard-acted x)
-heard-in-range {n = semaphore s} x = semaphore-in (heard-semaphore .0 x .0)
-heard-in-range {n = flag f} x = flag-in (heard-flag .0 x .0)

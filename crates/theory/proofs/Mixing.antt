@@ -11,8 +11,8 @@ use lib.ListN.{set}
 use Rattle.theory.specs.Turns.{turns}
 use Rattle.theory.specs.Completion.{bit}
 use Rattle.theory.specs.Tables.{cell, joinRow, rowOf, putRow, isTold, hub, rowOrHub, gather, spread, noteNamed, mix}
-use Rattle.theory.proofs.Reflects.{Reflects, right, wrong, equal, by-test}
-use Rattle.theory.proofs.Tables.{Sized, Same, Joins, Knows, knows-same, sized-set, sized-turns, sized-join, sized-put, row-cell, put-same, put-other, cell-set-same, cell-set-other, join-self, join-cell-other, join-knows}
+use Rattle.theory.proofs.Reflects.{Reflects, right, wrong, equal}
+use Rattle.theory.proofs.Tables.{Sized, Joins, Knows, knows-same, sized-set, sized-turns, sized-join, sized-put, row-cell, put-same, put-other, cell-set-same, cell-set-other, join-self, join-cell-other, join-knows}
 
 -- Size
 

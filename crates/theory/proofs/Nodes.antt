@@ -1,16 +1,15 @@
 -- Nodes and the rows that the tables have for them: one row for each node in range. That a task has acted has none: where it has, order
--- that has come to its next act has come to that (Joined). Assumes nothing.
+-- that has come to its next act has come to that (Acted.antt). Assumes nothing.
 use mathlib.Core.Path.{_≡_, refl, sym, _∙_, ap}
 use mathlib.Core.Bool.{Bool, true, false, cond}
 use mathlib.Core.List.{List}
 use mathlib.Core.Logic.{_⊎_, inl, inr}
-use Prim.Native.Nat.{ℕ, suc, _+_, _-_, _≤_, _<_}
+use Prim.Native.Nat.{ℕ, _+_, _-_, _≤_, _<_}
 use native.Mathlib.Omega.{arith}
 use borrow.Author.Tests.{lt-ltb, le-ltb}
 use lib.Dec.{ltb}
 use Rattle.theory.specs.Recording.{Op, read, write, take, give, look, set, start, join, act, series, kind}
 use Rattle.theory.specs.Tables.{cell, actedRow, joinsActed, heardRow, toldRow}
-use Rattle.theory.proofs.Reflects.{Reflects, right, wrong, at-most}
 use Rattle.theory.proofs.Carry.{Node, due, acted, semaphore, flag, Hears, own, by-take, by-look, by-join, Tells, own-next, own-acted, by-give, by-set, by-start}
 
 -- Rows
@@ -30,10 +29,6 @@ pub data InRange : Node → Type 0 where
 pub data Object : Node → Type 0 where
   a-semaphore : {s : ℕ} → s < 32 → Object (semaphore s)
   a-flag : {f : ℕ} → f < 32 → Object (flag f)
-
-pub object-in : {n : Node} → Object n → InRange n
-object-in (a-semaphore h) = semaphore-in h
-object-in (a-flag h) = flag-in h
 
 pub object-row : {n : Node} → Object n → 16 ≤ row n
 object-row (a-semaphore h) = omega arith
@@ -58,18 +53,6 @@ node-row (flag-in {f = f} h) = rw (le-ltb (48 + f) 16 (omega arith), le-ltb (48 
 -- the row tells the node
 pub row-one : {n m : Node} → InRange n → InRange m → row n ≡ row m → n ≡ m
 row-one a b e = sym (node-row a) ∙ (ap node e ∙ node-row b)
-
--- each row of a task or an object is that of a node
-pub row-node : (r : ℕ) → r < 80 → (n : Node) × InRange n × (row n ≡ r)
-row-node r h = low (at-most (suc r) 16)
-  where
-    top : {b : Bool} → 16 ≤ r → Reflects (r < 48) b → (n : Node) × InRange n × (row n ≡ r)
-    top l (right k) = (semaphore (r - 16), semaphore-in {s = r - 16} (omega arith), omega arith)
-    top l (wrong k) = (flag (r - 48), flag-in {f = r - 48} (omega arith), omega arith)
-
-    low : {b : Bool} → Reflects (r < 16) b → (n : Node) × InRange n × (row n ≡ r)
-    low (right k) = (due r, due-in k, refl)
-    low (wrong k) = top (omega arith) (at-most (suc r) 48)
 
 -- Acts
 
