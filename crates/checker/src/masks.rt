@@ -12,12 +12,20 @@ ghost use mathlib.Core.Bool.{false, not};
 ghost use lib.Dec.{eqb};
 ghost use Rattle.theory.specs.Acceptance.{Fitting};
 
+// The bit of weight 2 to the power k.
+pub(crate) fn weight(k: u32) -> u32
+    requires { ⌜ k < 32 ⌝ }
+    ensures { λ r. ⌜ (r ≡ 2 ^ k) × (r < 2 ^ 32) ⌝ }
+{
+    1 << k
+}
+
 // What task u adds to a mask that it is in or not.
 pub(crate) fn weight_of(b: bool, u: u32) -> u32
     requires { ⌜ u < 16 ⌝ }
     ensures { λ r. ⌜ r ≡ bitOf b * 2 ^ u ⌝ }
 {
-    if b { 1 << u } else { 0 }
+    if b { weight(u) } else { 0 }
 }
 
 // The lowest-numbered task of a mask that is not empty.

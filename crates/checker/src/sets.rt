@@ -9,6 +9,7 @@ use crate::history::slot;
 use crate::kinds::JOIN;
 use crate::kinds::LOST;
 use crate::kinds::WRITE;
+use crate::masks::weight;
 use crate::masks::weight_of;
 use crate::refusals::both;
 use crate::rows::HUB;
@@ -167,15 +168,7 @@ fn picked(first: bool, one: u32, other: u32) -> u32
     if first { one } else { other }
 }
 
-// The bit of weight 2 to the power k.
-fn weight(k: u32) -> u32
-    requires { ⌜ k < 32 ⌝ }
-    ensures { λ r. ⌜ (r ≡ 2 ^ k) × (r < 2 ^ 32) ⌝ }
-{
-    1 << k
-}
-
-// All the other bits.
+// All bits of a word but that of weight 2 to the power k.
 fn all_but(k: u32) -> u32
     requires { ⌜ k < 32 ⌝ }
     ensures { λ r. ⌜ r ≡ 2 ^ 32 - 1 - 2 ^ k ⌝ }

@@ -94,20 +94,26 @@ module _ {w : Filling} {Chosen : Event → List Event → Type 0} {Stays : Type 
 
 -- Marks
 
-no-tells : {mask : ℕ} {m : Node} → ¬ Tells (lost mask) m
+pub no-tells : {mask : ℕ} {m : Node} → ¬ Tells (lost mask) m
 no-tells x = elim x [ ]
 
 module _ {Chosen : Event → List Event → Type 0} {Stays : Type 0} {es : List Event} {i : ℕ} (mask : ℕ)
     (keeps : (e : Event) (after : List Event) → Chosen e (after ++ (lost mask ∷ [])) ↔ (Stays × Chosen e after)) where
   -- as it arrived a mark changes nothing
-  pub ended-mark : Stays → Ended arrived Chosen es i → Ended arrived Chosen (es ++ (lost mask ∷ [])) i
-  ended-mark stays x = record { acting = λ u c. snoc-some (lost mask) (x .acting u (before (came-next es (lost mask) keeps .0 c))); joined = λ u a c. came-next es (lost mask) keeps .1 (inl (stays, inl (x .joined u (past (some-snoc es a)) (before (came-next es (lost mask) keeps .0 c))))) }
+  pub mark-came : {m : Node} → Came arrived Chosen (es ++ (lost mask ∷ [])) i m → Came arrived Chosen es i m
+  mark-came d = of (came-next es (lost mask) keeps .0 d)
     where
-      before : {m : Node} → (Stays × Onward arrived Chosen es (lost mask) i m) ⊎ (Newly Chosen es (lost mask) i × Tells (lost mask) m) → Came arrived Chosen es i m
-      before (inl (s, inl c)) = c
-      before (inl (s, inr (p, c, f))) = absurd f
-      before (inr (c, y)) = absurd (no-tells y)
+      of : {m : Node} → (Stays × Onward arrived Chosen es (lost mask) i m) ⊎ (Newly Chosen es (lost mask) i × Tells (lost mask) m) → Came arrived Chosen es i m
+      of (inl (s, inl c)) = c
+      of (inl (s, inr (p, c, f))) = absurd f
+      of (inr (c, y)) = absurd (no-tells y)
 
+  pub came-mark : {m : Node} → Stays → Came arrived Chosen es i m → Came arrived Chosen (es ++ (lost mask ∷ [])) i m
+  came-mark stays d = came-next es (lost mask) keeps .1 (inl (stays, inl d))
+
+  pub ended-mark : Stays → Ended arrived Chosen es i → Ended arrived Chosen (es ++ (lost mask ∷ [])) i
+  ended-mark stays x = record { acting = λ u c. snoc-some (lost mask) (x .acting u (mark-came c)); joined = λ u a c. came-mark stays (x .joined u (past (some-snoc es a)) (mark-came c)) }
+    where
       past : {u : ℕ} → Acted arrived u es ⊎ ⊥ → Acted arrived u es
       past (inl a) = a
       past (inr f) = absurd f

@@ -118,9 +118,6 @@ pub record Summed (p : ℕ → Bool) (u m : ℕ) : Type 0 where
   pub room : m < 2 ^ u
   pub is : m ≡ sums p u
 
-pub weight-small : (u : ℕ) → u < 16 → 1 * 2 ^ u % 4294967296 ≡ 1 * 2 ^ u
-weight-small u h = let k : u ≤ 15 = omega arith in let p : 2 ^ u ≤ 2 ^ 15 = pow-mono k in omega arith
-
 sum-lt : (u m : ℕ) (b : Bool) → m < 2 ^ u → m + bitOf b * 2 ^ u < 2 ^ (u + 1)
 sum-lt u m true h = rw (add-one u) (omega (arith, pow-suc 2 u))
 sum-lt u m false h = rw (add-one u) (omega (arith, pow-suc 2 u))

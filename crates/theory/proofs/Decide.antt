@@ -13,7 +13,7 @@ use Rattle.theory.specs.Verdict.{Latest, Partner}
 use Rattle.theory.specs.Decide.{Found, found, lower, apart, partner}
 use Rattle.theory.proofs.Reflects.{Reflects, right, wrong, both, fails, at-most}
 use Rattle.theory.proofs.Leads.{Leads}
-use Rattle.theory.proofs.Places.{Ends, Occurs, first, next}
+use Rattle.theory.proofs.Places.{Ends, Occurs, first, next, nowhere}
 use Rattle.theory.proofs.Tests.{Again, again-test, conflict-test, lead-test}
 use Rattle.theory.proofs.Latest.{final-latest, latest-final}
 
@@ -110,9 +110,6 @@ module _ {g : ℕ → List Event} {f : Event} where
 
   pub partner-outcome : (n : ℕ) (es : List Event) → Outcome g f n es (partner g f n es)
   partner-outcome n [] = nobody (λ t i c. nowhere (c .occurs))
-    where
-      nowhere : {i : ℕ} {e : Event} {after : List Event} → ¬ Occurs [] i e after
-      nowhere o = elim o [ ]
   partner-outcome n (e ∷ es) = at-first (apart-test e es) (partner-outcome (suc n) es)
     where
       at-first : {e : Event} {es : List Event} {b : Bool} {x : Option Found} → Reflects ((t : ℕ) × Apart g f t e es) b → Outcome g f (suc n) es x →

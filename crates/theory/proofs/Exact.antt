@@ -21,9 +21,9 @@ use Rattle.theory.proofs.Mixing.{NamedKnows, mix-hub, mix-told, mix-unt
 use Rattle.theory.proofs.Nodes.{row, InRange, due-in, Object, a-semaphore, a-flag, object-row, row-below, row-one, heardNode, toldNode, readNode, read-row, told-row, read-in, told-in, told-tells, hears-cases, tells-cases, read-hears, heard-read, joined-in, told-object}
 use Rattle.theory.proofs.Marks.{bit-named, named-bit, told-test, test-told}
 use Rattle.theory.proofs.Tests.{some-snoc, snoc-some, snoc-last}
-use Rattle.theory.proofs.Places.{Occurs}
+use Rattle.theory.proofs.Places.{nowhere}
 use Rattle.theory.proofs.Came.{Came, came-acted, Newly, Onward, came-next}
-use Rattle.theory.proofs.Acted.{ActsAs, Acted, Ended, ended-act, ended-mark, ended-mix, none-acted}
+use Rattle.theory.proofs.Acted.{ActsAs, Acted, Ended, ended-act, no-tells, mark-came, came-mark, ended-mark, ended-mix, none-acted}
 use Rattle.theory.proofs.Reflects.{Reflects, right, wrong, same-as, equal, at-most, by-test}
 
 -- Definition
@@ -222,9 +222,6 @@ told-heard (acted t) y d = (due t, heard-due .1 (told-acted .0 y), came-acted d)
 told-heard (semaphore s) y d = (semaphore s, heard-semaphore .1 (told-semaphore .0 y), d)
 told-heard (flag f) y d = (flag f, heard-flag .1 (told-flag .0 y), d)
 
-no-tells : {mask : ℕ} {m : Node} → ¬ Tells (lost mask) m
-no-tells x = elim x [ ]
-
 -- a mark that names a task hears every object
 heard-object : {mask : ℕ} → (t : ℕ) × Named mask t → {m : Node} → Object m → Heard mask m
 heard-object some (a-semaphore h) = heard-semaphore .1 (h, some)
@@ -236,15 +233,10 @@ module _ {P : ℕ → Type 0} {Chosen : Event → List Event → Type 0} {Stays 
   pub exact-mark : Exact P arrived Chosen es width b i c → Exact P arrived Chosen (es ++ (lost mask ∷ [])) width b i c
   exact-mark x =
       record {
-        cells = λ m r. (λ a. came-next es (lost mask) keeps .1 (inl (stays, inl (x .cells m r .0 a))), λ d. x .cells m r .1 (from (came-next es (lost mask) keeps .0 d)));
-        hub = (λ a. let (m, k, d) = x .hub .0 a in (m, k, came-next es (lost mask) keeps .1 (inl (stays, inl d))), λ d. x .hub .1 (d .0, d .1, from (came-next es (lost mask) keeps .0 (d .2))));
+        cells = λ m r. (λ a. came-mark mask keeps stays (x .cells m r .0 a), λ d. x .cells m r .1 (mark-came mask keeps d));
+        hub = (λ a. let (m, k, d) = x .hub .0 a in (m, k, came-mark mask keeps stays d), λ d. x .hub .1 (d .0, d .1, mark-came mask keeps (d .2)));
         ended = ended-mark mask keeps stays (x .ended);
       }
-    where
-      from : {m : Node} → (Stays × Onward arrived Chosen es (lost mask) i m) ⊎ (Newly Chosen es (lost mask) i × Tells (lost mask) m) → Came arrived Chosen es i m
-      from (inl (s, inl d)) = d
-      from (inl (s, inr (p, d, f))) = absurd f
-      from (inr (d, y)) = absurd (no-tells y)
 
   -- in the fullest filling it mixes
   module _ {j : ℕ → ℕ → ℕ} (joins : Joins j P) (sized : Sized width b) (wide : 16 ≤ width) (hc : c < width) (some : (t : ℕ) × Named mask t) (x : Exact P full Chosen es width b i c) where
@@ -330,9 +322,6 @@ pub acted-mix : {es : List Event} {width : ℕ} {b b′ : List ℕ} (mask : ℕ)
 acted-mix mask e x = acted-next (lost mask) (bit mask) (λ t h. same-as (bit-named mask t h) named-bit (by-test (bit mask t))) e x
 
 -- Fresh tables
-
-nowhere : {j : ℕ} {e : Event} {after : List Event} → ¬ Occurs [] j e after
-nowhere o = elim o [ ]
 
 pub fresh-exact : {P : ℕ → Type 0} {w : Filling} {Chosen : Event → List Event → Type 0} {width i c : ℕ} → ¬ P 0 → c < width →
     Exact P w Chosen [] width (replicate (82 * width) 0) i c

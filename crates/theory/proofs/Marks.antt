@@ -1,4 +1,4 @@
--- What a mark hears and tells, by the rows of the tables. Assumes nothing.
+-- Which tasks a mark names, and what it tells, by the rows of the tables. Assumes nothing.
 use mathlib.Core.Path.{_≡_, sym, subst}
 use mathlib.Core.Bool.{Bool, true}
 use Prim.Native.Nat.{ℕ, suc, _+_, _≤_, _<_}

@@ -7,12 +7,11 @@ use mathlib.Core.List.{List}
 use Prim.Native.Nat.{ℕ, zero, suc, _+_, _*_, _≤_, _<_}
 use native.Mathlib.Omega.{arith}
 use lib.Dec.{T, lit<}
-use lib.ListN.{set}
 use Rattle.theory.specs.Turns.{turns}
 use Rattle.theory.specs.Completion.{bit}
 use Rattle.theory.specs.Tables.{cell, joinRow, rowOf, putRow, isTold, hub, rowOrHub, gather, spread, noteNamed, mix}
 use Rattle.theory.proofs.Reflects.{Reflects, right, wrong, equal}
-use Rattle.theory.proofs.Tables.{Sized, Joins, Knows, knows-same, sized-set, sized-turns, sized-join, sized-put, row-cell, put-same, put-other, cell-set-same, cell-set-other, join-self, join-cell-other, join-knows}
+use Rattle.theory.proofs.Tables.{Sized, Joins, Knows, knows-same, sized-set, sized-turns, sized-join, sized-put, in-table, one-place, stores-at, stores-other, row-cell, put-same, put-other, join-self, join-cell-other, join-knows}
 
 -- Size
 
@@ -152,35 +151,18 @@ module _ {w : ℕ} {b : List ℕ} (s : Sized w b) (mask c : ℕ) (l : c < w) whe
 -- Named tasks
 
 module _ {w : ℕ} {b : List ℕ} (s : Sized w b) (mask : ℕ) (wide : 16 ≤ w) where
-  abbrev Noted : ℕ → List ℕ
-  Noted n = turns n (λ t x. set x (81 * w + t) (cond (bit mask t) 1 (cell w x 81 t))) b
-
-  noted-other : (n r c : ℕ) → n ≤ 16 → c < w → ¬ ((r ≡ 81) × (c < n)) → cell w (Noted n) r c ≡ cell w b r c
-  unfolding turns
-  noted-other zero r c h l d = refl
-  noted-other (suc n) r c h l d =
-      cell-set-other w (Noted n) 81 n _ r c (omega arith) l (λ x. d (x .0, omega (arith, x .1)))
-      ∙ noted-other n r c (omega arith) l (λ x. d (x .0, omega arith))
-
-  noted-same : (n t : ℕ) → n ≤ 16 → t < n → cell w (Noted n) 81 t ≡ cond (bit mask t) 1 (cell w b 81 t)
-  unfolding turns
-  noted-same zero t h l = absurd (omega arith)
-  noted-same (suc n) t h l = decided (equal t n) (noted-same n t (omega arith))
-    where
-      decided : {p : Bool} → Reflects (t ≡ n) p → (t < n → cell w (Noted n) 81 t ≡ cond (bit mask t) 1 (cell w b 81 t)) →
-          cell w (set (Noted n) (81 * w + n) (cond (bit mask n) 1 (cell w (Noted n) 81 n))) 81 t ≡ cond (bit mask t) 1 (cell w b 81 t)
-      decided (right e) f =
-          rw (e, ← noted-other n 81 n (omega arith) (omega arith) (λ x. omega (arith, x .1)))
-          (cell-set-same (sized-turns n (λ k x z. sized-set z _ _) s) 81 n _ (omega arith) (omega arith))
-      decided (wrong d) f = cell-set-other w (Noted n) 81 n _ 81 t (omega arith) (omega arith) (λ x. d (x .1)) ∙ f (omega arith)
+  abbrev noted : ℕ → List ℕ → ℕ
+  noted t x = cond (bit mask t) 1 (cell w x 81 t)
 
   named-other : (r c : ℕ) → c < w → ¬ (r ≡ 81) → cell w (noteNamed w mask b) r c ≡ cell w b r c
   unfolding noteNamed
-  named-other r c l d = noted-other 16 r c (omega arith) l (λ x. d (x .0))
+  named-other r c l d = stores-other (81 * w) noted b 16 (r * w + c) (λ t h e. d (one-place w r 81 c t l (omega arith) e .0))
 
   named-cell : (t : ℕ) → t < 16 → cell w (noteNamed w mask b) 81 t ≡ cond (bit mask t) 1 (cell w b 81 t)
   unfolding noteNamed
-  named-cell t l = noted-same 16 t (omega arith) l
+  named-cell t l =
+      stores-at (81 * w) noted b 16 t l (in-table s (omega arith) (omega arith))
+      ∙ ap (cond (bit mask t) 1) (stores-other (81 * w) noted b t (81 * w + t) (λ c h e. omega arith))
 
 -- Marks
 

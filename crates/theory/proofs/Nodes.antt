@@ -14,6 +14,7 @@ use Rattle.theory.proofs.Carry.{Node, due, acted, semaphore, flag, Hear
 
 -- Rows
 
+-- of a node in range; what is written for `acted` is never asked
 abbrev pub row : Node → ℕ
 row (due t) = t
 row (acted t) = t

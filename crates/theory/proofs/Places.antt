@@ -20,6 +20,10 @@ pub data Occurs : List Event → ℕ → Event → List Event → Type 0 where
   first : {e : Event} {after : List Event} → Occurs (e ∷ after) zero e after
   next : {x e : Event} {es after : List Event} {i : ℕ} → Occurs es i e after → Occurs (x ∷ es) (suc i) e after
 
+-- nothing stands in the empty list
+pub nowhere : {i : ℕ} {e : Event} {after : List Event} → ¬ Occurs [] i e after
+nowhere o = elim o [ ]
+
 -- Places
 
 pub at-ends : {es : List Event} {k : ℕ} {f : Event} → At es k f → (before : List Event) × Ends es k before f

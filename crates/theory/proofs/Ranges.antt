@@ -9,8 +9,10 @@ use borrow.Author.Tests.{ne-eqb}
 use lib.Dec.{ltb, eqb}
 use Rattle.theory.specs.Recording.{seriesOf}
 use Rattle.theory.specs.Acceptance.{Fitting}
-use Rattle.theory.specs.Tables.{cell, actedRow, joinsActed, heardRow, toldRow}
+use Rattle.theory.specs.Tables.{cell, actedRow, joinsActed, heardRow, toldRow, onward}
 use Rattle.theory.proofs.Reflects.{Reflects, right, wrong, equal}
+use Rattle.theory.proofs.Tables.{Same}
+use Rattle.theory.proofs.Acting.{flow-alone}
 
 -- a row that is chosen by a test is in the table if each choice is
 chosen : (b : Bool) (x y : ℕ) → (b ≡ true → x < 80) → y < 80 → cond b x y < 80
@@ -42,7 +44,11 @@ told-fits {k} {t} {n} f =
     of-kind k 3 _ _ (λ e. let l = on-below 3 f e in omega arith)
     (of-kind k 5 _ _ (λ e. let l = on-below 5 f e in omega arith) (of-kind k 6 _ _ (λ e. let l = on-below 6 f e in omega arith) (omega arith)))
 
--- a join that is known to join a task that has acted is a join, of a task
+-- so they are in the table
+pub row-fits : {x y : ℕ} → x ≡ y → y < 80 → x < 82
+row-fits e h = omega arith
+
+-- an act that joins a task that has acted is a join
 pub joins-kind : (w : ℕ) (b : List ℕ) (k on : ℕ) → joinsActed w b k on ≡ true → k ≡ 7
 joins-kind w b k on e = decided (equal k 7) e
   where
@@ -56,10 +62,14 @@ access-series (suc zero) h = refl
 access-series (suc (suc k)) h = absurd (not-suc-le-zero (le-of-suc-le-suc (le-of-suc-le-suc h)))
 
 -- an access hears and tells no other row
-pub access-alone : (w : ℕ) (b : List ℕ) (k t n : ℕ) → k < 2 → (heardRow k t n (joinsActed w b k n) ≡ t) × (toldRow k t n ≡ t)
+access-alone : (w : ℕ) (b : List ℕ) (k t n : ℕ) → k < 2 → (heardRow k t n (joinsActed w b k n) ≡ t) × (toldRow k t n ≡ t)
 access-alone w b zero t n h = (refl, refl)
 access-alone w b (suc zero) t n h = (refl, refl)
 access-alone w b (suc (suc k)) t n h = absurd (not-suc-le-zero (le-of-suc-le-suc (le-of-suc-le-suc h)))
+
+-- so it passes nothing on, in clocks and sets alike
+pub access-onward : {j : ℕ → ℕ → ℕ} → Same j → (w k t n : ℕ) (b : List ℕ) → k < 2 → t < 16 → b ≡ onward j w k t n b
+access-onward s w k t n b h l = let a = access-alone w b k t n h in rw (a .0, a .1) (flow-alone s w t b l)
 
 -- `on` of an access is a variable
 pub access-fits : {k t n : ℕ} → Fitting k t n → k < 2 → n < 64

@@ -12,7 +12,7 @@ use Rattle.theory.specs.Recording.{Op, read, write, take, give, look, Ev
 use Rattle.theory.specs.Order.{isAccess}
 use Rattle.theory.specs.History.{accesses, slot, lastOf, lastAfter}
 use Rattle.theory.proofs.Reflects.{Reflects, right, wrong, equal, by-test}
-use Rattle.theory.proofs.Places.{Occurs}
+use Rattle.theory.proofs.Places.{Occurs, nowhere}
 use Rattle.theory.proofs.Came.{Snoc, old, new, occurs-snoc, occurs-old, occurs-new, occurs-short}
 
 -- Definition
@@ -144,6 +144,3 @@ fresh-history =
   where
     none : (s i : ℕ) → s < 2048 → ¬ (i < lastOf (replicate 2048 0) s)
     none s i l q = let e : lastOf (replicate 2048 0) s ≡ 0 = getD-replicate 2048 s 0 0 l in omega arith
-
-    nowhere : {j : ℕ} {e : Event} {after : List Event} → ¬ Occurs [] j e after
-    nowhere o = elim o [ ]

@@ -77,7 +77,7 @@ sized-join {w} s j to from = sized-turns w (λ k x t. sized-set t _ _) s
 row-end : (w r q : ℕ) → r < q → r * w + w ≤ q * w
 row-end w r q h = omega (arith, suc-mul r w, mul-le-mul-right w h)
 
-in-table : {w : ℕ} {b : List ℕ} {r c : ℕ} → Sized w b → r < 82 → c < w → r * w + c < length b
+pub in-table : {w : ℕ} {b : List ℕ} {r c : ℕ} → Sized w b → r < 82 → c < w → r * w + c < length b
 in-table {w} {r = r} s h l = omega (arith, row-end w r 82 h)
 
 -- each place is in one row and one column
@@ -208,7 +208,7 @@ join-kept {j} s w to from b {x} e h = (joined, ap (rowOf w from) joined ∙ (row
 -- Overwriting a row
 
 -- stores to n places in turn, from place k on
-abbrev stores : ℕ → (ℕ → List ℕ → ℕ) → ℕ → List ℕ → List ℕ
+abbrev pub stores : ℕ → (ℕ → List ℕ → ℕ) → ℕ → List ℕ → List ℕ
 stores k h n b = turns n (λ c x. set x (k + c) (h c x)) b
 
 module _ (k : ℕ) (h : ℕ → List ℕ → ℕ) (b : List ℕ) where
@@ -217,13 +217,13 @@ module _ (k : ℕ) (h : ℕ → List ℕ → ℕ) (b : List ℕ) where
   stores-length zero = refl
   stores-length (suc n) = length-set (stores k h n b) (k + n) _ ∙ stores-length n
 
-  stores-other : (n i : ℕ) → ((c : ℕ) → c < n → ¬ (i ≡ k + c)) → getD (stores k h n b) i 0 ≡ getD b i 0
+  pub stores-other : (n i : ℕ) → ((c : ℕ) → c < n → ¬ (i ≡ k + c)) → getD (stores k h n b) i 0 ≡ getD b i 0
   unfolding turns
   stores-other zero i f = refl
   stores-other (suc n) i f =
       getD-set-other (stores k h n b) (k + n) i _ 0 (f n (omega arith)) ∙ stores-other n i (λ c l. f c (omega arith))
 
-  stores-at : (n c : ℕ) → c < n → k + c < length b → getD (stores k h n b) (k + c) 0 ≡ h c (stores k h c b)
+  pub stores-at : (n c : ℕ) → c < n → k + c < length b → getD (stores k h n b) (k + c) 0 ≡ h c (stores k h c b)
   unfolding turns
   stores-at zero c l m = absurd (omega arith)
   stores-at (suc n) c l m = decided (equal c n) (λ q. stores-at n c q m)

@@ -31,21 +31,24 @@ clocksFull k task on number b = cond (eqb k lossMark) (mix max tasks on b) (cloc
 
 -- Sets: at row n and slot s whether order from the kept access of slot s has come to node n, as a bit: a word has 32 slots
 
-abbrev pub words : ℕ
-words = 64
+-- so many words a row
+abbrev pub slotWords : ℕ
+slotWords = 64
 
-abbrev pub wordOf : ℕ → ℕ
-wordOf s = s / 32
+-- the word of a slot, and its place there
+abbrev pub slotWord : ℕ → ℕ
+slotWord s = s / 32
 
-abbrev pub placeOf : ℕ → ℕ
-placeOf s = s % 32
+abbrev pub slotPlace : ℕ → ℕ
+slotPlace s = s % 32
 
+-- row r knows of the slot's access
 abbrev pub hasSlot : List ℕ → ℕ → ℕ → Bool
-hasSlot b r s = bit (cell words b r (wordOf s)) (placeOf s)
+hasSlot b r s = bit (cell slotWords b r (slotWord s)) (slotPlace s)
 
 -- what row r knows of the tasks' accesses of a kind to variable v: from bit 0 on a bit for each task
 abbrev pub knownSlots : List ℕ → ℕ → ℕ → ℕ → ℕ
-knownSlots b r k v = cell words b r (wordOf (slot k v 0)) / 2 ^ placeOf (slot k v 0)
+knownSlots b r k v = cell slotWords b r (slotWord (slot k v 0)) / 2 ^ slotPlace (slot k v 0)
 
 -- a word with the bit of weight 2 ^ k, and without it
 abbrev pub withBit : ℕ → ℕ → ℕ
@@ -54,25 +57,25 @@ withBit k x = bitOr x (2 ^ k)
 abbrev pub withoutBit : ℕ → ℕ → ℕ
 withoutBit k x = bitAnd x (2 ^ 32 - 1 - 2 ^ k)
 
--- no row knows of the slot's access
+-- no row does any more
 unfoldable pub clearSlot : ℕ → List ℕ → List ℕ
-clearSlot s b = turns rowCount (λ r b. set b (r * words + wordOf s) (withoutBit (placeOf s) (cell words b r (wordOf s)))) b
+clearSlot s b = turns rowCount (λ r b. set b (r * slotWords + slotWord s) (withoutBit (slotPlace s) (cell slotWords b r (slotWord s)))) b
 
 -- row r does
 abbrev pub addSlot : ℕ → ℕ → List ℕ → List ℕ
-addSlot r s b = set b (r * words + wordOf s) (withBit (placeOf s) (cell words b r (wordOf s)))
+addSlot r s b = set b (r * slotWords + slotWord s) (withBit (slotPlace s) (cell slotWords b r (slotWord s)))
 
 abbrev pub setOwn : ℕ → ℕ → ℕ → List ℕ → List ℕ
-setOwn k task on b = noteActed words task (cond (accesses k) (addSlot (dueRow task) (slot k on task) (clearSlot (slot k on task) b)) b)
+setOwn k task on b = noteActed slotWords task (cond (accesses k) (addSlot (dueRow task) (slot k on task) (clearSlot (slot k on task) b)) b)
 
 abbrev pub setAct : ℕ → ℕ → ℕ → List ℕ → List ℕ
-setAct k task on b = onward bitOr words k task on (setOwn k task on b)
+setAct k task on b = onward bitOr slotWords k task on (setOwn k task on b)
 
 abbrev pub setsArrived : ℕ → ℕ → ℕ → List ℕ → List ℕ
 setsArrived k task on b = cond (eqb k lossMark) b (setAct k task on b)
 
 abbrev pub setsFull : ℕ → ℕ → ℕ → List ℕ → List ℕ
-setsFull k task on b = cond (eqb k lossMark) (mix bitOr words on b) (setAct k task on b)
+setsFull k task on b = cond (eqb k lossMark) (mix bitOr slotWords on b) (setAct k task on b)
 
 -- Which tasks' latest conflicting access has no path to an access. A task's own never counts: order from it has come to its next act.
 

@@ -93,6 +93,7 @@ noteActed w task b = set b (actedRow * w + task) 1
 abbrev pub onward : (ℕ → ℕ → ℕ) → ℕ → ℕ → ℕ → ℕ → List ℕ → List ℕ
 onward j w k task on b = flow j w (heardRow k task on (joinsActed w b k on)) (toldRow k task on) task b
 
+-- the row, or the hub in its place, which joined with itself stays as it is
 abbrev pub rowOrHub : Bool → ℕ → ℕ
 rowOrHub true r = r
 rowOrHub false r = hub

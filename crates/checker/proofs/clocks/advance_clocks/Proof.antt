@@ -3,11 +3,10 @@ use mathlib.Core.Path.{_≡_, sym, ap, _∙_}
 use mathlib.Core.List.{List}
 use Prim.Native.Nat.{ℕ, _<_, max}
 use borrow.Author.Tests.{eq-eqb, ne-eqb, ltb-true}
-use Rattle.theory.specs.Tables.{flow, joinsActed, heardRow, toldRow, onward}
+use Rattle.theory.specs.Tables.{onward}
 use Rattle.theory.specs.Reckonings.{clockOwn, clockAct}
 use Rattle.theory.proofs.Tables.{same-max}
-use Rattle.theory.proofs.Acting.{flow-alone}
-use Rattle.theory.proofs.Ranges.{access-alone}
+use Rattle.theory.proofs.Ranges.{access-onward}
 use borrow.Author.Needs.{needs}
 use Rattle.checker.proofs.clocks.advance_clocks.Statement.{statement}
 use Rattle.checker.proofs.clocks.advance_clocks.Tie as tie
@@ -15,10 +14,10 @@ use Rattle.checker.proofs.clocks.advance_clocks.Tie as tie
 module _ (k t n m : ℕ) (b : List ℕ) {x : List ℕ} (e : x ≡ clockOwn t m b) where
   -- after an access its own part is all
   accessed : k < 2 → t < 16 → x ≡ clockAct k t n m b
-  accessed h l = let a = access-alone 16 (clockOwn t m b) k t n h in e ∙ rw (a .0, a .1) (flow-alone same-max 16 t (clockOwn t m b) l)
+  accessed h l = e ∙ access-onward same-max 16 k t n (clockOwn t m b) h l
 
   -- after another act its order, too
-  passed : {y : List ℕ} → y ≡ flow max 16 (heardRow k t n (joinsActed 16 x k n)) (toldRow k t n) t x → y ≡ clockAct k t n m b
+  passed : {y : List ℕ} → y ≡ onward max 16 k t n x → y ≡ clockAct k t n m b
   passed q = q ∙ ap (onward max 16 k t n) e
 
 returns : tie.Need-returns

@@ -1,8 +1,6 @@
 -- Order over an act, by the rows that it hears and tells.
 use mathlib.Core.Path.{sym, _∙_}
-use Prim.Native.Nat.{ℕ, _<_}
-use native.Mathlib.Omega.{arith}
-use Rattle.theory.proofs.Ranges.{heard-fits, told-fits, joins-kind}
+use Rattle.theory.proofs.Ranges.{heard-fits, told-fits, row-fits, joins-kind}
 use borrow.Author.Needs.{needs}
 use Rattle.checker.proofs.clocks.pass_on.Statement.{statement}
 use Rattle.checker.proofs.clocks.pass_on.Tie as tie
@@ -10,16 +8,13 @@ use Rattle.checker.proofs.clocks.pass_on.Tie as tie
 joins-acted-requires : tie.Need-joins-acted-requires
 joins-acted-requires c κs = λ e. rw e at (c .before .pre .on-fits)
 
-below : {r : ℕ} → r < 80 → r < 82
-below h = omega arith
-
 flow-requires : tie.Need-flow-requires
 flow-requires c κs =
     let b = c .before .before .before in
     let a = b .before .before .args in
     let f = b .before .before .pre in
     let h = heard-fits f (λ e. joins-kind 16 (a .cells .now) (a .kind) (a .on) (sym (b .joins-acted .ensures) ∙ e)) in
-    (rw (c .before .heard-row .ensures) (below h), rw (c .told-row .ensures) (below (told-fits f)), f .task-fits)
+    (row-fits (c .before .heard-row .ensures) h, row-fits (c .told-row .ensures) (told-fits f), f .task-fits)
 
 returns : tie.Need-returns
 returns c =

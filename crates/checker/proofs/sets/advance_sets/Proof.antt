@@ -2,15 +2,14 @@
 use mathlib.Core.Path.{_≡_, sym, _∙_}
 use mathlib.Core.Bool.{false}
 use mathlib.Core.List.{List}
-use Prim.Native.Nat.{ℕ, _<_}
+use Prim.Native.Nat.{ℕ}
 use borrow.Author.Tests.{eq-eqb, ne-eqb, ltb-true}
 use lib.Bits.{bitOr}
 use lib.Dec.{eqb}
 use Rattle.theory.specs.Tables.{onward}
 use Rattle.theory.specs.Reckonings.{setOwn, setsArrived, setsFull}
-use Rattle.theory.proofs.Ranges.{access-alone}
+use Rattle.theory.proofs.Ranges.{access-onward}
 use Rattle.theory.proofs.Tables.{same-or}
-use Rattle.theory.proofs.Acting.{flow-alone}
 use borrow.Author.Needs.{needs}
 use Rattle.checker.proofs.sets.advance_sets.Statement.{statement}
 use Rattle.checker.proofs.sets.advance_sets.Tie as tie
@@ -18,10 +17,6 @@ use Rattle.checker.proofs.sets.advance_sets.Tie as tie
 acted : (k t n : ℕ) (b x y : List ℕ) → eqb k 8 ≡ false → y ≡ setOwn k t n b → x ≡ onward bitOr 64 k t n y →
     (x ≡ setsArrived k t n b) × (x ≡ setsFull k t n b)
 acted k t n b x y e h g = (rw (e, ← h) g, rw (e, ← h) g)
-
--- an access passes nothing on
-alone : (k t n : ℕ) (b : List ℕ) → k < 2 → t < 16 → b ≡ onward bitOr 64 k t n b
-alone k t n b h l = let q = access-alone 64 b k t n h in rw (q .0, q .1) (flow-alone same-or 64 t b l)
 
 returns : tie.Need-returns
 returns c = simp (eq-eqb _ _ (c .before .before .if1 .taken)) (search needs)
@@ -39,8 +34,8 @@ returns-2 c =
     let n = ne-eqb _ _ (s .if1 .left) in
     let h = ltb-true _ _ (sym (c .before .is-access .ensures) ∙ c .if2 .taken) in
     let l = s .before .pre n .task-fits in (
-      acted (a .kind) (a .task) (a .on) (a .sets .now) _ _ n (c .before .before .before .before .own .ensures) (alone (a .kind) (a .task) (a .on) _ h l) .0,
-      acted (a .kind) (a .task) (a .on) (a .fullsets .now) _ _ n (c .before .before .own2 .ensures) (alone (a .kind) (a .task) (a .on) _ h l) .1,
+      acted (a .kind) (a .task) (a .on) (a .sets .now) _ _ n (c .before .before .before .before .own .ensures) (access-onward same-or 64 (a .kind) (a .task) (a .on) _ h l) .0,
+      acted (a .kind) (a .task) (a .on) (a .fullsets .now) _ _ n (c .before .before .own2 .ensures) (access-onward same-or 64 (a .kind) (a .task) (a .on) _ h l) .1,
     )
 
 pass-on-requires : tie.Need-pass-on-requires

@@ -1,15 +1,11 @@
 -- The rows that an act hears and tells are in the table, and order flows over them.
-use mathlib.Core.Path.{_≡_, sym, _∙_, subst}
+use mathlib.Core.Path.{sym, _∙_, subst}
 use Prim.Native.Nat.{ℕ, _<_}
-use native.Mathlib.Omega.{arith}
 use Rattle.theory.specs.Recording.{seriesOf}
-use Rattle.theory.proofs.Ranges.{heard-fits, told-fits, joins-kind}
+use Rattle.theory.proofs.Ranges.{heard-fits, told-fits, row-fits, joins-kind}
 use borrow.Author.Needs.{needs}
 use Rattle.checker.proofs.sets.pass_on.Statement.{statement}
 use Rattle.checker.proofs.sets.pass_on.Tie as tie
-
-below : {x y : ℕ} → x ≡ y → y < 80 → x < 82
-below e h = omega arith
 
 joins-acted-requires : tie.Need-joins-acted-requires
 joins-acted-requires c κs = λ e. subst (λ (k : ℕ). c .before .args .on < seriesOf k) e (c .before .pre .on-fits)
@@ -19,8 +15,8 @@ flow-requires c κs =
     let s = c .before .before .before in
     let f = s .before .before .pre in
     let a = s .before .before .args in (
-      below (c .before .heard-row .ensures) (heard-fits f (λ e. joins-kind 64 (a .cells .now) (a .kind) (a .on) (sym (s .joins-acted .ensures) ∙ e))),
-      below (c .told-row .ensures) (told-fits f),
+      row-fits (c .before .heard-row .ensures) (heard-fits f (λ e. joins-kind 64 (a .cells .now) (a .kind) (a .on) (sym (s .joins-acted .ensures) ∙ e))),
+      row-fits (c .told-row .ensures) (told-fits f),
       f .task-fits,
     )
 

@@ -4,8 +4,8 @@ use Prim.Native.Nat.{ℕ, _*_, _%_, _^_, _≤_, _<_}
 use native.Mathlib.Omega.{arith}
 use lib.Pow.{pow-mono}
 use borrow.Author.Needs.{needs}
-use Rattle.checker.proofs.sets.weight.Statement.{statement}
-use Rattle.checker.proofs.sets.weight.Tie as tie
+use Rattle.checker.proofs.masks.weight.Statement.{statement}
+use Rattle.checker.proofs.masks.weight.Tie as tie
 
 fits : (k : ℕ) → k < 32 → (1 * 2 ^ k % 4294967296 ≡ 2 ^ k) × (1 * 2 ^ k % 4294967296 < 2 ^ 32)
 fits k h = let l : k ≤ 31 = omega arith in let p : 2 ^ k ≤ 2 ^ 31 = pow-mono l in (omega arith, omega arith)
