@@ -1,9 +1,8 @@
 // The states before any record.
-use theory::ClockState;
 use theory::SetState;
 use theory::State;
 ghost use mathlib.Core.Path.{_≡_};
-ghost use Rattle.theory.specs.Step.{freshControl, freshClocks, freshSets, freshState};
+ghost use Rattle.theory.specs.Step.{freshControl, freshState, freshSets};
 
 // Task 0 is live, the others are unseen, and no record is accepted yet.
 fn fresh_control() -> [u32; 17]
@@ -14,11 +13,11 @@ fn fresh_control() -> [u32; 17]
     control
 }
 
-pub fn fresh_clocks() -> ClockState
-    ensures { λ r. ⌜ r ≡ freshClocks ⌝ }
+pub fn fresh() -> State
+    ensures { λ r. ⌜ r ≡ freshState ⌝ }
 {
     let control = fresh_control();
-    ClockState {
+    State {
         control,
         last: [0; 2048],
         clocks: [0; 1312],
@@ -33,20 +32,6 @@ pub fn fresh_sets() -> SetState
     SetState {
         control,
         last: [0; 2048],
-        sets: [0; 5248],
-        fullsets: [0; 5248],
-    }
-}
-
-pub fn fresh() -> State
-    ensures { λ r. ⌜ r ≡ freshState ⌝ }
-{
-    let control = fresh_control();
-    State {
-        control,
-        last: [0; 2048],
-        clocks: [0; 1312],
-        fullclocks: [0; 1312],
         sets: [0; 5248],
         fullsets: [0; 5248],
     }

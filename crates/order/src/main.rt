@@ -11,8 +11,6 @@ fn main() {
     let mut last = [0u32; 2048];
     let mut clocks = [0u32; 1312];
     let mut fullclocks = [0u32; 1312];
-    let mut sets = [0u32; 5248];
-    let mut fullsets = [0u32; 5248];
     let mut out = [0u8; 131072];
     let mut held = [0u8; 65];
     let none = Progress {
@@ -28,8 +26,6 @@ fn main() {
         &mut last,
         &mut clocks,
         &mut fullclocks,
-        &mut sets,
-        &mut fullsets,
     );
     finish(
         &mut out,
@@ -39,7 +35,5 @@ fn main() {
         &mut last,
         &mut clocks,
         &mut fullclocks,
-        &mut sets,
-        &mut fullsets,
     );
 }

@@ -21,8 +21,6 @@ fn write_report(text: &[u8], report: &mut [u8]) -> usize
     let mut last = [0u32; 2048];
     let mut clocks = [0u32; 1312];
     let mut fullclocks = [0u32; 1312];
-    let mut sets = [0u32; 5248];
-    let mut fullsets = [0u32; 5248];
     let mut held = [0u8; 65];
     let none = Progress {
         lines: 0,
@@ -38,8 +36,6 @@ fn write_report(text: &[u8], report: &mut [u8]) -> usize
         &mut last,
         &mut clocks,
         &mut fullclocks,
-        &mut sets,
-        &mut fullsets,
     );
     put_rest(
         report,
@@ -49,8 +45,6 @@ fn write_report(text: &[u8], report: &mut [u8]) -> usize
         &mut last,
         &mut clocks,
         &mut fullclocks,
-        &mut sets,
-        &mut fullsets,
     )
 }
 

@@ -10,14 +10,14 @@ use Rattle.report.proofs.entry.write_report.Tie as tie
 
 put-rest-requires : tie.Need-put-rest-requires
 put-rest-requires c κs =
-    let p = c .before .before .before .before .before .before .before .before .before .before .before .put-piece .ensures in
+    let p = c .before .before .before .before .before .before .before .before .before .put-piece .ensures in
     let l = lines-after _ _ _ (p .0 .0) in
     (held-within _ _ _ (p .0 .0) _ (p .1 .0 .1) (omega arith) (omega arith), p .1 .1 refl, search needs)
 
 returns : tie.Need-returns
 unfolding freshState
 returns c =
-    let p = c .before .before .before .before .before .before .before .before .before .before .before .before .before .before .put-piece .ensures in
+    let p = c .before .before .before .before .before .before .before .before .before .before .before .before .put-piece .ensures in
     text-said _ (record { place = ap (λ (x : Progress). x .at) (p .0 .0); memory = p .0 .1 })
     (kept-after _ _ _ (p .0 .0) _ (p .1 .0 .1) (omega arith) (omega arith) (p .1 .0 .0))
     (c .before .before .put-rest .ensures .0)
