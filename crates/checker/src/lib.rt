@@ -17,6 +17,8 @@ pub use asking::apart_by_clocks;
 pub use asking::apart_by_sets;
 pub use refusals::refusal;
 pub use running::feed;
+pub use state::begin;
+pub use state::begin_sets;
 pub use state::fresh;
 pub use state::fresh_sets;
 pub use stepping::set_step;

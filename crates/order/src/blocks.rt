@@ -76,16 +76,7 @@ fn answer_piece(
     clocks: &mut [u32; 1312],
     fullclocks: &mut [u32; 1312],
 ) -> Progress {
-    let now = report_piece(
-        out,
-        piece,
-        held,
-        begun,
-        control,
-        last,
-        clocks,
-        fullclocks,
-    );
+    let now = report_piece(out, piece, held, begun, control, last, clocks, fullclocks);
     write_some(out, now)
 }
 
@@ -197,15 +188,6 @@ pub(crate) fn finish(
         write_out(out, begun);
         return;
     }
-    let now = report_piece(
-        out,
-        b"\n",
-        held,
-        begun,
-        control,
-        last,
-        clocks,
-        fullclocks,
-    );
+    let now = report_piece(out, b"\n", held, begun, control, last, clocks, fullclocks);
     write_out(out, now);
 }

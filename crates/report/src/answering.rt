@@ -62,16 +62,7 @@ pub(crate) fn put_line(
         ≡ stateAfter (stateOf (now (control .entry)) (now (last .entry)) (now (clocks .entry)) (now (fullclocks .entry))) (parseOf (now (line .entry))) ⌝ }
 {
     let parsed = parse_line(line);
-    put_parsed(
-        out,
-        at,
-        number,
-        parsed,
-        control,
-        last,
-        clocks,
-        fullclocks,
-    )
+    put_parsed(out, at, number, parsed, control, last, clocks, fullclocks)
 }
 
 // How far a piece is answered: the lines so far, the next place in the report, and where what is left of the piece begins.
@@ -109,16 +100,7 @@ pub(crate) fn put_lines(
     while p < end {
         number += 1;
         let parsed = next_parsed(piece, &mut p);
-        at = put_parsed(
-            out,
-            at,
-            number,
-            parsed,
-            control,
-            last,
-            clocks,
-            fullclocks,
-        );
+        at = put_parsed(out, at, number, parsed, control, last, clocks, fullclocks);
     }
     Answered {
         lines: number,

@@ -3,6 +3,7 @@
 use crate::scan::line_count;
 use crate::streaming::put_piece;
 use crate::streaming::put_rest;
+use checker::begin;
 use text::Progress;
 ghost use mathlib.Core.Path.{_≡_};
 ghost use Prim.Native.Nat.{_≤_, _*_};
@@ -17,10 +18,10 @@ fn write_report(text: &[u8], report: &mut [u8]) -> usize
     ensures { λ r. ⌜ Wrote (now (report .entry)) 0 (reportOf (now (text .entry))) (now (report .exit)) r ⌝ }
 {
     let mut control = [0u32; 17];
-    control[0] = 1;
     let mut last = [0u32; 2048];
     let mut clocks = [0u32; 1312];
     let mut fullclocks = [0u32; 1312];
+    begin(&mut control, &mut last, &mut clocks, &mut fullclocks);
     let mut held = [0u8; 65];
     let none = Progress {
         lines: 0,

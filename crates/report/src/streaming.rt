@@ -249,14 +249,5 @@ pub fn report_piece(
             at: REFUSED,
         };
     }
-    put_piece(
-        out,
-        piece,
-        held,
-        begun,
-        control,
-        last,
-        clocks,
-        fullclocks,
-    )
+    put_piece(out, piece, held, begun, control, last, clocks, fullclocks)
 }

@@ -2,7 +2,7 @@
 -- that of the clocks; the sets have a state and a step of their own.
 use Prim.Native.Nat.{ℕ, zero, suc, _+_}
 use mathlib.Core.Bool.{Bool, true, false, cond}
-use mathlib.Core.List.{List}
+use mathlib.Core.List.{List, [], _∷_}
 use lib.Dec.{eqb}
 use lib.ListN.{replicate, set}
 use Rattle.theory.specs.declared.record.Record.{Record}
@@ -20,6 +20,15 @@ use Rattle.theory.specs.Reckonings.{clocksArrived, clocksFull, setsArriv
 
 abbrev pub recordNumber : ℕ → RecordNumber
 recordNumber n = record { 0 = n }
+
+-- an answer as three numbers, for a host that knows no enum: which case it is, document 01's number (of the refusal, or of the record), and
+-- the record number of the partner, 0 where there is none
+abbrev pub answerNumbers : Answer → List ℕ
+answerNumbers (Refused n) = 0 ∷ n ∷ 0 ∷ []
+answerNumbers (Accepted n) = 1 ∷ n .0 ∷ 0 ∷ []
+answerNumbers (Clear n) = 2 ∷ n .0 ∷ 0 ∷ []
+answerNumbers (Race n w) = 3 ∷ n .0 ∷ w .0 ∷ []
+answerNumbers (Doubt n w) = 4 ∷ n .0 ∷ w .0 ∷ []
 
 -- the answer to an accepted access, by the masks of the tasks that are apart in the fullest filling and as it arrived
 abbrev pub verdictBy : Bool → Bool → List ℕ → ℕ → ℕ → ℕ → ℕ → ℕ → Answer
@@ -85,6 +94,10 @@ setStepBy (suc n) s r = record { state = s; answer = Refused (suc n) }
 
 unfoldable pub setStepOf : SetState → Record → SetStepped
 setStepOf s r = setStepBy (refusalIn (s .control) r) s r
+
+-- a record as it is fed, from its numbers
+abbrev pub recordOf : ℕ → ℕ → ℕ → Record
+recordOf kind task on = record { kind = kind; task = task; on = on }
 
 -- the masks that a record is asked for, by the refusal that it would get: none where it would be refused
 abbrev pub masksUnless : ℕ → Masks → Masks
