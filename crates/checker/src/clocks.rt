@@ -12,6 +12,8 @@ use crate::rows::heard_row;
 use crate::rows::named_row;
 use crate::rows::told_by;
 use crate::rows::told_row;
+use theory::Clocks;
+use theory::History;
 use theory::Masks;
 use theory::Task;
 ghost use mathlib.Core.Path.{_≡_};
@@ -32,7 +34,7 @@ fn greater(a: u32, b: u32) -> u32
 }
 
 // What row `from` knows is known to row `to` as well.
-fn join_row(cells: &mut [u32; 1312], to: usize, from: usize)
+fn join_row(cells: &mut Clocks, to: usize, from: usize)
     requires { ⌜ (to < 82) × (from < 82) ⌝ }
     ensures { λ _. ⌜ now (cells .exit) ≡ joinRow max 16 to from (now (cells .entry)) ⌝ }
 {
@@ -47,7 +49,7 @@ fn join_row(cells: &mut [u32; 1312], to: usize, from: usize)
 }
 
 // A row by itself.
-fn row_of(cells: &[u32; 1312], from: usize) -> [u32; 16]
+fn row_of(cells: &Clocks, from: usize) -> [u32; 16]
     requires { ⌜ from < 82 ⌝ }
     ensures { λ r. ⌜ r ≡ rowOf 16 from (now (cells .entry)) ⌝ }
 {
@@ -61,7 +63,7 @@ fn row_of(cells: &[u32; 1312], from: usize) -> [u32; 16]
 }
 
 // What a row that stands by itself knows is known to row `to` as well.
-fn join_with(cells: &mut [u32; 1312], to: usize, row: &[u32; 16])
+fn join_with(cells: &mut Clocks, to: usize, row: &[u32; 16])
     requires { ⌜ to < 82 ⌝ }
     ensures { λ _. ⌜ now (cells .exit) ≡ joinWith max 16 to (now (row .entry)) (now (cells .entry)) ⌝ }
 {
@@ -73,7 +75,7 @@ fn join_with(cells: &mut [u32; 1312], to: usize, row: &[u32; 16])
 }
 
 // Row `to` with the cells of a row that stands by itself.
-fn put_row(cells: &mut [u32; 1312], to: usize, row: &[u32; 16])
+fn put_row(cells: &mut Clocks, to: usize, row: &[u32; 16])
     requires { ⌜ to < 82 ⌝ }
     ensures { λ _. ⌜ now (cells .exit) ≡ putRow 16 to (now (row .entry)) (now (cells .entry)) ⌝ }
 {
@@ -86,7 +88,7 @@ fn put_row(cells: &mut [u32; 1312], to: usize, row: &[u32; 16])
 
 // Order over an act: the task's next act knows what the heard row knows; from a copy that stays in registers it is passed on, to an object
 // and to the hub alike.
-fn flow(cells: &mut [u32; 1312], heard: usize, told: usize, task: usize)
+fn flow(cells: &mut Clocks, heard: usize, told: usize, task: usize)
     requires { ⌜ (heard < 82) × (told < 82) × (task < 16) ⌝ }
     ensures { λ _. ⌜ now (cells .exit) ≡ flow max 16 heard told task (now (cells .entry)) ⌝ }
 {
@@ -103,7 +105,7 @@ fn flow(cells: &mut [u32; 1312], heard: usize, told: usize, task: usize)
 }
 
 // A row by itself with what row `from` knows, too.
-fn heard_with(cells: &[u32; 1312], from: usize, row: &[u32; 16]) -> [u32; 16]
+fn heard_with(cells: &Clocks, from: usize, row: &[u32; 16]) -> [u32; 16]
     requires { ⌜ from < 82 ⌝ }
     ensures { λ r. ⌜ r ≡ heardWith max 16 from (now (row .entry)) (now (cells .entry)) ⌝ }
 {
@@ -117,7 +119,7 @@ fn heard_with(cells: &[u32; 1312], from: usize, row: &[u32; 16]) -> [u32; 16]
 }
 
 // What a mark's lost records can hear comes to the hub, by way of a row that stays in registers.
-fn gather(cells: &mut [u32; 1312], mask: u32)
+fn gather(cells: &mut Clocks, mask: u32)
     ensures { λ _. ⌜ now (cells .exit) ≡ gather max 16 mask (now (cells .entry)) ⌝ }
 {
     let mut known = [0u32; 16];
@@ -132,7 +134,7 @@ fn gather(cells: &mut [u32; 1312], mask: u32)
 
 // What the hub knows, all that they can tell knows, from a copy that stays in the processor's registers. Every object is told, so that
 // nothing is asked of the rows after the tasks'.
-fn spread(cells: &mut [u32; 1312], mask: u32)
+fn spread(cells: &mut Clocks, mask: u32)
     ensures { λ _. ⌜ now (cells .exit) ≡ spread 16 mask (now (cells .entry)) ⌝ }
 {
     let hub = row_of(cells, HUB);
@@ -148,7 +150,7 @@ fn spread(cells: &mut [u32; 1312], mask: u32)
 }
 
 // The tasks that the mask names have acted.
-fn note_named(cells: &mut [u32; 1312], mask: u32)
+fn note_named(cells: &mut Clocks, mask: u32)
     ensures { λ _. ⌜ now (cells .exit) ≡ noteNamed 16 mask (now (cells .entry)) ⌝ }
 {
     let mut t = 0;
@@ -159,7 +161,7 @@ fn note_named(cells: &mut [u32; 1312], mask: u32)
 }
 
 // The fullest filling of a mark.
-fn mix(cells: &mut [u32; 1312], mask: u32)
+fn mix(cells: &mut Clocks, mask: u32)
     ensures { λ _. ⌜ now (cells .exit) ≡ mix max 16 mask (now (cells .entry)) ⌝ }
 {
     gather(cells, mask);
@@ -168,7 +170,7 @@ fn mix(cells: &mut [u32; 1312], mask: u32)
 }
 
 // An act joins a task that has acted.
-fn joins_acted(cells: &[u32; 1312], kind: u8, on: u32) -> bool
+fn joins_acted(cells: &Clocks, kind: u8, on: u32) -> bool
     requires { ⌜ (kind ≡ 7 → on < 16) ⌝ }
     ensures { λ r. ⌜ r ≡ joinsActed 16 (now (cells .entry)) kind on ⌝ }
 {
@@ -180,7 +182,7 @@ fn joins_acted(cells: &[u32; 1312], kind: u8, on: u32) -> bool
 }
 
 // Order over an act of a kind.
-fn pass_on(cells: &mut [u32; 1312], kind: u8, task: u32, on: u32)
+fn pass_on(cells: &mut Clocks, kind: u8, task: u32, on: u32)
     requires { ⌜ Fitting kind task on ⌝ }
     ensures { λ _. ⌜ now (cells .exit) ≡ onward max 16 kind task on (now (cells .entry)) ⌝ }
 {
@@ -194,7 +196,7 @@ fn pass_on(cells: &mut [u32; 1312], kind: u8, task: u32, on: u32)
 }
 
 // An act's own part: the task's own cell is the act's number, and the task has acted.
-fn own(cells: &mut [u32; 1312], task: u32, number: u32)
+fn own(cells: &mut Clocks, task: u32, number: u32)
     requires { ⌜ task < 16 ⌝ }
     ensures { λ _. ⌜ now (cells .exit) ≡ clockOwn task number (now (cells .entry)) ⌝ }
 {
@@ -205,8 +207,8 @@ fn own(cells: &mut [u32; 1312], task: u32, number: u32)
 
 // Both tables after an accepted record. An access hears and tells no other row.
 pub(crate) fn advance_clocks(
-    clocks: &mut [u32; 1312],
-    fullclocks: &mut [u32; 1312],
+    clocks: &mut Clocks,
+    fullclocks: &mut Clocks,
     kind: u8,
     task: u32,
     on: u32,
@@ -230,7 +232,7 @@ pub(crate) fn advance_clocks(
 }
 
 // Whether task u's latest conflicting access is not known to the acting task. Of its own the task knows.
-fn apart(cells: &[u32; 1312], last: &[u32; 2048], kind: u8, task: u32, on: u32, u: u32) -> bool
+fn apart(cells: &Clocks, last: &History, kind: u8, task: u32, on: u32, u: u32) -> bool
     requires { ⌜ (task < 16) × (on < 64) × (u < 16) ⌝ }
     ensures { λ r. ⌜ r ≡ clockApart (now (cells .entry)) (now (last .entry)) kind task on u ⌝ }
 {
@@ -239,9 +241,9 @@ fn apart(cells: &[u32; 1312], last: &[u32; 2048], kind: u8, task: u32, on: u32, 
 
 // Both masks of an access. Sums of weights that grow upward, of both tables in one loop, are what the compiler makes vector code of.
 fn masks(
-    clocks: &[u32; 1312],
-    fullclocks: &[u32; 1312],
-    last: &[u32; 2048],
+    clocks: &Clocks,
+    fullclocks: &Clocks,
+    last: &History,
     kind: u8,
     task: u32,
     on: u32,
@@ -265,9 +267,9 @@ fn masks(
 
 // The masks of the tasks whose latest conflicting access has no path to this access; empty for any other record.
 pub(crate) fn clock_masks(
-    clocks: &[u32; 1312],
-    fullclocks: &[u32; 1312],
-    last: &[u32; 2048],
+    clocks: &Clocks,
+    fullclocks: &Clocks,
+    last: &History,
     kind: u8,
     task: u32,
     on: u32,

@@ -1,6 +1,7 @@
 // The control table: each task's phase, then the count of accepted records. crates/theory/specs/Control.antt says the same of the table as a list.
 use crate::kinds::JOIN;
 use crate::kinds::START;
+use theory::Control;
 ghost use mathlib.Core.Path.{_≡_};
 ghost use Prim.Native.Nat.{_<_};
 ghost use Rattle.theory.specs.Control.{liveIn, unseenIn, countIn, counted, controlAfter};
@@ -14,14 +15,14 @@ const ENDED: u32 = 2;
 // The place of the count, after the tasks' phases.
 pub(crate) const COUNT: usize = 16;
 
-pub(crate) fn is_live(control: &[u32; 17], t: usize) -> bool
+pub(crate) fn is_live(control: &Control, t: usize) -> bool
     requires { ⌜ t < 17 ⌝ }
     ensures { λ r. ⌜ r ≡ liveIn (now (control .entry)) t ⌝ }
 {
     control[t] == LIVE
 }
 
-pub(crate) fn is_unseen(control: &[u32; 17], t: usize) -> bool
+pub(crate) fn is_unseen(control: &Control, t: usize) -> bool
     requires { ⌜ t < 17 ⌝ }
     ensures { λ r. ⌜ r ≡ unseenIn (now (control .entry)) t ⌝ }
 {
@@ -29,7 +30,7 @@ pub(crate) fn is_unseen(control: &[u32; 17], t: usize) -> bool
 }
 
 // One more accepted record. The bound keeps the sum within its type.
-fn count(control: &mut [u32; 17])
+fn count(control: &mut Control)
     requires { ⌜ countIn (now control) < 60_000 ⌝ }
     ensures { λ _. ⌜ now (control .exit) ≡ counted (now (control .entry)) ⌝ }
 {
@@ -37,7 +38,7 @@ fn count(control: &mut [u32; 17])
 }
 
 // Notes an accepted record. Each arm counts and returns by itself, so that the proof has one table at each return and no join of arms.
-pub(crate) fn note(control: &mut [u32; 17], kind: u8, on: usize)
+pub(crate) fn note(control: &mut Control, kind: u8, on: usize)
     requires { ⌜ (kind ≡ 6 → on < 16) × (kind ≡ 7 → on < 16) ⌝ }
     requires { ⌜ countIn (now control) < 60_000 ⌝ }
     ensures { λ _. ⌜ now (control .exit) ≡ controlAfter kind on (now (control .entry)) ⌝ }

@@ -2,6 +2,7 @@
 use crate::kinds::ACCESSES;
 use crate::kinds::READ;
 use crate::kinds::WRITE;
+use theory::History;
 use theory::Task;
 use theory::Variable;
 ghost use mathlib.Core.Path.{_≡_};
@@ -33,7 +34,7 @@ pub(crate) fn other_kind(kind: u8) -> u8
 }
 
 // Task u's latest access of that kind to v came after its latest write.
-pub(crate) fn other_later(last: &[u32; 2048], kind: u8, v: u32, u: u32) -> bool
+pub(crate) fn other_later(last: &History, kind: u8, v: u32, u: u32) -> bool
     requires { ⌜ (v < 64) × (u < 16) ⌝ }
     ensures { λ r. ⌜ r ≡ otherLater (now (last .entry)) kind v u ⌝ }
 {
@@ -44,7 +45,7 @@ pub(crate) fn other_later(last: &[u32; 2048], kind: u8, v: u32, u: u32) -> bool
 
 // The record number of task u's latest access to v that conflicts with one of this kind, 0 where there is none. It is the greater of two
 // numbers whatever the kind, so that a loop over the tasks makes vector code of it.
-pub(crate) fn latest_number(last: &[u32; 2048], kind: u8, v: u32, u: u32) -> u32
+pub(crate) fn latest_number(last: &History, kind: u8, v: u32, u: u32) -> u32
     requires { ⌜ (v < 64) × (u < 16) ⌝ }
     ensures { λ r. ⌜ r ≡ latestNumber (now (last .entry)) kind v u ⌝ }
 {
@@ -54,7 +55,7 @@ pub(crate) fn latest_number(last: &[u32; 2048], kind: u8, v: u32, u: u32) -> u32
 }
 
 // The history after an accepted record.
-pub(crate) fn keep(last: &mut [u32; 2048], kind: u8, task: u32, on: u32, number: u32)
+pub(crate) fn keep(last: &mut History, kind: u8, task: u32, on: u32, number: u32)
     requires { ⌜ (eqb kind 8 ≡ false → Fitting kind task on) ⌝ }
     ensures { λ _. ⌜ now (last .exit) ≡ lastAfter kind task on number (now (last .entry)) ⌝ }
 {

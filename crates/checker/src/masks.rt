@@ -2,6 +2,7 @@
 use crate::history::is_access;
 use crate::history::latest_number;
 use theory::Answer;
+use theory::History;
 use theory::Masks;
 use theory::RecordNumber;
 ghost use mathlib.Core.Path.{_≡_};
@@ -37,7 +38,7 @@ fn lowest(mask: u16) -> u32
 }
 
 // The answer to an accepted access.
-pub(crate) fn judged(last: &[u32; 2048], kind: u8, on: u32, number: u32, masks: Masks) -> Answer
+pub(crate) fn judged(last: &History, kind: u8, on: u32, number: u32, masks: Masks) -> Answer
     requires { ⌜ on < 64 ⌝ }
     ensures { λ r. ⌜ r ≡ judgedBy (now (last .entry)) kind on number (masks .full) (masks .arrived) ⌝ }
 {
@@ -60,7 +61,7 @@ pub(crate) fn judged(last: &[u32; 2048], kind: u8, on: u32, number: u32, masks: 
 
 // The answer to an accepted record.
 pub(crate) fn answered(
-    last: &[u32; 2048],
+    last: &History,
     kind: u8,
     task: u32,
     on: u32,

@@ -17,6 +17,7 @@ use crate::limits::LAST_VARIABLE;
 use crate::limits::RECORDS;
 use crate::limits::TASKS;
 use crate::rows::has_bit;
+use theory::Control;
 use theory::Record;
 ghost use mathlib.Core.Path.{_≡_};
 ghost use mathlib.Core.Bool.{not, _&&_, _||_};
@@ -69,14 +70,14 @@ fn outside(kind: u8, on: u32) -> bool
 }
 
 // Row 5: no further record is taken.
-fn full(control: &[u32; 17]) -> bool
+fn full(control: &Control) -> bool
     ensures { λ r. ⌜ r ≡ leb records (countIn (now (control .entry))) ⌝ }
 {
     RECORDS <= control[COUNT]
 }
 
 // Row 7: a start of a task that is not unseen.
-fn starts_seen(control: &[u32; 17], kind: u8, on: u32) -> bool
+fn starts_seen(control: &Control, kind: u8, on: u32) -> bool
     requires { ⌜ (kind ≡ 6 → on < tasks) ⌝ }
     ensures { λ r. ⌜ r ≡ (eqb kind 6 && not (unseenIn (now (control .entry)) on)) ⌝ }
 {
@@ -95,7 +96,7 @@ fn joins_itself(kind: u8, task: u32, on: u32) -> bool
 }
 
 // Row 9: a join of a task that is not live.
-fn joins_dead(control: &[u32; 17], kind: u8, on: u32) -> bool
+fn joins_dead(control: &Control, kind: u8, on: u32) -> bool
     requires { ⌜ (kind ≡ 7 → on < tasks) ⌝ }
     ensures { λ r. ⌜ r ≡ (eqb kind 7 && not (liveIn (now (control .entry)) on)) ⌝ }
 {
@@ -107,7 +108,7 @@ fn joins_dead(control: &[u32; 17], kind: u8, on: u32) -> bool
 }
 
 // The mask names the task, and it is not live.
-fn names_dead(control: &[u32; 17], mask: u32, t: u32) -> bool
+fn names_dead(control: &Control, mask: u32, t: u32) -> bool
     requires { ⌜ t < tasks ⌝ }
     ensures { λ r. ⌜ r ≡ (names mask t && not (liveIn (now (control .entry)) t)) ⌝ }
 {
@@ -115,7 +116,7 @@ fn names_dead(control: &[u32; 17], mask: u32, t: u32) -> bool
 }
 
 // Row 9: a mark that names a task that is not live.
-fn names_any_dead(control: &[u32; 17], mask: u32) -> bool
+fn names_any_dead(control: &Control, mask: u32) -> bool
     ensures { λ r. ⌜ r ≡ anyBelow tasks (λ t. names mask t && not (liveIn (now (control .entry)) t)) ⌝ }
 {
     let mut found = false;
@@ -135,7 +136,7 @@ fn no_mask(on: u32) -> bool
 }
 
 // The rows that can apply to a mark.
-fn mark_refusal(control: &[u32; 17], r: Record) -> u32
+fn mark_refusal(control: &Control, r: Record) -> u32
     requires { ⌜ r .kind ≡ lossMark ⌝ }
     ensures { λ n. ⌜ n ≡ refusalIn (now (control .entry)) r ⌝ }
 {
@@ -152,7 +153,7 @@ fn mark_refusal(control: &[u32; 17], r: Record) -> u32
 }
 
 // The rows that can apply to an act. Rows 2 and 3 come first, so that those after them find the tasks in the table.
-fn act_refusal(control: &[u32; 17], r: Record) -> u32
+fn act_refusal(control: &Control, r: Record) -> u32
     requires { ⌜ r .kind < lossMark ⌝ }
     ensures { λ n. ⌜ n ≡ refusalIn (now (control .entry)) r ⌝ }
 {
@@ -181,7 +182,7 @@ fn act_refusal(control: &[u32; 17], r: Record) -> u32
 }
 
 // The number of the first of rows 1 to 9 that applies to the record; 0 where none does.
-pub fn refusal(control: &[u32; 17], r: Record) -> u32
+pub fn refusal(control: &Control, r: Record) -> u32
     ensures { λ n. ⌜ n ≡ refusalIn (now (control .entry)) r ⌝ }
 {
     let kind = r.kind;

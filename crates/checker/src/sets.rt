@@ -19,7 +19,9 @@ use crate::rows::heard_row;
 use crate::rows::named_row;
 use crate::rows::told_by;
 use crate::rows::told_row;
+use theory::History;
 use theory::Masks;
+use theory::Sets;
 use theory::Task;
 use theory::Variable;
 ghost use mathlib.Core.Path.{_≡_};
@@ -40,7 +42,7 @@ const ACTED: usize = 5184;
 const ALL: u32 = 4_294_967_295;
 
 // What row `from` knows is known to row `to` as well.
-fn join_row(cells: &mut [u32; 5248], to: usize, from: usize)
+fn join_row(cells: &mut Sets, to: usize, from: usize)
     requires { ⌜ (to < 82) × (from < 82) ⌝ }
     ensures { λ _. ⌜ now (cells .exit) ≡ joinRow bitOr 64 to from (now (cells .entry)) ⌝ }
 {
@@ -55,7 +57,7 @@ fn join_row(cells: &mut [u32; 5248], to: usize, from: usize)
 }
 
 // A row by itself.
-fn row_of(cells: &[u32; 5248], from: usize) -> [u32; 64]
+fn row_of(cells: &Sets, from: usize) -> [u32; 64]
     requires { ⌜ from < 82 ⌝ }
     ensures { λ r. ⌜ r ≡ rowOf 64 from (now (cells .entry)) ⌝ }
 {
@@ -69,7 +71,7 @@ fn row_of(cells: &[u32; 5248], from: usize) -> [u32; 64]
 }
 
 // What a row that stands by itself knows is known to row `to` as well.
-fn join_with(cells: &mut [u32; 5248], to: usize, row: &[u32; 64])
+fn join_with(cells: &mut Sets, to: usize, row: &[u32; 64])
     requires { ⌜ to < 82 ⌝ }
     ensures { λ _. ⌜ now (cells .exit) ≡ joinWith bitOr 64 to (now (row .entry)) (now (cells .entry)) ⌝ }
 {
@@ -82,7 +84,7 @@ fn join_with(cells: &mut [u32; 5248], to: usize, row: &[u32; 64])
 
 // `join_row` by way of a copy. In a loop over rows the compiler cannot tell that the two rows never overlap, and would take them word by
 // word; of a copy it can.
-fn join_copied(cells: &mut [u32; 5248], to: usize, from: usize)
+fn join_copied(cells: &mut Sets, to: usize, from: usize)
     requires { ⌜ (to < 82) × (from < 82) ⌝ }
     ensures { λ _. ⌜ now (cells .exit) ≡ joinRow bitOr 64 to from (now (cells .entry)) ⌝ }
 {
@@ -94,7 +96,7 @@ fn join_copied(cells: &mut [u32; 5248], to: usize, from: usize)
 }
 
 // Row `to` with the cells of a row that stands by itself.
-fn put_row(cells: &mut [u32; 5248], to: usize, row: &[u32; 64])
+fn put_row(cells: &mut Sets, to: usize, row: &[u32; 64])
     requires { ⌜ to < 82 ⌝ }
     ensures { λ _. ⌜ now (cells .exit) ≡ putRow 64 to (now (row .entry)) (now (cells .entry)) ⌝ }
 {
@@ -106,7 +108,7 @@ fn put_row(cells: &mut [u32; 5248], to: usize, row: &[u32; 64])
 }
 
 // Order over an act: the task's next act knows what the heard row knows, and it is passed on, to an object and to the hub alike.
-fn flow(cells: &mut [u32; 5248], heard: usize, told: usize, task: usize)
+fn flow(cells: &mut Sets, heard: usize, told: usize, task: usize)
     requires { ⌜ (heard < 82) × (told < 82) × (task < 16) ⌝ }
     ensures { λ _. ⌜ now (cells .exit) ≡ flow bitOr 64 heard told task (now (cells .entry)) ⌝ }
 {
@@ -119,7 +121,7 @@ fn flow(cells: &mut [u32; 5248], heard: usize, told: usize, task: usize)
 }
 
 // What a mark's lost records can hear comes to the hub.
-fn gather(cells: &mut [u32; 5248], mask: u32)
+fn gather(cells: &mut Sets, mask: u32)
     ensures { λ _. ⌜ now (cells .exit) ≡ gather bitOr 64 mask (now (cells .entry)) ⌝ }
 {
     let mut t = 0;
@@ -130,7 +132,7 @@ fn gather(cells: &mut [u32; 5248], mask: u32)
 }
 
 // What the hub knows, all that they can tell knows, from one copy.
-fn spread(cells: &mut [u32; 5248], mask: u32)
+fn spread(cells: &mut Sets, mask: u32)
     ensures { λ _. ⌜ now (cells .exit) ≡ spread 64 mask (now (cells .entry)) ⌝ }
 {
     let hub = row_of(cells, HUB);
@@ -142,7 +144,7 @@ fn spread(cells: &mut [u32; 5248], mask: u32)
 }
 
 // The tasks that the mask names have acted.
-fn note_named(cells: &mut [u32; 5248], mask: u32)
+fn note_named(cells: &mut Sets, mask: u32)
     ensures { λ _. ⌜ now (cells .exit) ≡ noteNamed 64 mask (now (cells .entry)) ⌝ }
 {
     let mut t = 0;
@@ -153,7 +155,7 @@ fn note_named(cells: &mut [u32; 5248], mask: u32)
 }
 
 // The fullest filling of a mark.
-fn mix(cells: &mut [u32; 5248], mask: u32)
+fn mix(cells: &mut Sets, mask: u32)
     ensures { λ _. ⌜ now (cells .exit) ≡ mix bitOr 64 mask (now (cells .entry)) ⌝ }
 {
     gather(cells, mask);
@@ -177,7 +179,7 @@ fn all_but(k: u32) -> u32
 }
 
 // No row knows of the slot's access.
-fn clear_slot(cells: &mut [u32; 5248], s: usize)
+fn clear_slot(cells: &mut Sets, s: usize)
     requires { ⌜ s < 2048 ⌝ }
     ensures { λ _. ⌜ now (cells .exit) ≡ clearSlot s (now (cells .entry)) ⌝ }
 {
@@ -191,7 +193,7 @@ fn clear_slot(cells: &mut [u32; 5248], s: usize)
 }
 
 // Row r knows of it.
-fn add_slot(cells: &mut [u32; 5248], r: usize, s: usize)
+fn add_slot(cells: &mut Sets, r: usize, s: usize)
     requires { ⌜ (r < 82) × (s < 2048) ⌝ }
     ensures { λ _. ⌜ now (cells .exit) ≡ addSlot r s (now (cells .entry)) ⌝ }
 {
@@ -200,7 +202,7 @@ fn add_slot(cells: &mut [u32; 5248], r: usize, s: usize)
 }
 
 // An act's own part: the task has acted, and a new access takes its slot, from which order has come to its own task.
-fn own(cells: &mut [u32; 5248], kind: u8, task: u32, on: u32)
+fn own(cells: &mut Sets, kind: u8, task: u32, on: u32)
     requires { ⌜ Fitting kind task on ⌝ }
     ensures { λ _. ⌜ now (cells .exit) ≡ setOwn kind task on (now (cells .entry)) ⌝ }
 {
@@ -213,7 +215,7 @@ fn own(cells: &mut [u32; 5248], kind: u8, task: u32, on: u32)
 }
 
 // An act joins a task that has acted.
-fn joins_acted(cells: &[u32; 5248], kind: u8, on: u32) -> bool
+fn joins_acted(cells: &Sets, kind: u8, on: u32) -> bool
     requires { ⌜ (kind ≡ 7 → on < 16) ⌝ }
     ensures { λ r. ⌜ r ≡ joinsActed 64 (now (cells .entry)) kind on ⌝ }
 {
@@ -225,7 +227,7 @@ fn joins_acted(cells: &[u32; 5248], kind: u8, on: u32) -> bool
 }
 
 // Order over an act of a kind.
-fn pass_on(cells: &mut [u32; 5248], kind: u8, task: u32, on: u32)
+fn pass_on(cells: &mut Sets, kind: u8, task: u32, on: u32)
     requires { ⌜ Fitting kind task on ⌝ }
     ensures { λ _. ⌜ now (cells .exit) ≡ onward bitOr 64 kind task on (now (cells .entry)) ⌝ }
 {
@@ -239,13 +241,7 @@ fn pass_on(cells: &mut [u32; 5248], kind: u8, task: u32, on: u32)
 }
 
 // Both tables after an accepted record. An access hears and tells no other row.
-pub(crate) fn advance_sets(
-    sets: &mut [u32; 5248],
-    fullsets: &mut [u32; 5248],
-    kind: u8,
-    task: u32,
-    on: u32,
-)
+pub(crate) fn advance_sets(sets: &mut Sets, fullsets: &mut Sets, kind: u8, task: u32, on: u32)
     requires { ⌜ (eqb kind 8 ≡ false → Fitting kind task on) ⌝ }
     ensures { λ _. ⌜ (now (sets .exit) ≡ setsArrived kind task on (now (sets .entry)))
         × (now (fullsets .exit) ≡ setsFull kind task on (now (fullsets .entry))) ⌝ }
@@ -264,7 +260,7 @@ pub(crate) fn advance_sets(
 }
 
 // What row r knows of the tasks' accesses of a kind to variable v: from bit 0 on a bit for each task.
-fn known_slots(cells: &[u32; 5248], r: usize, kind: u8, v: u32) -> u32
+fn known_slots(cells: &Sets, r: usize, kind: u8, v: u32) -> u32
     requires { ⌜ (r < 82) × (kind < 2) × (v < 64) ⌝ }
     ensures { λ q. ⌜ q ≡ knownSlots (now (cells .entry)) r kind v ⌝ }
 {
@@ -274,7 +270,7 @@ fn known_slots(cells: &[u32; 5248], r: usize, kind: u8, v: u32) -> u32
 
 // Whether order from task u's latest conflicting access has not come to a row, by what the row knows of the writes and of the accesses of
 // the other kind. From its own it has.
-fn apart(write: u32, other: u32, last: &[u32; 2048], kind: u8, on: u32, u: u32) -> bool
+fn apart(write: u32, other: u32, last: &History, kind: u8, on: u32, u: u32) -> bool
     requires { ⌜ (on < 64) × (u < 16) ⌝ }
     ensures { λ r. ⌜ r ≡ (ltb 0 (latestNumber (now (last .entry)) kind on u) && not (bit (cond (otherLater (now (last .entry)) kind on u) other write) u)) ⌝ }
 {
@@ -283,14 +279,7 @@ fn apart(write: u32, other: u32, last: &[u32; 2048], kind: u8, on: u32, u: u32) 
 }
 
 // Both masks of an access, in one loop like those of the clocks, so that the compiler makes vector code of it.
-fn masks(
-    sets: &[u32; 5248],
-    fullsets: &[u32; 5248],
-    last: &[u32; 2048],
-    kind: u8,
-    task: u32,
-    on: u32,
-) -> Masks
+fn masks(sets: &Sets, fullsets: &Sets, last: &History, kind: u8, task: u32, on: u32) -> Masks
     requires { ⌜ (kind < 2) × (task < 16) × (on < 64) ⌝ }
     ensures { λ r. ⌜ r ≡ masksBy (setMask (now (fullsets .entry)) (now (last .entry)) kind task on) (setMask (now (sets .entry)) (now (last .entry)) kind task on) ⌝ }
 {
@@ -316,9 +305,9 @@ fn masks(
 
 // The masks of the tasks whose latest conflicting access has no path to this access; empty for any other record.
 pub(crate) fn set_masks(
-    sets: &[u32; 5248],
-    fullsets: &[u32; 5248],
-    last: &[u32; 2048],
+    sets: &Sets,
+    fullsets: &Sets,
+    last: &History,
     kind: u8,
     task: u32,
     on: u32,

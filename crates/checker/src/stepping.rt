@@ -9,9 +9,13 @@ use crate::refusals::refusal;
 use crate::sets::advance_sets;
 use crate::sets::set_masks;
 use theory::Answer;
+use theory::Clocks;
+use theory::Control;
+use theory::History;
 use theory::Record;
 use theory::SetState;
 use theory::SetStepped;
+use theory::Sets;
 use theory::State;
 use theory::Stepped;
 ghost use mathlib.Core.Path.{_≡_};
@@ -19,10 +23,10 @@ ghost use Rattle.theory.specs.Step.{stepOf, setStepOf, stateOf, setsOf, stateWi
 
 // Feeds a record. A refused record leaves every table as it was.
 pub fn step_in_place(
-    control: &mut [u32; 17],
-    last: &mut [u32; 2048],
-    clocks: &mut [u32; 1312],
-    fullclocks: &mut [u32; 1312],
+    control: &mut Control,
+    last: &mut History,
+    clocks: &mut Clocks,
+    fullclocks: &mut Clocks,
     r: Record,
 ) -> Answer
     ensures { λ a. ⌜ stateWith (now (control .exit)) (now (last .exit)) (now (clocks .exit)) (now (fullclocks .exit)) a
@@ -43,10 +47,10 @@ pub fn step_in_place(
 
 // The same by the sets, on their own state.
 pub fn set_step_in_place(
-    control: &mut [u32; 17],
-    last: &mut [u32; 2048],
-    sets: &mut [u32; 5248],
-    fullsets: &mut [u32; 5248],
+    control: &mut Control,
+    last: &mut History,
+    sets: &mut Sets,
+    fullsets: &mut Sets,
     r: Record,
 ) -> Answer
     ensures { λ a. ⌜ setsWith (now (control .exit)) (now (last .exit)) (now (sets .exit)) (now (fullsets .exit)) a

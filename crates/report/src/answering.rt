@@ -6,6 +6,9 @@ use crate::writing::put_answer;
 use crate::writing::put_refused;
 use checker::step_in_place;
 use text::Parsed;
+use theory::Clocks;
+use theory::Control;
+use theory::History;
 ghost use mathlib.Core.Path.{_≡_};
 ghost use mathlib.Core.List.{[]};
 ghost use Prim.Native.Nat.{_<_, _≤_, _+_, _-_, _*_, _^_};
@@ -24,10 +27,10 @@ pub(crate) fn put_parsed(
     at: usize,
     number: u64,
     parsed: Parsed,
-    control: &mut [u32; 17],
-    last: &mut [u32; 2048],
-    clocks: &mut [u32; 1312],
-    fullclocks: &mut [u32; 1312],
+    control: &mut Control,
+    last: &mut History,
+    clocks: &mut Clocks,
+    fullclocks: &mut Clocks,
 ) -> usize
     requires { ⌜ (at + 64 ≤ length (now out)) × ((r : Record) → parsed ≡ Parsed.Record r → Sayable r) ⌝ }
     ensures wrote { λ to. ⌜ (to ≤ at + 64) × Wrote (now (out .entry)) at
@@ -49,10 +52,10 @@ pub(crate) fn put_line(
     at: usize,
     number: u64,
     line: &[u8],
-    control: &mut [u32; 17],
-    last: &mut [u32; 2048],
-    clocks: &mut [u32; 1312],
-    fullclocks: &mut [u32; 1312],
+    control: &mut Control,
+    last: &mut History,
+    clocks: &mut Clocks,
+    fullclocks: &mut Clocks,
 ) -> usize
     requires { ⌜ at + 64 ≤ length (now out) ⌝ }
     ensures wrote { λ to. ⌜ (to ≤ at + 64) × Wrote (now (out .entry)) at
@@ -79,10 +82,10 @@ pub(crate) fn put_lines(
     lines: u64,
     piece: &[u8],
     from: usize,
-    control: &mut [u32; 17],
-    last: &mut [u32; 2048],
-    clocks: &mut [u32; 1312],
-    fullclocks: &mut [u32; 1312],
+    control: &mut Control,
+    last: &mut History,
+    clocks: &mut Clocks,
+    fullclocks: &mut Clocks,
 ) -> Answered
     requires { ⌜ (from ≤ length (now piece)) × (at + 64 * length (linesOf (drop from (now piece))) ≤ length (now out)) × (lines + (length (now piece) - from) < 2 ^ 64) ⌝ }
     ensures wrote { λ r. ⌜ Wrote (now (out .entry)) at

@@ -4,7 +4,11 @@ use checker::begin_sets;
 use checker::set_step_in_place;
 use checker::step_in_place;
 use theory::Answer;
+use theory::Clocks;
+use theory::Control;
+use theory::History;
 use theory::Record;
+use theory::Sets;
 ghost use mathlib.Core.Path.{_≡_};
 ghost use Rattle.theory.specs.Step.{answerNumbers, recordOf, stateOf, setsOf, stepOf, setStepOf, freshState, freshSets};
 
@@ -35,10 +39,10 @@ fn answer_numbers(a: Answer) -> [u32; 3]
 // Makes the lent tables those of a fresh state.
 #[no_mangle]
 pub extern "C" fn order_begin(
-    control: &mut [u32; 17],
-    last: &mut [u32; 2048],
-    clocks: &mut [u32; 1312],
-    fullclocks: &mut [u32; 1312],
+    control: &mut Control,
+    last: &mut History,
+    clocks: &mut Clocks,
+    fullclocks: &mut Clocks,
 )
     ensures { λ _. ⌜ stateOf (now (control .exit)) (now (last .exit)) (now (clocks .exit)) (now (fullclocks .exit)) ≡ freshState ⌝ }
 {
@@ -48,10 +52,10 @@ pub extern "C" fn order_begin(
 // Feeds a record to the running state and writes the answer as three numbers.
 #[no_mangle]
 pub extern "C" fn order_feed(
-    control: &mut [u32; 17],
-    last: &mut [u32; 2048],
-    clocks: &mut [u32; 1312],
-    fullclocks: &mut [u32; 1312],
+    control: &mut Control,
+    last: &mut History,
+    clocks: &mut Clocks,
+    fullclocks: &mut Clocks,
     kind: u8,
     task: u32,
     on: u32,
@@ -69,10 +73,10 @@ pub extern "C" fn order_feed(
 // Makes the lent tables those of a fresh state of the sets.
 #[no_mangle]
 pub extern "C" fn order_sets_begin(
-    control: &mut [u32; 17],
-    last: &mut [u32; 2048],
-    sets: &mut [u32; 5248],
-    fullsets: &mut [u32; 5248],
+    control: &mut Control,
+    last: &mut History,
+    sets: &mut Sets,
+    fullsets: &mut Sets,
 )
     ensures { λ _. ⌜ setsOf (now (control .exit)) (now (last .exit)) (now (sets .exit)) (now (fullsets .exit)) ≡ freshSets ⌝ }
 {
@@ -82,10 +86,10 @@ pub extern "C" fn order_sets_begin(
 // Feeds a record to the sets and writes the answer as three numbers.
 #[no_mangle]
 pub extern "C" fn order_sets_feed(
-    control: &mut [u32; 17],
-    last: &mut [u32; 2048],
-    sets: &mut [u32; 5248],
-    fullsets: &mut [u32; 5248],
+    control: &mut Control,
+    last: &mut History,
+    sets: &mut Sets,
+    fullsets: &mut Sets,
     kind: u8,
     task: u32,
     on: u32,

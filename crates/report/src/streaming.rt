@@ -5,6 +5,9 @@ use crate::answering::put_lines;
 use crate::scan::line_end;
 use crate::writing::put_bytes;
 use text::Progress;
+use theory::Clocks;
+use theory::Control;
+use theory::History;
 ghost use mathlib.Core.Path.{_≡_};
 ghost use mathlib.Core.Bool.{cond};
 ghost use mathlib.Core.List.{_++_};
@@ -45,10 +48,10 @@ fn put_first(
     held: &[u8],
     n: usize,
     s: &[u8],
-    control: &mut [u32; 17],
-    last: &mut [u32; 2048],
-    clocks: &mut [u32; 1312],
-    fullclocks: &mut [u32; 1312],
+    control: &mut Control,
+    last: &mut History,
+    clocks: &mut Clocks,
+    fullclocks: &mut Clocks,
 ) -> usize
     requires { ⌜ (at + 64 ≤ length (now out)) × (n ≤ heldMost) × (heldMost ≤ length (now held)) ⌝ }
     ensures wrote { λ to. ⌜ (to ≤ at + 64) × Wrote (now (out .entry)) at
@@ -79,10 +82,10 @@ fn put_ended(
     e: usize,
     held: &[u8],
     begun: Progress,
-    control: &mut [u32; 17],
-    last: &mut [u32; 2048],
-    clocks: &mut [u32; 1312],
-    fullclocks: &mut [u32; 1312],
+    control: &mut Control,
+    last: &mut History,
+    clocks: &mut Clocks,
+    fullclocks: &mut Clocks,
 ) -> Answered
     requires { ⌜ (begun .at + 64 * length (linesOf (now piece)) ≤ length (now out)) × (begun .held ≤ heldMost) × (heldMost ≤ length (now held))
         × (begun .lines + length (now piece) < 2 ^ 64) × (e ≡ 0 + lineEnd (drop 0 (now piece))) × (e < length (now piece)) ⌝ }
@@ -126,10 +129,10 @@ pub(crate) fn put_piece(
     piece: &[u8],
     held: &mut [u8],
     begun: Progress,
-    control: &mut [u32; 17],
-    last: &mut [u32; 2048],
-    clocks: &mut [u32; 1312],
-    fullclocks: &mut [u32; 1312],
+    control: &mut Control,
+    last: &mut History,
+    clocks: &mut Clocks,
+    fullclocks: &mut Clocks,
 ) -> Progress
     requires { ⌜ (begun .at + 64 * length (linesOf (now piece)) ≤ length (now out)) × (begun .held ≤ heldMost) × (heldMost ≤ length (now held))
         × (begun .lines + length (now piece) < 2 ^ 64) ⌝ }
@@ -173,10 +176,10 @@ pub(crate) fn put_rest(
     out: &mut [u8],
     held: &[u8],
     begun: Progress,
-    control: &mut [u32; 17],
-    last: &mut [u32; 2048],
-    clocks: &mut [u32; 1312],
-    fullclocks: &mut [u32; 1312],
+    control: &mut Control,
+    last: &mut History,
+    clocks: &mut Clocks,
+    fullclocks: &mut Clocks,
 ) -> usize
     requires { ⌜ (begun .held ≤ length (now held)) × (0 < begun .held → begun .at + 64 ≤ length (now out)) × (begun .lines + 1 < 2 ^ 64) ⌝ }
     ensures said { λ to. ⌜ Wrote (now (out .entry)) (begun .at)
@@ -232,10 +235,10 @@ pub fn report_piece(
     piece: &[u8],
     held: &mut [u8],
     begun: Progress,
-    control: &mut [u32; 17],
-    last: &mut [u32; 2048],
-    clocks: &mut [u32; 1312],
-    fullclocks: &mut [u32; 1312],
+    control: &mut Control,
+    last: &mut History,
+    clocks: &mut Clocks,
+    fullclocks: &mut Clocks,
 ) -> Progress
     ensures said { λ r. ⌜ (r ≡ cond (fits (length (now (out .entry))) (length (now (piece .entry))) (length (now (held .entry))) begun) (progressAfter (keptOf (stateOf (now (control .entry)) (now (last .entry)) (now (clocks .entry)) (now (fullclocks .entry))) begun (now (held .entry))) (begun .at) (now (piece .entry))) (refused begun))
         × (now (out .exit) ≡ cond (fits (length (now (out .entry))) (length (now (piece .entry))) (length (now (held .entry))) begun) (written (now (out .entry)) (begun .at) (saidIn (keptOf (stateOf (now (control .entry)) (now (last .entry)) (now (clocks .entry)) (now (fullclocks .entry))) begun (now (held .entry))) (now (piece .entry)))) (now (out .entry))) ⌝ }
