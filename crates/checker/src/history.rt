@@ -10,7 +10,8 @@ ghost use mathlib.Core.Bool.{false};
 ghost use lib.Dec.{eqb};
 ghost use Prim.Native.Nat.{_<_};
 ghost use Rattle.theory.specs.Acceptance.{Fitting};
-ghost use Rattle.theory.specs.History.{accesses, slot, otherKind, otherLater, latestNumber, lastAfter};
+ghost use Rattle.theory.specs.Recording.{accesses};
+ghost use Rattle.theory.specs.History.{slot, otherKind, otherLater, latestNumber, lastAfter};
 
 pub(crate) fn is_access(kind: u8) -> bool
     ensures { λ r. ⌜ r ≡ accesses kind ⌝ }

@@ -11,7 +11,7 @@ use Rattle.theory.specs.declared.answer.Answer.{Answer}
 use Rattle.theory.specs.declared.answer.Answer.the-variants.{Accepted}
 use Rattle.theory.specs.Verdict.{Verdict, Race, Clear, Doubt}
 use Rattle.theory.specs.Control.{refusalIn}
-use Rattle.theory.specs.History.{accesses}
+use Rattle.theory.specs.Recording.{accesses}
 use Rattle.theory.specs.Step.{recordNumber, nextNumber, stepOf, freshState}
 use Rattle.theory.specs.Feeding.{Says, fed}
 use Rattle.text.specs.Lines.{linesOf}

@@ -10,26 +10,28 @@ use Rattle.theory.specs.declared.record.Record.{Record}
 use Rattle.theory.specs.declared.answer.Answer.the-variants.{Refused}
 use Rattle.theory.specs.declared.state.SetState.{SetState}
 use Rattle.theory.specs.declared.state.State.{State}
+use Rattle.theory.specs.Limits.{tasks, records}
+use Rattle.theory.specs.Recording.{start, join, kind, lossMark}
 use Rattle.theory.specs.Acceptance.{Fitting}
-use Rattle.theory.specs.Control.{liveIn, unseenIn, countIn, refusalIn}
+use Rattle.theory.specs.Control.{countIn, standingIn, refusalIn}
 use Rattle.theory.specs.declared.masks.Masks.{Masks}
 use Rattle.theory.specs.Reckonings.{masksBy}
 use Rattle.theory.specs.Step.{masksUnless, setStepBy, stepBy}
-use Rattle.theory.proofs.Acceptance.{passed}
+use Rattle.theory.proofs.Acceptance.{allowed}
 
 -- an accepted record's numbers are in their ranges, and there is room for it
 pub record Accepts (control : List ℕ) (r : Record) : Type 0 where
-  pub room : countIn control < 60_000
-  pub fits : eqb (r .kind) 8 ≡ false → Fitting (r .kind) (r .task) (r .on)
-  pub on-task : (r .kind ≡ 6 → r .on < 16) × (r .kind ≡ 7 → r .on < 16)
+  pub room : countIn control < records
+  pub fits : eqb (r .kind) lossMark ≡ false → Fitting (r .kind) (r .task) (r .on)
+  pub on-task : (r .kind ≡ kind start → r .on < tasks) × (r .kind ≡ kind join → r .on < tasks)
 
 pub accepts : (control : List ℕ) (r : Record) (n : ℕ) → n ≡ refusalIn control r → n ≡ 0 → Accepts control r
 accepts control r n e z =
-    let p = passed (liveIn control) (unseenIn control) (countIn control) r (sym e ∙ z) in
+    let p = allowed (standingIn control) r (sym e ∙ z) in
     record {
       room = p .room;
-      fits = λ q. let a = p .act (eqb-false (r .kind) 8 q) in record { task-fits = a .task; on-fits = a .on };
-      on-task = (λ q. rw q at (p .act (λ w. omega arith) .on), λ q. rw q at (p .act (λ w. omega arith) .on));
+      fits = λ q. p .act (eqb-false (r .kind) lossMark q) .fits;
+      on-task = (λ q. rw q at (p .act (λ w. omega arith) .fits .on-fits), λ q. rw q at (p .act (λ w. omega arith) .fits .on-fits));
     }
 
 -- a refused record leaves the state as it was

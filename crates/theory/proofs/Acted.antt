@@ -6,7 +6,7 @@ use mathlib.Core.Logic.{_↔_, _⊎_, inl, inr}
 use mathlib.Core.List.{List, [], _∷_, _++_}
 use Prim.Native.Nat.{ℕ}
 use lib.Dec.{eqb}
-use Rattle.theory.specs.Recording.{Op, read, write, take, give, look, start, join, Event, act, lost}
+use Rattle.theory.specs.Recording.{Op, start, Effect, keeps, begins, ends, about, kind, Event, act, lost}
 use Rattle.theory.specs.Completion.{Named}
 use Rattle.theory.specs.Acceptance.{Phase, isLive, isUnseen, phaseBy, phaseAfter, phase}
 use Rattle.theory.proofs.ExactControl.{phase-snoc}
@@ -149,21 +149,16 @@ live-seen Phase.ended e = refl
 
 -- no event makes a task unseen
 still-seen : (e : Event) (u : ℕ) (p : Phase) → isUnseen p ≡ false → isUnseen (phaseAfter e u p) ≡ false
-still-seen (act o t n) u p h = of o (eqb n u)
+still-seen (act o t n) u p h = of (eqb n u)
   where
-    by : (o : Op) → isUnseen (phaseBy o p) ≡ false
-    by read = h
-    by write = h
-    by take = h
-    by give = h
-    by look = h
-    by Op.set = h
-    by start = refl
-    by join = refl
+    by : (e : Effect) → isUnseen (phaseBy e p) ≡ false
+    by keeps = h
+    by begins = refl
+    by ends = refl
 
-    of : (o : Op) (b : Bool) → isUnseen (cond b (phaseBy o p) p) ≡ false
-    of o true = by o
-    of o false = h
+    of : (b : Bool) → isUnseen (cond b (phaseBy ((about o) .effect) p) p) ≡ false
+    of true = by ((about o) .effect)
+    of false = h
 still-seen (lost mask) u p h = h
 
 seen-next : (es : List Event) (e : Event) (t : ℕ) → isUnseen (phase es t) ≡ false → isUnseen (phase (es ++ (e ∷ [])) t) ≡ false
@@ -181,7 +176,7 @@ pub fresh-seen : Seen []
 fresh-seen = record { seen = λ t a. absurd (none-acted a) }
 
 -- so whom a start tells has not acted
-pub starts-unseen : {w : Filling} {es : List Event} {o : Op} {t n : ℕ} → Seen es → (o ≡ start → isUnseen (phase es n) ≡ true) →
+pub starts-unseen : {w : Filling} {es : List Event} {o : Op} {t n : ℕ} → Seen es → (kind o ≡ kind start → isUnseen (phase es n) ≡ true) →
     (u : ℕ) → Tells (act o t n) (due u) → (u ≡ t) ⊎ (¬ Acted w u es)
 starts-unseen s f u own-next = inl refl
 starts-unseen s f u by-start = inr (λ a. true≢false (sym (f refl) ∙ s .seen u (acted-full a)))

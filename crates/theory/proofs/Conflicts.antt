@@ -9,8 +9,8 @@ use native.Mathlib.Nat.{le-refl}
 use native.Mathlib.Omega.{arith}
 use borrow.Author.Tests.{lt-ltb, le-ltb, ltb-true, ltb-false}
 use lib.Dec.{T, ltb, eqb}
-use Rattle.theory.specs.Recording.{Op, read, write, take, give, look, start, join, Event, act, lost, series, kind, _is_, ActsIn, acts}
-use Rattle.theory.specs.Order.{isAccess, Conflict, conflict}
+use Rattle.theory.specs.Recording.{Op, read, write, take, give, look, start, join, Event, act, lost, series, kind, _is_, ActsIn, acts, isAccess}
+use Rattle.theory.specs.Order.{Conflict, conflict}
 use Rattle.theory.specs.History.{slot, lastOf, otherKind, otherLater, latestSlot, latestNumber}
 use Rattle.theory.proofs.Reflects.{Reflects, right, wrong, at-most}
 use Rattle.theory.proofs.Places.{Occurs, first, next}

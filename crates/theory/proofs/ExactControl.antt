@@ -8,17 +8,18 @@ use native.Mathlib.Omega.{arith}
 use lib.Dec.{eqb, eqb·suc-zero}
 use lib.ListN.{length, getD, set, drop, length-append, length-set, getD-replicate}
 use lib.Seq.{getD-set-same, getD-set-other}
-use borrow.Author.Tests.{lt-ltb}
+use borrow.Author.Tests.{le-leb}
 use Rattle.theory.specs.declared.record.Record.{Record}
 use Rattle.theory.specs.Limits.{tasks}
 use Rattle.theory.specs.Turns.{turns}
-use Rattle.theory.specs.Recording.{Op, Event, act, lost, kind, lossMark, seriesOf}
+use Rattle.theory.specs.Recording.{Op, Event, act, lost, kind, kinds, lossMark, seriesOf}
 use Rattle.theory.specs.Completion.{names}
-use Rattle.theory.specs.Acceptance.{Phase, isLive, isUnseen, phaseAfter, phaseFrom, phase, Fitting, hasKind, anyBelow, firstRow, refusalBy, refusal}
-use Rattle.theory.specs.Control.{liveIn, unseenIn, countIn, refusalIn, counted, controlAfter}
+use Rattle.theory.specs.Acceptance.{Phase, isLive, isUnseen, phaseAfter, phaseFrom, phase, Fitting, hasKind, anyBelow, Standing, _when_, firstRow, refusalBy, standing, refusal}
+use Rattle.theory.specs.Control.{liveIn, unseenIn, countIn, standingIn, refusalIn, counted, controlAfter}
 use Rattle.theory.specs.Step.{freshControl}
 use Rattle.theory.proofs.Reflects.{Reflects, right, wrong, equal, at-most}
-use Rattle.theory.proofs.Acceptance.{actRows, markRows, act-rows, mark-rows}
+use Rattle.theory.proofs.Acceptance.{OfAct, actRows, markRows, act-rows, mark-rows}
+use Rattle.theory.proofs.Ops.{Role, a-take, a-give, a-look, a-set, a-start, a-join, plain, role, keeps-phases}
 
 -- Definition
 
@@ -98,14 +99,18 @@ module _ {es : List Event} {control : List ℕ} (x : ExactControl es control) wh
           record { live = rw o (x .live t h); unseen = rw o (x .unseen t h) }
 
   pub control-act : (o : Op) {t n : ℕ} → Fitting (kind o) t n → ExactControl (es ++ (act o t n ∷ [])) (controlAfter (kind o) n control)
-  control-act Op.read {t} {n} f = same-phases (act Op.read t n) (λ u p. cond-same (eqb n u) p)
-  control-act Op.write {t} {n} f = same-phases (act Op.write t n) (λ u p. cond-same (eqb n u) p)
-  control-act Op.take {t} {n} f = same-phases (act Op.take t n) (λ u p. cond-same (eqb n u) p)
-  control-act Op.give {t} {n} f = same-phases (act Op.give t n) (λ u p. cond-same (eqb n u) p)
-  control-act Op.look {t} {n} f = same-phases (act Op.look t n) (λ u p. cond-same (eqb n u) p)
-  control-act Op.set {t} {n} f = same-phases (act Op.set t n) (λ u p. cond-same (eqb n u) p)
-  control-act Op.start {t} {n} f = new-phase (act Op.start t n) n 1 Phase.live (f .on-fits) refl refl (λ u p. refl)
-  control-act Op.join {t} {n} f = new-phase (act Op.join t n) n 2 Phase.ended (f .on-fits) refl refl (λ u p. refl)
+  control-act o {t} {n} f = by-role (role o) f
+    where
+      by-role : {o : Op} → Role o → Fitting (kind o) t n → ExactControl (es ++ (act o t n ∷ [])) (controlAfter (kind o) n control)
+      by-role a-take f = same-phases (act Op.take t n) (λ u p. cond-same (eqb n u) p)
+      by-role a-give f = same-phases (act Op.give t n) (λ u p. cond-same (eqb n u) p)
+      by-role a-look f = same-phases (act Op.look t n) (λ u p. cond-same (eqb n u) p)
+      by-role a-set f = same-phases (act Op.set t n) (λ u p. cond-same (eqb n u) p)
+      by-role a-start f = new-phase (act Op.start t n) n 1 Phase.live (f .on-fits) refl refl (λ u p. refl)
+      by-role a-join f = new-phase (act Op.join t n) n 2 Phase.ended (f .on-fits) refl refl (λ u p. refl)
+      by-role {o} (plain x) f =
+          rw (x .not-start, x .not-join)
+          (same-phases (act o t n) (λ u p. rw (keeps-phases o (x .not-start) (x .not-join)) (cond-same (eqb n u) p)))
 
   pub control-mark : (mask on : ℕ) → ExactControl (es ++ (lost mask ∷ [])) (controlAfter lossMark on control)
   control-mark mask on = same-phases (lost mask) (λ t p. refl)
@@ -117,46 +122,47 @@ unfolding turns
 any-same zero p q e = refl
 any-same (suc n) p q e = ap₂ _||_ (any-same n p q (λ k h. e k (omega arith))) (e n (omega arith))
 
-module _ (l l′ u u′ : ℕ → Bool) (count : ℕ) (r : Record) (same-live : (t : ℕ) → t < 16 → l t ≡ l′ t) (same-unseen : (t : ℕ) → t < 16 → u t ≡ u′ t) where
+module _ (s s′ : Standing) (r : Record) (same-count : s .count ≡ s′ .count) (same-live : (t : ℕ) → t < 16 → s .live t ≡ s′ .live t)
+    (same-unseen : (t : ℕ) → t < 16 → s .unseen t ≡ s′ .unseen t) where
   -- a test of `on` counts only where `on` is a task
   on-task : (o : Op) (p q : ℕ → Bool) → seriesOf (kind o) ≡ 16 → ((t : ℕ) → t < 16 → p t ≡ q t) → r .on < seriesOf (r .kind) →
       (hasKind r o && not (p (r .on))) ≡ (hasKind r o && not (q (r .on)))
-  on-task o p q s e h = decided (equal (r .kind) (kind o))
+  on-task o p q e f h = decided (equal (r .kind) (kind o))
     where
       decided : {b : Bool} → Reflects (r .kind ≡ kind o) b → (b && not (p (r .on))) ≡ (b && not (q (r .on)))
-      decided (right w) = ap not (e (r .on) (rw (w, s) at h))
+      decided (right w) = ap not (f (r .on) (rw (w, e) at h))
       decided (wrong d) = refl
 
   -- rows 2 and 3 come before the tests of an act's numbers
-  act-same : firstRow 2 (actRows l u count r) ≡ firstRow 2 (actRows l′ u′ count r)
+  act-same : firstRow (actRows s r) ≡ firstRow (actRows s′ r)
   act-same = decided (at-most tasks (r .task)) (at-most (seriesOf (r .kind)) (r .on))
     where
       decided : {a b : Bool} → Reflects (tasks ≤ r .task) a → Reflects (seriesOf (r .kind) ≤ r .on) b →
-          firstRow 2 (a ∷ b ∷ drop 2 (actRows l u count r)) ≡ firstRow 2 (a ∷ b ∷ drop 2 (actRows l′ u′ count r))
+          firstRow ((2 when a) ∷ (3 when b) ∷ drop 2 (actRows s r)) ≡ firstRow ((2 when a) ∷ (3 when b) ∷ drop 2 (actRows s′ r))
       decided (right _) _ = refl
       decided (wrong f) (right _) = refl
       decided (wrong f) (wrong g) =
           let h : r .on < seriesOf (r .kind) = omega arith in
-          rw (same-live (r .task) (omega arith), on-task Op.start u u′ refl same-unseen h, on-task Op.join l l′ refl same-live h)
+          rw (same-count, same-live (r .task) (omega arith), on-task Op.start (s .unseen) (s′ .unseen) refl same-unseen h, on-task Op.join (s .live) (s′ .live) refl same-live h)
 
-  mark-same : firstRow 4 (markRows l u count r) ≡ firstRow 4 (markRows l′ u′ count r)
+  mark-same : firstRow (markRows s r) ≡ firstRow (markRows s′ r)
   mark-same =
-      rw (any-same tasks (λ t. names (r .on) t && not (l t)) (λ t. names (r .on) t && not (l′ t))
+      rw (same-count, any-same tasks (λ t. names (r .on) t && not (s .live t)) (λ t. names (r .on) t && not (s′ .live t))
       (λ t h. rw (same-live t h)))
 
-  -- tests that agree on the tasks refuse the same records
-  refusal-same : refusalBy l u count r ≡ refusalBy l′ u′ count r
-  refusal-same = decided (equal (r .kind) lossMark) (at-most (suc (r .kind)) lossMark)
+  -- standings that agree on the tasks refuse the same records
+  refusal-same : refusalBy s r ≡ refusalBy s′ r
+  refusal-same = decided (equal (r .kind) lossMark) (at-most (length kinds) (r .kind))
     where
-      unknown : (l u : ℕ → Bool) → lossMark < r .kind → refusalBy l u count r ≡ 1
-      unknown l u h = unfold refusalBy in rw (lt-ltb lossMark (r .kind) h)
+      unknown : (s : Standing) → length kinds ≤ r .kind → refusalBy s r ≡ 1
+      unknown s h = unfold refusalBy in rw (le-leb (length kinds) (r .kind) h)
 
-      decided : {a b : Bool} → Reflects (r .kind ≡ lossMark) a → Reflects (r .kind < lossMark) b → refusalBy l u count r ≡ refusalBy l′ u′ count r
-      decided (right e) _ = mark-rows l u count r e ∙ (mark-same ∙ sym (mark-rows l′ u′ count r e))
-      decided (wrong f) (right h) = act-rows l u count r h ∙ (act-same ∙ sym (act-rows l′ u′ count r h))
-      decided (wrong f) (wrong g) = unknown l u (omega arith) ∙ sym (unknown l′ u′ (omega arith))
+      decided : {a b : Bool} → Reflects (r .kind ≡ lossMark) a → Reflects (length kinds ≤ r .kind) b → refusalBy s r ≡ refusalBy s′ r
+      decided (right e) _ = mark-rows s r e ∙ (mark-same ∙ sym (mark-rows s′ r e))
+      decided (wrong f) (right h) = unknown s h ∙ sym (unknown s′ h)
+      decided (wrong f) (wrong g) =
+          let a : OfAct r = record { known = omega arith; no-mark = f } in
+          act-rows s r a ∙ (act-same ∙ sym (act-rows s′ r a))
 
 pub same-refusal : {es : List Event} {control : List ℕ} → ExactControl es control → (r : Record) → refusalIn control r ≡ refusal es r
-same-refusal {es} {control} x r =
-    ap (λ (n : ℕ). refusalBy (liveIn control) (unseenIn control) n r) (x .count)
-    ∙ refusal-same (liveIn control) (λ t. isLive (phase es t)) (unseenIn control) (λ t. isUnseen (phase es t)) (length es) r (x .live) (x .unseen)
+same-refusal {es} {control} x r = refusal-same (standingIn control) (standing es) r (x .count) (x .live) (x .unseen)

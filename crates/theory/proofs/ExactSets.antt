@@ -8,11 +8,11 @@ use native.Mathlib.Omega.{arith}
 use lib.Bits.{bitOr}
 use lib.Dec.{T, eqb}
 use lib.ListN.{replicate}
-use Rattle.theory.specs.Recording.{Op, Event, act, lost, series, kind}
-use Rattle.theory.specs.Order.{isAccess}
+use Rattle.theory.specs.Recording.{Op, Event, act, lost, series, kind, accesses, isAccess}
+
 use Rattle.theory.specs.Completion.{bit, Named}
 use Rattle.theory.specs.Tables.{cell, noteActed, mix}
-use Rattle.theory.specs.History.{accesses, slot}
+use Rattle.theory.specs.History.{slot}
 use Rattle.theory.specs.Reckonings.{hasSlot, clearSlot, addSlot, setOwn, setAct}
 use Rattle.theory.proofs.Reflects.{Reflects, right, wrong, equal, by-test}
 use Rattle.theory.proofs.Carry.{Node, due, Tells}
@@ -26,7 +26,8 @@ use Rattle.theory.proofs.Tests.{Some, some-snoc, snoc-some, snoc-last}
 use Rattle.theory.proofs.Came.{Came, Newly}
 use Rattle.theory.proofs.Acted.{Acted}
 use Rattle.theory.proofs.Exact.{Exact, Owned, ExactActed, exact-act, exact-mark, exact-mix, fresh-exact, acted-same, acted-act, acted-mark, acted-mix, fresh-acted}
-use Rattle.theory.proofs.Slots.{InSlot, in-slot, access-kind, access-on, access-tests, other-tests, slot-below, in-access, in-one, no-slot-mark}
+use Rattle.theory.proofs.Slots.{InSlot, in-slot, access-kind, slot-below, in-access, in-one, no-slot-mark}
+use Rattle.theory.proofs.Ops.{access-on, access-tests, other-tests}
 
 -- Definition
 

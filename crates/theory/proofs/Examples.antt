@@ -7,8 +7,8 @@ use Prim.Native.Nat.{ℕ, suc, _+_}
 use native.Mathlib.Numerals.{add-one}
 use lib.Dec.{T}
 use lib.ListN.{length, getD, length-append}
-use Rattle.theory.specs.Recording.{Event, act, lost}
-use Rattle.theory.specs.Order.{isAccess}
+use Rattle.theory.specs.Recording.{Event, act, lost, isAccess}
+
 use Rattle.theory.specs.Completion.{part, round, rounds, onEach}
 use Rattle.theory.specs.Decide.{Answer, answer, answersAfter, answers, judge}
 use Rattle.theory.specs.Examples.{Example, Answered, nothing-left, to-access, to-other, to-mark, AllRight, no-rows, and-row, table}

@@ -9,26 +9,27 @@ use native.Mathlib.Omega.{arith}
 use lib.ListN.{length}
 use Rattle.theory.specs.declared.record.Record.{Record}
 use Rattle.theory.specs.declared.answer.Answer.{Answer}
-use Rattle.theory.specs.Recording.{Event, act, eventOf, Unmarked}
-use Rattle.theory.specs.Acceptance.{refusalBy, refusal, joined, fedAfter, recording}
+use Rattle.theory.specs.Recording.{Event, act, eventOf, Unmarked, accesses, isAccess}
+use Rattle.theory.specs.Acceptance.{lastRow, refusalBy, refusal, joined, fedAfter, recording}
 use Rattle.theory.specs.Verdict.{Verdict, Race, Clear, Doubt, AccessAt, Unordered, With, clear, race, doubt}
 use Rattle.theory.specs.Demands.{Firm}
 use Rattle.theory.specs.Decide.{judge, isAccessEvent}
 use Rattle.theory.specs.Control.{refusalIn}
 use Rattle.theory.specs.declared.masks.Masks.{Masks}
-use Rattle.theory.specs.History.{accesses}
+
 use Rattle.theory.specs.Reckonings.{clockMasks, setMasks}
 use Rattle.theory.specs.Step.{nextNumber, answeredBy, stepOf, setStepOf}
 use Rattle.theory.specs.Turns.{turns}
 use Rattle.theory.specs.Completion.{rounds, round, part, onEach}
 use Rattle.theory.specs.Examples.{Example, table}
-use Rattle.theory.specs.Feeding.{recordOf, verdictsOf, FedExamples, Says, says-clear, says-race, says-doubt, isRefusal, acceptedOf, Got, got-now, got-later, got-refused, EachAccess, FedDemand2, FedDemand3, FedPartner, FedAcceptance, refusalNumber, refusalNumbers, refusalsAfter, verdictAnswer, acceptedAnswer, answerBy, answerTo, answersFrom, fed, setFed, Judged, GetsVerdict, Demand1, Handled, refused, access-taken, other-taken}
-use Rattle.theory.specs.Order.{isAccess}
+use Rattle.theory.specs.Feeding.{recordOf, verdictsOf, FedExamples, Says, says-clear, says-race, says-doubt, isRefusal, acceptedOf, Got, got-now, got-later, got-refused, EachAccess, FedDemand2, FedDemand3, FedPartner, FedAcceptance, refusalNumber, refusalNumbers, refusalsAfter, verdictAnswer, acceptedAnswer, answerBy, answerTo, answersFrom, AnswersByTable, Checker, fedBy, fed, setFed, Demanded, Judged, GetsVerdict, Demand1, Handled, refused, access-taken, other-taken}
+
 use Rattle.theory.proofs.Reflects.{by-test, is-true}
 use Rattle.theory.proofs.Places.{Ends, ends, onward, at-ends}
 use Rattle.theory.proofs.Demands.{Ruling, judge-ruling, ruling-firm, ruling-with, firm-unmarked}
-use Rattle.theory.proofs.Feeding.{fed-answers, set-fed-answers}
-use Rattle.theory.proofs.Cases.{refusal-bound, judged-by}
+use Rattle.theory.proofs.Feeding.{Simulates, fed-to, clocks-simulate, sets-simulate}
+use Rattle.theory.proofs.Cases.{judged-by}
+use Rattle.theory.proofs.Acceptance.{refusal-bound}
 
 -- An accepted record's answer is no refusal
 
@@ -107,7 +108,7 @@ with-says clear = says-clear
 with-says (race p) = says-race
 with-says (doubt p) = says-doubt
 
-module _ (answers : List Record → List Answer) (right : (rs : List Record) → answers rs ≡ answersFrom [] rs) where
+module _ (answers : List Record → List Answer) (right : AnswersByTable answers) where
   -- whatever the verdict and partner of the search are, the fed ones are
   each-access : (P : List Event → ℕ → Verdict → ℕ → Type 0) → ((es : List Event) (k : ℕ) (v : Verdict) (w : ℕ) → Ruling es k v w → P es k v w) → EachAccess answers P
   each-access P holds rs k a = subst Each (sym (right rs)) each (subst (λ (l : List Answer). AccessAt (acceptedOf rs l) k) (right rs) a)
@@ -146,38 +147,6 @@ module _ (answers : List Record → List Answer) (right : (rs : List Record) →
     subst (λ (l : List Answer). refusalNumbers l ≡ refusalsAfter [] rs) (sym (right rs)) (numbers-from [] rs),
   )
 
--- Demand 3, of the step and of the sets
-
-pub demand3 : FedDemand3 fed
-demand3 = fed-demand3 fed fed-answers
-
-pub sets-demand3 : FedDemand3 setFed
-sets-demand3 = fed-demand3 setFed set-fed-answers
-
--- Demand 2
-
-pub demand2 : FedDemand2 fed
-demand2 = fed-demand2 fed fed-answers
-
-pub sets-demand2 : FedDemand2 setFed
-sets-demand2 = fed-demand2 setFed set-fed-answers
-
--- The partner
-
-pub partners : FedPartner fed
-partners = fed-partner fed fed-answers
-
-pub sets-partners : FedPartner setFed
-sets-partners = fed-partner setFed set-fed-answers
-
--- Acceptance
-
-pub acceptance : FedAcceptance fed
-acceptance = fed-acceptance fed fed-answers
-
-pub sets-acceptance : FedAcceptance setFed
-sets-acceptance = fed-acceptance setFed set-fed-answers
-
 -- Demand 1, and that an access which no row refuses gets a verdict
 
 accepted-verdict : (last : List ℕ) (k on number : ℕ) (m : Masks) → accesses k ≡ true → Judged (answeredBy last k on number m) number
@@ -193,19 +162,19 @@ gets-verdict r q = (
 -- demand 1 for records
 pub demand1 : Demand1
 unfolding stepOf
-demand1 s r = decided (refusalIn (s .control) r) (refusal-bound _ _ _ r) refl
+demand1 s r = decided (refusalIn (s .control) r) (refusal-bound _ r) refl
   where
     taken : (b : Bool) → accesses (r .kind) ≡ b → refusalIn (s .control) r ≡ 0 → Handled s r
     taken true q e = access-taken e q (gets-verdict r q .0 s e)
     taken false q e = other-taken e q (rw (e, q))
 
-    decided : (n : ℕ) → refusalIn (s .control) r ≤ 9 → refusalIn (s .control) r ≡ n → Handled s r
+    decided : (n : ℕ) → refusalIn (s .control) r ≤ lastRow → refusalIn (s .control) r ≡ n → Handled s r
     decided (suc n) h e = refused (suc n) e (omega arith) (omega arith) (rw e)
     decided zero h e = taken (accesses (r .kind)) refl e
 
 -- K1 to K12 come out of feeding as they come out of the definitions
 
-same-rows : (answers : List Record → List Answer) → ((rs : List Record) → answers rs ≡ answersFrom [] rs) → (xs : List Example) →
+same-rows : (answers : List Record → List Answer) → AnswersByTable answers → (xs : List Example) →
     map (λ (x : Example). verdictsOf (answers (map recordOf (x .events)))) xs ≡ map (λ (x : Example). verdictsOf (answersFrom [] (map recordOf (x .events)))) xs
 same-rows answers right [] = refl
 same-rows answers right (x ∷ xs) = rw (right (map recordOf (x .events)), same-rows answers right xs)
@@ -215,8 +184,26 @@ table-fed : map (λ (x : Example). verdictsOf (answersFrom [] (map recordOf (x .
 unfolding turns refusalBy judge rounds round part onEach
 table-fed = refl
 
-pub examples : FedExamples fed
-examples = same-rows fed fed-answers table ∙ table-fed
+-- All of it, of whatever simulates
 
-pub sets-examples : FedExamples setFed
-sets-examples = same-rows setFed set-fed-answers table ∙ table-fed
+pub demanded : {S : Type 0} {c : Checker S} {R : List Event → S → Type 0} → Simulates c R → Demanded (fedBy c)
+demanded {c = c} x =
+    record {
+      by-table = right;
+      demand2 = fed-demand2 (fedBy c) right;
+      demand3 = fed-demand3 (fedBy c) right;
+      partner = fed-partner (fedBy c) right;
+      acceptance = fed-acceptance (fedBy c) right;
+      examples = same-rows (fedBy c) right table ∙ table-fed;
+    }
+  where
+    right : AnswersByTable (fedBy c)
+    right rs = fed-to x [] (c .fresh) rs (x .begins)
+
+-- of the step, which goes by the clocks
+pub clocks-demanded : Demanded fed
+clocks-demanded = demanded clocks-simulate
+
+-- of the sets
+pub sets-demanded : Demanded setFed
+sets-demanded = demanded sets-simulate

@@ -6,11 +6,11 @@ use mathlib.Core.List.{List, [], _∷_, _++_}
 use Prim.Native.Nat.{ℕ, zero, suc, _<_, zero-le, suc-le-suc}
 use lib.Dec.{T, lit<}
 use Rattle.theory.specs.Limits.{tasks}
-use Rattle.theory.specs.Recording.{Op, take, give, look, set, Event, act, series}
-use Rattle.theory.specs.Completion.{bit, names, Named, Loses, takes, gives, looks, sets, Filler, filler, Every, no-more, and-more, done, keep, fill, Completion, inTurn, onEach, part, partIf, round, rounds, fullest, nothing}
+use Rattle.theory.specs.Recording.{Op, take, give, look, set, Event, act, series, losable}
+use Rattle.theory.specs.Completion.{bit, names, Named, Filler, filler, Every, no-more, and-more, done, keep, fill, Completion, inTurn, onEach, part, partIf, round, rounds, fullest, nothing}
 use Rattle.theory.proofs.Reflects.{by-test, both, at-most, passed, is-true}
 use Rattle.theory.proofs.Leads.{Leads}
-use Rattle.theory.proofs.Carry.{Node, due, semaphore, Hears, own, by-take, by-look, Tells, own-next, own-acted, by-give, by-set, Carry, stay, pass, move, carry-skip, carry-append, carry-split, carry-one, carry-in-turn, leads-carried, carried-leads}
+use Rattle.theory.proofs.Carry.{Node, due, semaphore, Hears, own, by-take, by-look, by-join, Tells, own-next, own-acted, by-give, by-set, by-start, Carry, stay, pass, move, carry-skip, carry-append, carry-split, carry-one, carry-in-turn, leads-carried, carried-leads}
 
 -- Definition
 
@@ -44,17 +44,19 @@ unfolding onEach
 carry-each o t n h hears tells = carry-in-turn (series o) (λ k. act o t k ∷ []) n h (carry-one hears tells)
 
 -- the first half of a task's part brings to its next act what any filler of that task hears
-hears-part : {t n : ℕ} {o : Op} {m : Node} → Loses o → n < series o → Hears m (act o t n) → Carry m (onEach take t ++ onEach look t) (due t)
+hears-part : {t n : ℕ} {o : Op} {m : Node} → T (losable o) → n < series o → Hears m (act o t n) → Carry m (onEach take t ++ onEach look t) (due t)
 hears-part {t} l h own = carry-skip (onEach take t ++ onEach look t)
 hears-part {t} {n} l h by-take = carry-append (carry-each take t n h by-take own-next) (carry-skip (onEach look t))
 hears-part {t} {n} l h by-look = carry-append (carry-skip (onEach take t)) (carry-each look t n h by-look own-next)
+hears-part l h by-join = absurd l
 
 -- the second half brings to whatever any filler of that task tells what its next act hears
-tells-part : {t n : ℕ} {o : Op} {m : Node} → Loses o → n < series o → Tells (act o t n) m → Carry (due t) (onEach give t ++ onEach set t) m
+tells-part : {t n : ℕ} {o : Op} {m : Node} → T (losable o) → n < series o → Tells (act o t n) m → Carry (due t) (onEach give t ++ onEach set t) m
 tells-part {t} l h own-next = carry-skip (onEach give t ++ onEach set t)
 tells-part {t} l h own-acted = carry-append (carry-each give t 0 (lit< tt) own own-acted) (carry-skip (onEach set t))
 tells-part {t} {n} l h by-give = carry-append (carry-each give t n h own by-give) (carry-skip (onEach set t))
 tells-part {t} {n} l h by-set = carry-append (carry-skip (onEach give t)) (carry-each set t n h own by-set)
+tells-part l h by-start = absurd l
 
 -- semaphore 0 is where the first round leaves order for the second
 hub : Node
@@ -73,12 +75,12 @@ carry-round {mask} {t} {n} {m} named c =
 heard-round : {mask : ℕ} {n : Node} → Heard mask n → Carry n (round mask) hub
 unfolding hub part
 heard-round (_, filler l named h, hears) =
-    carry-round named (carry-append (hears-part l h hears) (tells-part gives (lit< tt) by-give))
+    carry-round named (carry-append (hears-part l h hears) (tells-part {o = give} tt (lit< tt) by-give))
 
 told-round : {mask : ℕ} {n : Node} → Told mask n → Carry hub (round mask) n
 unfolding hub part
 told-round (_, filler l named h, tells) =
-    carry-round named (carry-append (hears-part takes (lit< tt) by-take) (tells-part l h tells))
+    carry-round named (carry-append (hears-part {o = take} tt (lit< tt) by-take) (tells-part l h tells))
 
 pub mix-rounds : {mask : ℕ} {n m : Node} → Mix mask n m → Carry n (rounds mask) m
 unfolding rounds
@@ -108,15 +110,15 @@ every-in-turn : {P : Event → Type 0} (n : ℕ) (f : ℕ → List Event) → ((
 every-in-turn zero f all = no-more
 every-in-turn (suc n) f all = every-append (all zero (suc-le-suc zero-le)) (every-in-turn n (λ k. f (suc k)) (λ k h. all (suc k) (suc-le-suc h)))
 
-filler-each : {mask t : ℕ} {o : Op} → Named mask t → Loses o → Every (Filler mask) (onEach o t)
+filler-each : {mask t : ℕ} (o : Op) → Named mask t → T (losable o) → Every (Filler mask) (onEach o t)
 unfolding onEach
-filler-each {t = t} {o = o} named l = every-in-turn (series o) (λ n. act o t n ∷ []) (λ n h. and-more (filler l named h) no-more)
+filler-each {t = t} o named l = every-in-turn (series o) (λ n. act o t n ∷ []) (λ n h. and-more (filler l named h) no-more)
 
 filler-part : {mask t : ℕ} → Named mask t → Every (Filler mask) (part t)
 unfolding part
 filler-part named =
-    every-append (every-append (filler-each named takes) (filler-each named looks))
-    (every-append (filler-each named gives) (filler-each named sets))
+    every-append (every-append (filler-each take named tt) (filler-each look named tt))
+    (every-append (filler-each give named tt) (filler-each set named tt))
 
 filler-round : (mask : ℕ) → Every (Filler mask) (round mask)
 unfolding round

@@ -3,6 +3,7 @@ pub mod Reflects
 pub mod Tests
 pub mod Turns
 pub mod Acceptance
+pub mod Ops
 -- Paths: by what lies between, by nodes, by places; and that the fullest completion has them all
 pub mod Leads
 pub mod Carry

@@ -1,15 +1,16 @@
 -- Nodes and the rows that the tables have for them: one row for each node in range. That a task has acted has none: where it has, order
 -- that has come to its next act has come to that (Acted.antt). Assumes nothing.
 use mathlib.Core.Path.{_≡_, refl, sym, _∙_, ap}
-use mathlib.Core.Bool.{Bool, true, false, cond}
+use mathlib.Core.Bool.{Bool, true, false, cond, _&&_}
 use mathlib.Core.List.{List}
 use mathlib.Core.Logic.{_⊎_, inl, inr}
 use Prim.Native.Nat.{ℕ, _+_, _-_, _≤_, _<_}
 use native.Mathlib.Omega.{arith}
 use borrow.Author.Tests.{lt-ltb, le-ltb}
 use lib.Dec.{ltb}
-use Rattle.theory.specs.Recording.{Op, read, write, take, give, look, set, start, join, act, series, kind}
+use Rattle.theory.specs.Recording.{Op, take, give, look, set, start, join, act, series, kind, _is_}
 use Rattle.theory.specs.Tables.{cell, actedRow, joinsActed, heardRow, toldRow}
+use Rattle.theory.proofs.Ops.{Plain, Role, a-take, a-give, a-look, a-set, a-start, a-join, plain, role}
 use Rattle.theory.proofs.Carry.{Node, due, acted, semaphore, flag, Hears, own, by-take, by-look, by-join, Tells, own-next, own-acted, by-give, by-set, by-start}
 
 -- Rows
@@ -58,90 +59,79 @@ row-one a b e = sym (node-row a) ∙ (ap node e ∙ node-row b)
 -- Acts
 
 abbrev pub heardNode : Op → ℕ → ℕ → Node
-heardNode read t n = due t
-heardNode write t n = due t
-heardNode take t n = semaphore n
-heardNode give t n = due t
-heardNode look t n = flag n
-heardNode set t n = due t
-heardNode start t n = due t
-heardNode join t n = acted n
+heardNode o t n = cond (o is take) (semaphore n) (cond (o is look) (flag n) (cond (o is join) (acted n) (due t)))
 
 abbrev pub toldNode : Op → ℕ → ℕ → Node
-toldNode read t n = due t
-toldNode write t n = due t
-toldNode take t n = due t
-toldNode give t n = semaphore n
-toldNode look t n = due t
-toldNode set t n = flag n
-toldNode start t n = due n
-toldNode join t n = due t
+toldNode o t n = cond (o is give) (semaphore n) (cond (o is set) (flag n) (cond (o is start) (due n) (due t)))
 
 -- the node whose row an act reads: for a join that of the task's next act, if the task has acted, and the act's own if not
 abbrev pub readNode : Op → ℕ → ℕ → Bool → Node
-readNode read t n joins = due t
-readNode write t n joins = due t
-readNode take t n joins = semaphore n
-readNode give t n joins = due t
-readNode look t n joins = flag n
-readNode set t n joins = due t
-readNode start t n joins = due t
-readNode join t n joins = cond joins (due n) (due t)
+readNode o t n joins = cond (o is take) (semaphore n) (cond (o is look) (flag n) (cond ((o is join) && joins) (due n) (due t)))
 
 pub read-row : (o : Op) (t n w : ℕ) (b : List ℕ) → heardRow (kind o) t n (joinsActed w b (kind o) n) ≡ row (readNode o t n (ltb 0 (cell w b actedRow n)))
-read-row read t n w b = refl
-read-row write t n w b = refl
-read-row take t n w b = refl
-read-row give t n w b = refl
-read-row look t n w b = refl
-read-row set t n w b = refl
-read-row start t n w b = refl
-read-row join t n w b = of (ltb 0 (cell w b actedRow n))
+read-row o t n w b = by-role (role o)
   where
     of : (x : Bool) → cond x n t ≡ row (cond x (due n) (due t))
     of true = refl
     of false = refl
 
+    by-role : {o : Op} → Role o → heardRow (kind o) t n (joinsActed w b (kind o) n) ≡ row (readNode o t n (ltb 0 (cell w b actedRow n)))
+    by-role a-take = refl
+    by-role a-give = refl
+    by-role a-look = refl
+    by-role a-set = refl
+    by-role a-start = refl
+    by-role a-join = of (ltb 0 (cell w b actedRow n))
+    by-role (plain x) = rw (x .not-take, x .not-look, x .not-join)
+
 pub told-row : (o : Op) (t n : ℕ) → toldRow (kind o) t n ≡ row (toldNode o t n)
-told-row read t n = refl
-told-row write t n = refl
-told-row take t n = refl
-told-row give t n = refl
-told-row look t n = refl
-told-row set t n = refl
-told-row start t n = refl
-told-row join t n = refl
+told-row o t n = by-role (role o)
+  where
+    by-role : {o : Op} → Role o → toldRow (kind o) t n ≡ row (toldNode o t n)
+    by-role a-take = refl
+    by-role a-give = refl
+    by-role a-look = refl
+    by-role a-set = refl
+    by-role a-start = refl
+    by-role a-join = refl
+    by-role (plain x) = rw (x .not-give, x .not-set, x .not-start)
 
 pub read-in : (o : Op) {t n : ℕ} (joins : Bool) → t < 16 → n < series o → InRange (readNode o t n joins)
-read-in read joins h l = due-in h
-read-in write joins h l = due-in h
-read-in take joins h l = semaphore-in l
-read-in give joins h l = due-in h
-read-in look joins h l = flag-in l
-read-in set joins h l = due-in h
-read-in start joins h l = due-in h
-read-in join true h l = due-in l
-read-in join false h l = due-in h
+read-in o {t} {n} joins h l = by-role (role o) joins l
+  where
+    by-role : {o : Op} → Role o → (joins : Bool) → n < series o → InRange (readNode o t n joins)
+    by-role a-take joins l = semaphore-in l
+    by-role a-give joins l = due-in h
+    by-role a-look joins l = flag-in l
+    by-role a-set joins l = due-in h
+    by-role a-start joins l = due-in h
+    by-role a-join true l = due-in l
+    by-role a-join false l = due-in h
+    by-role (plain x) joins l = rw (x .not-take, x .not-look, x .not-join) (due-in h)
 
 pub told-in : (o : Op) {t n : ℕ} → t < 16 → n < series o → InRange (toldNode o t n)
-told-in read h l = due-in h
-told-in write h l = due-in h
-told-in take h l = due-in h
-told-in give h l = semaphore-in l
-told-in look h l = due-in h
-told-in set h l = flag-in l
-told-in start h l = due-in l
-told-in join h l = due-in h
+told-in o {t} {n} h l = by-role (role o) l
+  where
+    by-role : {o : Op} → Role o → n < series o → InRange (toldNode o t n)
+    by-role a-take l = due-in h
+    by-role a-give l = semaphore-in l
+    by-role a-look l = due-in h
+    by-role a-set l = flag-in l
+    by-role a-start l = due-in l
+    by-role a-join l = due-in h
+    by-role (plain x) l = rw (x .not-give, x .not-set, x .not-start) (due-in h)
 
 pub told-tells : (o : Op) (t n : ℕ) → Tells (act o t n) (toldNode o t n)
-told-tells read t n = own-next
-told-tells write t n = own-next
-told-tells take t n = own-next
-told-tells give t n = by-give
-told-tells look t n = own-next
-told-tells set t n = by-set
-told-tells start t n = by-start
-told-tells join t n = own-next
+told-tells o t n = by-role (role o)
+  where
+    by-role : {o : Op} → Role o → Tells (act o t n) (toldNode o t n)
+    by-role a-take = own-next
+    by-role a-give = by-give
+    by-role a-look = own-next
+    by-role a-set = by-set
+    by-role a-start = by-start
+    by-role a-join = own-next
+    by-role (plain x) = rw (x .not-give, x .not-set, x .not-start) own-next
 
 pub hears-cases : {o : Op} {t n : ℕ} {p : Node} → Hears p (act o t n) → (p ≡ due t) ⊎ (p ≡ heardNode o t n)
 hears-cases own = inl refl
@@ -151,26 +141,34 @@ hears-cases by-join = inr refl
 
 -- what the row that an act reads tells of: a node that the act hears, or for a join the next act of a task that has acted
 pub read-hears : (o : Op) (t n : ℕ) (joins : Bool) → Hears (readNode o t n joins) (act o t n) ⊎ (Hears (acted n) (act o t n) × (readNode o t n joins ≡ due n) × (joins ≡ true))
-read-hears read t n joins = inl own
-read-hears write t n joins = inl own
-read-hears take t n joins = inl by-take
-read-hears give t n joins = inl own
-read-hears look t n joins = inl by-look
-read-hears set t n joins = inl own
-read-hears start t n joins = inl own
-read-hears join t n true = inr (by-join, refl, refl)
-read-hears join t n false = inl own
+read-hears o t n joins = by-role (role o) joins
+  where
+    by-role : {o : Op} → Role o → (joins : Bool) → Hears (readNode o t n joins) (act o t n) ⊎ (Hears (acted n) (act o t n) × (readNode o t n joins ≡ due n) × (joins ≡ true))
+    by-role a-take joins = inl by-take
+    by-role a-give joins = inl own
+    by-role a-look joins = inl by-look
+    by-role a-set joins = inl own
+    by-role a-start joins = inl own
+    by-role a-join true = inr (by-join, refl, refl)
+    by-role a-join false = inl own
+    by-role (plain x) joins = inl (rw (x .not-take, x .not-look, x .not-join) own)
 
 pub heard-read : (o : Op) (t n : ℕ) (joins : Bool) →
     (heardNode o t n ≡ readNode o t n joins) ⊎ (Hears (acted n) (act o t n) × (heardNode o t n ≡ acted n) × (readNode o t n true ≡ due n))
-heard-read read t n joins = inl refl
-heard-read write t n joins = inl refl
-heard-read take t n joins = inl refl
-heard-read give t n joins = inl refl
-heard-read look t n joins = inl refl
-heard-read set t n joins = inl refl
-heard-read start t n joins = inl refl
-heard-read join t n joins = inr (by-join, refl, refl)
+heard-read o t n joins = by-role (role o)
+  where
+    by-role : {o : Op} → Role o → (heardNode o t n ≡ readNode o t n joins) ⊎ (Hears (acted n) (act o t n) × (heardNode o t n ≡ acted n) × (readNode o t n true ≡ due n))
+    by-role a-take = inl refl
+    by-role a-give = inl refl
+    by-role a-look = inl refl
+    by-role a-set = inl refl
+    by-role a-start = inl refl
+    by-role a-join = inr (by-join, refl, refl)
+    by-role (plain x) = inl (rw (x .not-take, x .not-look, x .not-join))
+
+-- an act that is plain hears its own task's next act alone
+pub plain-heard : {o : Op} → Plain o → (t n : ℕ) → heardNode o t n ≡ due t
+plain-heard x t n = rw (x .not-take, x .not-look, x .not-join)
 
 pub joined-in : {o : Op} {t n : ℕ} → Hears (acted n) (act o t n) → n < series o → n < 16
 joined-in by-join l = l
@@ -184,11 +182,16 @@ tells-cases by-start = inr (inr refl)
 
 -- a row of an object that an act tells is that of the object it names
 pub told-object : (o : Op) {t n : ℕ} → t < 16 → n < series o → 16 ≤ row (toldNode o t n) → Object (toldNode o t n)
-told-object read h l k = absurd (omega arith)
-told-object write h l k = absurd (omega arith)
-told-object take h l k = absurd (omega arith)
-told-object give h l k = a-semaphore l
-told-object look h l k = absurd (omega arith)
-told-object set h l k = a-flag l
-told-object start h l k = absurd (omega arith)
-told-object join h l k = absurd (omega arith)
+told-object o {t} {n} h l k = by-role (role o) l k
+  where
+    by-role : {o : Op} → Role o → n < series o → 16 ≤ row (toldNode o t n) → Object (toldNode o t n)
+    by-role a-take l k = absurd (omega arith)
+    by-role a-give l k = a-semaphore l
+    by-role a-look l k = absurd (omega arith)
+    by-role a-set l k = a-flag l
+    by-role a-start l k = absurd (omega arith)
+    by-role a-join l k = absurd (omega arith)
+    by-role {o} (plain x) l k = absurd (not-object (rw (x .not-give, x .not-set, x .not-start) at k))
+      where
+        not-object : 16 ≤ t → ⊥
+        not-object k = omega arith

@@ -12,37 +12,28 @@ use Rattle.theory.specs.declared.record.Record.{Record}
 use Rattle.theory.specs.declared.state.State.{State}
 use Rattle.theory.specs.declared.state.SetState.{SetState}
 use Rattle.theory.specs.Limits.{tasks}
-use Rattle.theory.specs.Recording.{Op, Event, act, kind, eventOf}
-use Rattle.theory.specs.Order.{isAccess}
-use Rattle.theory.specs.Acceptance.{refusal, joined, fedAfter, recording}
+use Rattle.theory.specs.Recording.{Op, Event, act, kind, eventOf, accesses, isAccess}
+
+use Rattle.theory.specs.Acceptance.{refusal, recording}
 use Rattle.theory.specs.Verdict.{Latest, ApartAsArrived, ApartInAll}
-use Rattle.theory.specs.History.{accesses}
+
 use Rattle.theory.specs.Reckonings.{clockApart, setApart, maskOf, masksBy, clockMasks, setMasks}
-use Rattle.theory.specs.Step.{stepOf, setStepOf, masksUnless, apartByClocks, apartBySets, freshState, freshSets}
-use Rattle.theory.specs.Feeding.{clocksAfter, setsAfter, SaysPaths, ClockPaths, SetPaths, ReckoningsMatch}
+use Rattle.theory.specs.Step.{masksUnless, apartByClocks, apartBySets, freshState, freshSets}
+use Rattle.theory.specs.Feeding.{afterAll, byClocks, bySets, SaysPaths, ClockPaths, SetPaths, ReckoningsMatch}
 use Rattle.theory.proofs.Reach.{arrived, full, filling}
 use Rattle.theory.proofs.Places.{Ends, Occurs}
 use Rattle.theory.proofs.Leads.{Leads}
 use Rattle.theory.specs.Completion.{fillWith}
 use Rattle.theory.proofs.Bounds.{apart-as-arrived, apart-in-all}
 use Rattle.theory.proofs.Decide.{Candidate, candidate-latest, candidate-far, far-candidate}
-use Rattle.theory.proofs.Slots.{access-on, other-tests}
+use Rattle.theory.proofs.Ops.{event-act, on-series, access-on, other-tests}
 use Rattle.theory.proofs.Reckoned.{clock-sound, clock-complete, set-sound, set-complete}
-use Rattle.theory.proofs.Feeding.{Shape, an-act, a-mark, shape-of, event-act, on-series, Represents, RepresentsSets, fed-one, set-fed-one, fresh-represents, fresh-represents-sets, fed-answers, set-fed-answers}
+use Rattle.theory.proofs.Feeding.{Shape, an-act, a-mark, shape-of, Represents, RepresentsSets, after-all, clocks-simulate, sets-simulate}
+use Rattle.theory.proofs.Fed.{clocks-demanded, sets-demanded}
 use Rattle.theory.proofs.Bits.{mask-ext}
 use Rattle.theory.proofs.Represents.{same-test}
 use Rattle.theory.proofs.ExactControl.{same-refusal}
 use Rattle.theory.proofs.Examples.{ends-middle}
-
--- The states after a list
-
-clocks-after : (es : List Event) (s : State) (rs : List Record) → Represents es s → Represents (fedAfter es rs) (clocksAfter s rs)
-clocks-after es s [] x = x
-clocks-after es s (r ∷ rs) x = clocks-after (joined es r (refusal es r)) ((stepOf s r) .state) rs (fed-one es s r x .1)
-
-sets-after : (es : List Event) (s : SetState) (rs : List Record) → RepresentsSets es s → RepresentsSets (fedAfter es rs) (setsAfter s rs)
-sets-after es s [] x = x
-sets-after es s (r ∷ rs) x = sets-after (joined es r (refusal es r)) ((setStepOf s r) .state) rs (set-fed-one es s r x .1)
 
 -- Candidates by paths
 
@@ -74,6 +65,12 @@ module _ (es : List Event) (p : Op) (t v : ℕ) where
 
 -- Both reckonings
 
+clocks-now : (rs : List Record) → Represents (recording rs) (afterAll byClocks freshState rs)
+clocks-now rs = after-all clocks-simulate [] freshState rs (clocks-simulate .begins)
+
+sets-now : (rs : List Record) → RepresentsSets (recording rs) (afterAll bySets freshSets rs)
+sets-now rs = after-all sets-simulate [] freshSets rs (sets-simulate .begins)
+
 says : {es : List Event} (o : Op) (t n : ℕ) {asArrived inFull : ℕ → Bool} →
     ((u : ℕ) → u < tasks → T (asArrived u) ↔ ((i : ℕ) × Candidate (filling arrived) (act o t n) es u i)) →
     ((u : ℕ) → u < tasks → T (inFull u) ↔ ((i : ℕ) × Candidate (filling full) (act o t n) es u i)) →
@@ -92,32 +89,32 @@ access-op o e = decided (by-test (isAccess o))
     decided (wrong n) = absurd (true≢false (sym e ∙ other-tests o n))
 
 pub clock-paths : ClockPaths
-clock-paths rs r e k = of-shape (shape-of (recording rs) r e) k (clocks-after [] freshState rs fresh-represents)
+clock-paths rs r e k = of-shape (shape-of (recording rs) r e) k (clocks-now rs)
   where
     of-shape : {es : List Event} {s : State} {r : Record} → Shape es r → accesses (r .kind) ≡ true → Represents es s →
         SaysPaths es (eventOf r) (clockApart (s .clocks) (s .last) (r .kind) (r .task) (r .on)) (clockApart (s .fullclocks) (s .last) (r .kind) (r .task) (r .on))
-    of-shape {es} {s} (an-act o t n f live starts) k x =
+    of-shape {es} {s} (an-act o t n q) k x =
         let a = access-op o k in
-        let hv = access-on o a (on-series o f) in
+        let hv = access-on o a (on-series o (q .fits)) in
         rw (event-act o t n)
         (says o t n
-        (λ u h. (λ y. let (i, c, q) = clock-sound o t n (x .clocks .as-arrived) (x .base .history) a (f .task-fits) hv u h y in (i, c), λ c. clock-complete o t n (x .clocks .as-arrived) (x .base .history) a (f .task-fits) hv u (c .0) h (c .1)))
-        (λ u h. (λ y. let (i, c, q) = clock-sound o t n (x .clocks .in-full) (x .base .history) a (f .task-fits) hv u h y in (i, c), λ c. clock-complete o t n (x .clocks .in-full) (x .base .history) a (f .task-fits) hv u (c .0) h (c .1))))
-    of-shape (a-mark t n some live) k x = absurd (true≢false (sym k))
+        (λ u h. (λ y. let (i, c, _) = clock-sound o t n (x .clocks .as-arrived) (x .base .history) a (q .fits .task-fits) hv u h y in (i, c), λ c. clock-complete o t n (x .clocks .as-arrived) (x .base .history) a (q .fits .task-fits) hv u (c .0) h (c .1)))
+        (λ u h. (λ y. let (i, c, _) = clock-sound o t n (x .clocks .in-full) (x .base .history) a (q .fits .task-fits) hv u h y in (i, c), λ c. clock-complete o t n (x .clocks .in-full) (x .base .history) a (q .fits .task-fits) hv u (c .0) h (c .1))))
+    of-shape (a-mark t n m) k x = absurd (true≢false (sym k))
 
 pub set-paths : SetPaths
-set-paths rs r e k = of-shape (shape-of (recording rs) r e) k (sets-after [] freshSets rs fresh-represents-sets)
+set-paths rs r e k = of-shape (shape-of (recording rs) r e) k (sets-now rs)
   where
     of-shape : {es : List Event} {s : SetState} {r : Record} → Shape es r → accesses (r .kind) ≡ true → RepresentsSets es s →
         SaysPaths es (eventOf r) (setApart (s .sets) (s .last) (r .kind) (r .task) (r .on)) (setApart (s .fullsets) (s .last) (r .kind) (r .task) (r .on))
-    of-shape {es} {s} (an-act o t n f live starts) k x =
+    of-shape {es} {s} (an-act o t n q) k x =
         let a = access-op o k in
-        let hv = access-on o a (on-series o f) in
+        let hv = access-on o a (on-series o (q .fits)) in
         rw (event-act o t n)
         (says o t n
-        (λ u h. (λ y. let (i, c, q) = set-sound o t n (x .sets .as-arrived) (x .base .history) a (f .task-fits) hv u h y in (i, c), λ c. set-complete o t n (x .sets .as-arrived) (x .base .history) a (f .task-fits) hv u (c .0) h (c .1)))
-        (λ u h. (λ y. let (i, c, q) = set-sound o t n (x .sets .in-full) (x .base .history) a (f .task-fits) hv u h y in (i, c), λ c. set-complete o t n (x .sets .in-full) (x .base .history) a (f .task-fits) hv u (c .0) h (c .1))))
-    of-shape (a-mark t n some live) k x = absurd (true≢false (sym k))
+        (λ u h. (λ y. let (i, c, _) = set-sound o t n (x .sets .as-arrived) (x .base .history) a (q .fits .task-fits) hv u h y in (i, c), λ c. set-complete o t n (x .sets .as-arrived) (x .base .history) a (q .fits .task-fits) hv u (c .0) h (c .1)))
+        (λ u h. (λ y. let (i, c, _) = set-sound o t n (x .sets .in-full) (x .base .history) a (q .fits .task-fits) hv u h y in (i, c), λ c. set-complete o t n (x .sets .in-full) (x .base .history) a (q .fits .task-fits) hv u (c .0) h (c .1))))
+    of-shape (a-mark t n m) k x = absurd (true≢false (sym k))
 
 -- Clocks and sets match, since each says "path" where Order has one
 
@@ -128,21 +125,21 @@ same-masks {a = a} {b} {c} {d} x y =
     (mask-ext a c (λ u h. same-test (λ p. y .as-arrived u h .1 (x .as-arrived u h .0 p)) (λ q. x .as-arrived u h .1 (y .as-arrived u h .0 q))))
 
 pub reckonings-match : ReckoningsMatch
-reckonings-match rs = record { answers = fed-answers rs ∙ sym (set-fed-answers rs); paths = paths }
+reckonings-match rs = record { answers = clocks-demanded .by-table rs ∙ sym (sets-demanded .by-table rs); paths = paths }
   where
-    paths : (r : Record) → apartByClocks (clocksAfter freshState rs) r ≡ apartBySets (setsAfter freshSets rs) r
+    paths : (r : Record) → apartByClocks (afterAll byClocks freshState rs) r ≡ apartBySets (afterAll bySets freshSets rs) r
     paths r =
         rw (
-          same-refusal (clocks-after [] freshState rs fresh-represents .base .control-exact) r,
-          same-refusal (sets-after [] freshSets rs fresh-represents-sets .base .control-exact) r,
+          same-refusal (clocks-now rs .base .control-exact) r,
+          same-refusal (sets-now rs .base .control-exact) r,
         )
         (decided (refusal (recording rs) r) refl (accesses (r .kind)) refl)
       where
         s : State
-        s = clocksAfter freshState rs
+        s = afterAll byClocks freshState rs
 
         s′ : SetState
-        s′ = setsAfter freshSets rs
+        s′ = afterAll bySets freshSets rs
 
         decided : (n : ℕ) → refusal (recording rs) r ≡ n → (b : Bool) → accesses (r .kind) ≡ b →
             masksUnless n (clockMasks (s .clocks) (s .fullclocks) (s .last) (r .kind) (r .task) (r .on))

@@ -6,8 +6,8 @@ use mathlib.Core.List.{List, [], _∷_, _++_, append-assoc}
 use Prim.Native.Nat.{ℕ, _<_}
 use lib.Dec.{lit<}
 use Rattle.theory.specs.Limits.{semaphores, flags}
-use Rattle.theory.specs.Recording.{take, give, look, set, start, join, Event, act, lost}
-use Rattle.theory.specs.Completion.{Named, Loses, takes, gives, looks, sets, filler, fillWith, nothing, rounds}
+use Rattle.theory.specs.Recording.{take, give, look, set, Event, act, lost}
+use Rattle.theory.specs.Completion.{Named, filler, fillWith, nothing, rounds}
 use Rattle.theory.proofs.Leads.{Leads}
 use Rattle.theory.proofs.Carry.{Node, due, acted, semaphore, flag, Hears, own, by-take, by-look, by-join, Tells, own-next, own-acted, by-give, by-set, by-start, Carry, stay, pass, move, carry-skip, carry-append, carry-split, acted-next, carry-acted, leads-carried, carried-leads}
 use Rattle.theory.proofs.Fullest.{Heard, Told, Mix, same, mixed, carry-mix, mix-rounds, filler-rounds}
@@ -110,57 +110,51 @@ module _ {w : Filling} {e : Event} where
 
 -- What a mark hears and tells, by its mask
 
-joins-arrive : ¬ Loses join
-joins-arrive l = elim l [ ]
-
-starts-arrive : ¬ Loses start
-starts-arrive l = elim l [ ]
-
 -- the next act of each named task
 pub heard-due : {mask t : ℕ} → Heard mask (due t) ↔ Named mask t
-heard-due = (to, λ d. (act take _ 0, filler takes d (lit< tt), own))
+heard-due = (to, λ d. (act take _ 0, filler tt d (lit< tt), own))
   where
     to : {mask t : ℕ} → Heard mask (due t) → Named mask t
     to (_, filler l d h, own) = d
 
 -- no join
 pub heard-acted : {mask t : ℕ} → ¬ Heard mask (acted t)
-heard-acted (_, filler l d h, by-join) = joins-arrive l
+heard-acted (_, filler l d h, by-join) = absurd l
 
 -- each object, if a task is named
 pub heard-semaphore : {mask s : ℕ} → Heard mask (semaphore s) ↔ ((s < semaphores) × ((t : ℕ) × Named mask t))
-heard-semaphore = (to, λ x. (act take _ _, filler takes (x .1 .1) (x .0), by-take))
+heard-semaphore = (to, λ x. (act take _ _, filler tt (x .1 .1) (x .0), by-take))
   where
     to : {mask s : ℕ} → Heard mask (semaphore s) → (s < semaphores) × ((t : ℕ) × Named mask t)
     to (_, filler l d h, by-take) = (h, (_, d))
 
 pub heard-flag : {mask f : ℕ} → Heard mask (flag f) ↔ ((f < flags) × ((t : ℕ) × Named mask t))
-heard-flag = (to, λ x. (act look _ _, filler looks (x .1 .1) (x .0), by-look))
+heard-flag = (to, λ x. (act look _ _, filler tt (x .1 .1) (x .0), by-look))
   where
     to : {mask f : ℕ} → Heard mask (flag f) → (f < flags) × ((t : ℕ) × Named mask t)
     to (_, filler l d h, by-look) = (h, (_, d))
 
 pub told-due : {mask t : ℕ} → Told mask (due t) ↔ Named mask t
-told-due = (to, λ d. (act take _ 0, filler takes d (lit< tt), own-next))
+told-due = (to, λ d. (act take _ 0, filler tt d (lit< tt), own-next))
   where
     to : {mask t : ℕ} → Told mask (due t) → Named mask t
     to (_, filler l d h, own-next) = d
-    to (_, filler l d h, by-start) = absurd (starts-arrive l)
+    to (_, filler l d h, by-start) = absurd l
 
 pub told-acted : {mask t : ℕ} → Told mask (acted t) ↔ Named mask t
-told-acted = (to, λ d. (act take _ 0, filler takes d (lit< tt), own-acted))
+told-acted = (to, λ d. (act take _ 0, filler tt d (lit< tt), own-acted))
   where
     to : {mask t : ℕ} → Told mask (acted t) → Named mask t
     to (_, filler l d h, own-acted) = d
 
 pub told-semaphore : {mask s : ℕ} → Told mask (semaphore s) ↔ ((s < semaphores) × ((t : ℕ) × Named mask t))
-told-semaphore = (to, λ x. (act give _ _, filler gives (x .1 .1) (x .0), by-give))
+told-semaphore = (to, λ x. (act give _ _, filler tt (x .1 .1) (x .0), by-give))
   where
     to : {mask s : ℕ} → Told mask (semaphore s) → (s < semaphores) × ((t : ℕ) × Named mask t)
     to (_, filler l d h, by-give) = (h, (_, d))
 
 pub told-flag : {mask f : ℕ} → Told mask (flag f) ↔ ((f < flags) × ((t : ℕ) × Named mask t))
-told-flag = (to, λ x. (act set _ _, filler sets (x .1 .1) (x .0), by-set))
+told-flag = (to, λ x. (act set _ _, filler tt (x .1 .1) (x .0), by-set))
   where
     to : {mask f : ℕ} → Told mask (flag f) → (f < flags) × ((t : ℕ) × Named mask t)
     to (_, filler l d h, by-set) = (h, (_, d))

@@ -8,8 +8,8 @@ use Prim.Native.Nat.{ℕ, zero, suc, _≤_, _<_, zero-le}
 use native.Mathlib.Nat.{le-refl}
 use native.Mathlib.Omega.{arith}
 use lib.Dec.{T, ltb}
-use Rattle.theory.specs.Recording.{Op, read, write, Event, act, lost, kind, ActsIn, acts}
-use Rattle.theory.specs.Order.{isAccess, Conflict, conflict}
+use Rattle.theory.specs.Recording.{Op, read, write, Event, act, lost, kind, ActsIn, acts, isAccess}
+use Rattle.theory.specs.Order.{Conflict, conflict}
 use Rattle.theory.specs.Completion.{bit, fillWith}
 use Rattle.theory.specs.Tables.{cell}
 use Rattle.theory.specs.History.{slot, otherKind, otherLater, latestSlot, latestNumber}

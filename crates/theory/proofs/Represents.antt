@@ -5,8 +5,8 @@ use mathlib.Core.List.{List}
 use mathlib.Core.Option.{none, some}
 use Prim.Native.Nat.{ℕ, _<_}
 use lib.Dec.{T, eqb}
-use Rattle.theory.specs.Recording.{Op, Event, act, kind, ActsIn, acts}
-use Rattle.theory.specs.Order.{isAccess}
+use Rattle.theory.specs.Recording.{Op, Event, act, kind, ActsIn, acts, isAccess}
+
 use Rattle.theory.specs.Completion.{rounds, nothing}
 use Rattle.theory.specs.History.{latestNumber}
 use Rattle.theory.specs.Reckonings.{clockApart, setApart, clockMask, setMask, lowestTask}

@@ -8,9 +8,10 @@ use native.Mathlib.Omega.{arith}
 use lib.Dec.{T}
 use lib.ListN.{length, set, replicate, length-set, length-replicate, getD-replicate}
 use lib.Seq.{getD-set-same, getD-set-other}
-use Rattle.theory.specs.Recording.{Op, read, write, take, give, look, Event, act, lost, series, kind}
-use Rattle.theory.specs.Order.{isAccess}
-use Rattle.theory.specs.History.{accesses, slot, lastOf, lastAfter}
+use Rattle.theory.specs.Recording.{Op, read, write, take, give, look, Event, act, lost, series, kind, accesses, isAccess}
+
+use Rattle.theory.specs.History.{slot, lastOf, lastAfter}
+use Rattle.theory.proofs.Ops.{access-on, access-tests, other-tests}
 use Rattle.theory.proofs.Reflects.{Reflects, right, wrong, equal, by-test}
 use Rattle.theory.proofs.Places.{Occurs, nowhere}
 use Rattle.theory.proofs.Came.{Snoc, old, new, occurs-snoc, occurs-old, occurs-new, occurs-short}
@@ -40,30 +41,12 @@ pub access-kind : (o : Op) → T (isAccess o) → kind o < 2
 access-kind read a = omega arith
 access-kind write a = omega arith
 
-pub access-tests : (o : Op) → T (isAccess o) → accesses (kind o) ≡ true
-access-tests read a = refl
-access-tests write a = refl
-
-pub other-tests : (o : Op) → ¬ T (isAccess o) → accesses (kind o) ≡ false
-other-tests read n = absurd (n tt)
-other-tests write n = absurd (n tt)
-other-tests take n = refl
-other-tests give n = refl
-other-tests look n = refl
-other-tests Op.set n = refl
-other-tests Op.start n = refl
-other-tests Op.join n = refl
-
 pub slot-below : {k v u : ℕ} → k < 2 → v < 64 → u < 16 → slot k v u < 2048
 slot-below hk hv hu = omega arith
 
 -- the slot tells kind, variable and task
 pub slot-one : {k k′ v v′ u u′ : ℕ} → k < 2 → k′ < 2 → v < 64 → v′ < 64 → u < 16 → u′ < 16 → slot k v u ≡ slot k′ v′ u′ → (k ≡ k′) × (v ≡ v′) × (u ≡ u′)
 slot-one hk hk′ hv hv′ hu hu′ e = omega arith
-
-pub access-on : (o : Op) {n : ℕ} → T (isAccess o) → n < series o → n < 64
-access-on read a h = h
-access-on write a h = h
 
 -- The history
 

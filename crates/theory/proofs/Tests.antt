@@ -1,30 +1,16 @@
 -- The tests of specs/Decide.antt tell of what specs/Order.antt means: steps, paths and conflicts. Assumes nothing.
-use mathlib.Core.Path.{_≡_, refl, sym, _∙_, ap}
+use mathlib.Core.Path.{_≡_, refl}
 use mathlib.Core.Bool.{Bool, true, false, _||_}
 use mathlib.Core.Logic.{_⊎_, inl, inr, _≢_}
 use mathlib.Core.List.{List, [], _∷_, _++_}
 use Prim.Native.Nat.{ℕ}
 use lib.Dec.{T}
-use Rattle.theory.specs.Recording.{Op, read, write, take, give, look, set, start, join, Event, act, lost, kind, opOf, _is_, ActsIn, acts}
-use Rattle.theory.specs.Order.{Step, same-task, gives-takes, sets-looks, starts, joins, isAccess, Conflict, conflict}
+use Rattle.theory.specs.Recording.{Op, write, take, give, look, set, start, join, Event, act, lost, _is_, ActsIn, acts, isAccess}
+use Rattle.theory.specs.Order.{Step, same-task, gives-takes, sets-looks, starts, joins, Conflict, conflict}
 use Rattle.theory.specs.Decide.{steps, any, reaches, conflicts, actsIn, again}
 use Rattle.theory.proofs.Reflects.{Reflects, right, wrong, by-test, both, either, fails, same-as, equal}
+use Rattle.theory.proofs.Ops.{same-op}
 use Rattle.theory.proofs.Leads.{Leads, last, over, via}
-
--- Ops
-
-pub opOf-kind : (o : Op) → opOf (kind o) ≡ o
-opOf-kind read = refl
-opOf-kind write = refl
-opOf-kind take = refl
-opOf-kind give = refl
-opOf-kind look = refl
-opOf-kind set = refl
-opOf-kind start = refl
-opOf-kind join = refl
-
-pub same-op : (o p : Op) → Reflects (o ≡ p) (o is p)
-same-op o p = same-as (λ e. sym (opOf-kind o) ∙ ap opOf e ∙ opOf-kind p) (ap kind) (equal (kind o) (kind p))
 
 -- Some event of a list
 

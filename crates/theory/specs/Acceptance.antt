@@ -2,12 +2,12 @@
 use Prim.Native.Nat.{ℕ, zero, suc, _^_, _<_}
 use mathlib.Core.Bool.{Bool, true, false, cond, not, _&&_, _||_}
 use mathlib.Core.List.{List, [], _∷_, _++_}
-use lib.Dec.{leb, ltb, eqb}
+use lib.Dec.{leb, eqb}
 use lib.ListN.{length}
 use Rattle.theory.specs.declared.record.Record.{Record}
 use Rattle.theory.specs.Limits.{tasks, records}
 use Rattle.theory.specs.Turns.{turns}
-use Rattle.theory.specs.Recording.{Op, read, write, take, give, look, set, start, join, Event, act, lost, kind, lossMark, seriesOf, eventOf}
+use Rattle.theory.specs.Recording.{Op, start, join, Effect, keeps, begins, ends, about, Event, act, lost, kind, kinds, lossMark, seriesOf, eventOf}
 use Rattle.theory.specs.Completion.{names}
 
 -- a task is unseen until it is started, then live, then ended by a join
@@ -24,20 +24,15 @@ isUnseen unseen = true
 isUnseen live = false
 isUnseen ended = false
 
--- the phase that a task comes to by an act on that task, if its op changes phases
-abbrev pub phaseBy : Op → Phase → Phase
-phaseBy read p = p
-phaseBy write p = p
-phaseBy take p = p
-phaseBy give p = p
-phaseBy look p = p
-phaseBy set p = p
-phaseBy start p = live
-phaseBy join p = ended
+-- the phase that a task comes to by an act that names it, from its phase before
+abbrev pub phaseBy : Effect → Phase → Phase
+phaseBy keeps p = p
+phaseBy begins p = live
+phaseBy ends p = ended
 
 -- task t's phase after an event, from its phase before
 abbrev pub phaseAfter : Event → ℕ → Phase → Phase
-phaseAfter (act o u n) t p = cond (eqb n t) (phaseBy o p) p
+phaseAfter (act o u n) t p = cond (eqb n t) (phaseBy ((about o) .effect) p) p
 phaseAfter (lost mask) t p = p
 
 -- task t's phase after a list of events, from its phase p before
@@ -69,41 +64,63 @@ hasKind r o = eqb (r .kind) (kind o)
 abbrev pub anyBelow : ℕ → (ℕ → Bool) → Bool
 anyBelow n p = turns n (λ k b. b || p k) false
 
--- which of rows 1 to 9 apply to a record, in their order, by which tasks are live and unseen and by the count of accepted records
-abbrev pub rows : (ℕ → Bool) → (ℕ → Bool) → ℕ → Record → List Bool
-rows isLiveTask isUnseenTask count r =
-    -- 1: the op is none of the nine
-    ltb lossMark (r .kind)
-    -- 2: acting task above 15
-    ∷ (isAct r && leb tasks (r .task))
-    -- 3: `on` outside its series
-    ∷ (isAct r && leb (seriesOf (r .kind)) (r .on))
-    -- 4: mask 0 or above 65,535
-    ∷ (isMark r && (eqb (r .on) 0 || leb (2 ^ tasks) (r .on)))
-    -- 5: 60,000 records are already accepted
-    ∷ leb records count
-    -- 6: acting task not live
-    ∷ (isAct r && not (isLiveTask (r .task)))
-    -- 7: start of a task that is not unseen
-    ∷ (hasKind r start && not (isUnseenTask (r .on)))
-    -- 8: join of the acting task
-    ∷ (hasKind r join && eqb (r .on) (r .task))
-    -- 9: the joined task, or any one of the marked tasks, is not live
-    ∷ ((hasKind r join && not (isLiveTask (r .on))) || (isMark r && anyBelow tasks (λ t. names (r .on) t && not (isLiveTask t))))
+-- what acceptance looks at: which tasks are live and unseen, and how many records are accepted already
+pub record Standing : Type 0 where
+  pub live : ℕ → Bool
+  pub unseen : ℕ → Bool
+  pub count : ℕ
+
+-- a row of the refusal table: its number, and whether it applies
+pub record Row : Type 0 where
+  pub number : ℕ
+  pub applies : Bool
+
+infix 30 _when_
+abbrev pub _when_ : ℕ → Bool → Row
+n when b = record { number = n; applies = b }
+
+-- the rows for a record, in the order in which they are looked at
+abbrev pub rows : Standing → Record → List Row
+rows s r =
+    -- the op is none of the nine
+    (1 when leb (length kinds) (r .kind))
+    -- acting task above 15
+    ∷ (2 when (isAct r && leb tasks (r .task)))
+    -- `on` outside its series
+    ∷ (3 when (isAct r && leb (seriesOf (r .kind)) (r .on)))
+    -- mask 0 or above 65,535
+    ∷ (4 when (isMark r && (eqb (r .on) 0 || leb (2 ^ tasks) (r .on))))
+    -- 60,000 records are already accepted
+    ∷ (5 when leb records (s .count))
+    -- acting task not live
+    ∷ (6 when (isAct r && not (s .live (r .task))))
+    -- start of a task that is not unseen
+    ∷ (7 when (hasKind r start && not (s .unseen (r .on))))
+    -- join of the acting task
+    ∷ (8 when (hasKind r join && eqb (r .on) (r .task)))
+    -- the joined task, or any one of the marked tasks, is not live
+    ∷ (9 when ((hasKind r join && not (s .live (r .on))) || (isMark r && anyBelow tasks (λ t. names (r .on) t && not (s .live t)))))
     ∷ []
 
--- the number of the first row that applies, the first of the list having number n; 0 where none does
-abbrev pub firstRow : ℕ → List Bool → ℕ
-firstRow n [] = zero
-firstRow n (b ∷ bs) = cond b n (firstRow (suc n) bs)
+-- the highest number of a row
+abbrev pub lastRow : ℕ
+lastRow = 9
 
--- the refusal that a record gets by rows 1 to 9; 0 where it is accepted
-unfoldable pub refusalBy : (ℕ → Bool) → (ℕ → Bool) → ℕ → Record → ℕ
-refusalBy isLiveTask isUnseenTask count r = firstRow 1 (rows isLiveTask isUnseenTask count r)
+-- the number of the first row that applies; 0 where none does
+abbrev pub firstRow : List Row → ℕ
+firstRow [] = zero
+firstRow (x ∷ xs) = cond (x .applies) (x .number) (firstRow xs)
+
+-- the refusal that a record gets by the table; 0 where it is accepted
+unfoldable pub refusalBy : Standing → Record → ℕ
+refusalBy s r = firstRow (rows s r)
 
 -- after a recording
+abbrev pub standing : List Event → Standing
+standing es = record { live = λ t. isLive (phase es t); unseen = λ t. isUnseen (phase es t); count = length es }
+
 abbrev pub refusal : List Event → Record → ℕ
-refusal es r = refusalBy (λ t. isLive (phase es t)) (λ t. isUnseen (phase es t)) (length es) r
+refusal es r = refusalBy (standing es) r
 
 -- the recording after a record was fed that got the refusal n: accepted records join it, refused ones leave it as it was
 abbrev pub joined : List Event → Record → ℕ → List Event

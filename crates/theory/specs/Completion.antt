@@ -5,7 +5,7 @@ use mathlib.Core.List.{List, [], _∷_, _++_}
 use lib.Dec.{T, ltb, eqb}
 use lib.ListN.{length}
 use Rattle.theory.specs.Limits.{tasks}
-use Rattle.theory.specs.Recording.{Op, take, give, look, set, Event, act, lost, series}
+use Rattle.theory.specs.Recording.{Op, take, give, look, set, Event, act, lost, series, losable}
 
 -- the bit of weight 2 to the power t is in the mask
 abbrev pub bit : ℕ → ℕ → Bool
@@ -19,17 +19,9 @@ names mask t = ltb t tasks && bit mask t
 pub record Named (mask t : ℕ) : Type 0 where
   pub named : T (names mask t)
 
--- the ops that a completion may put: takes, gives, looks and sets. Starts and joins are resent until they arrive, and lost accesses lie
--- outside: a verdict is about accesses that arrived.
-pub data Loses : Op → Type 0 where
-  takes : Loses take
-  gives : Loses give
-  looks : Loses look
-  sets : Loses set
-
 -- a record that a completion may put for a mark: by a task that the mark names, on a semaphore or flag 0 to 31
 pub data Filler (mask : ℕ) : Event → Type 0 where
-  filler : {o : Op} {t n : ℕ} → Loses o → Named mask t → n < series o → Filler mask (act o t n)
+  filler : {o : Op} {t n : ℕ} → T (losable o) → Named mask t → n < series o → Filler mask (act o t n)
 
 -- every event of the list is as P says
 pub data Every (P : Event → Type 0) : List Event → Type 0 where

@@ -6,7 +6,7 @@ use lib.Dec.{eqb}
 use lib.ListN.{getD, set}
 use Rattle.theory.specs.declared.record.Record.{Record}
 use Rattle.theory.specs.Recording.{Op, kind}
-use Rattle.theory.specs.Acceptance.{refusalBy}
+use Rattle.theory.specs.Acceptance.{Standing, refusalBy}
 
 abbrev pub liveIn : List ℕ → ℕ → Bool
 liveIn control t = eqb (getD control t 0) 1
@@ -17,9 +17,12 @@ unseenIn control t = eqb (getD control t 0) 0
 abbrev pub countIn : List ℕ → ℕ
 countIn control = getD control 16 0
 
--- the refusal of a record by rows 1 to 9
+abbrev pub standingIn : List ℕ → Standing
+standingIn control = record { live = liveIn control; unseen = unseenIn control; count = countIn control }
+
+-- the refusal of a record
 abbrev pub refusalIn : List ℕ → Record → ℕ
-refusalIn control r = refusalBy (liveIn control) (unseenIn control) (countIn control) r
+refusalIn control r = refusalBy (standingIn control) r
 
 abbrev pub counted : List ℕ → List ℕ
 counted control = set control 16 (countIn control + 1)

@@ -14,14 +14,14 @@ use Rattle.theory.specs.declared.answer.Answer.the-variants as the
 use Rattle.theory.specs.declared.numbers.RecordNumber.{RecordNumber}
 use Rattle.theory.specs.declared.state.State.{State}
 use Rattle.theory.specs.declared.state.SetState.{SetState}
-use Rattle.theory.specs.Recording.{Event, act, lost, kind, lossMark, Unmarked, eventOf}
-use Rattle.theory.specs.Acceptance.{refusal, joined, recording}
+use Rattle.theory.specs.Recording.{Event, act, lost, kind, lossMark, Unmarked, eventOf, accesses}
+use Rattle.theory.specs.Acceptance.{lastRow, refusal, joined, recording}
 use Rattle.theory.specs.Verdict.{Verdict, Race, Clear, Doubt, AccessAt, Unordered, Latest, ApartAsArrived, ApartInAll, With}
 use Rattle.theory.specs.Demands.{Firm}
 use Rattle.theory.specs.Decide.{judge, isAccessEvent}
 use Rattle.theory.specs.Limits.{tasks}
 use Rattle.theory.specs.Control.{refusalIn}
-use Rattle.theory.specs.History.{accesses}
+
 use Rattle.theory.specs.Reckonings.{clockApart, setApart}
 use Rattle.theory.specs.Decide
 use Rattle.theory.specs.Examples.{Example, table}
@@ -29,19 +29,37 @@ use Rattle.theory.specs.Step.{recordNumber, nextNumber, stepOf, setStepO
 
 -- What feeding answers, one answer for each record
 
-abbrev pub fedTo : State → List Record → List Answer
-fedTo s [] = []
-fedTo s (r ∷ rs) = (stepOf s r) .answer ∷ fedTo ((stepOf s r) .state) rs
+-- a checker: a fresh state, the state that feeding a record leaves, and what it answers
+pub record Checker (S : Type 0) : Type 0 where
+  pub fresh : S
+  pub next : S → Record → S
+  pub answer : S → Record → Answer
 
-abbrev pub fedToSets : SetState → List Record → List Answer
-fedToSets s [] = []
-fedToSets s (r ∷ rs) = (setStepOf s r) .answer ∷ fedToSets ((setStepOf s r) .state) rs
+abbrev pub fedTo : {S : Type 0} → Checker S → S → List Record → List Answer
+fedTo c s [] = []
+fedTo c s (r ∷ rs) = c .answer s r ∷ fedTo c (c .next s r) rs
+
+abbrev pub fedBy : {S : Type 0} → Checker S → List Record → List Answer
+fedBy c = fedTo c (c .fresh)
+
+-- the state after a list
+abbrev pub afterAll : {S : Type 0} → Checker S → S → List Record → S
+afterAll c s [] = s
+afterAll c s (r ∷ rs) = afterAll c (c .next s r) rs
+
+-- the step, by the clocks
+abbrev pub byClocks : Checker State
+byClocks = record { fresh = freshState; next = λ s r. (stepOf s r) .state; answer = λ s r. (stepOf s r) .answer }
+
+-- the step of the sets
+abbrev pub bySets : Checker SetState
+bySets = record { fresh = freshSets; next = λ s r. (setStepOf s r) .state; answer = λ s r. (setStepOf s r) .answer }
 
 abbrev pub fed : List Record → List Answer
-fed = fedTo freshState
+fed = fedBy byClocks
 
 abbrev pub setFed : List Record → List Answer
-setFed = fedToSets freshSets
+setFed = fedBy bySets
 
 -- What is in an answer: document 01's numbers and values for each of its cases
 
@@ -133,15 +151,11 @@ abbrev pub answersFrom : List Event → List Record → List Answer
 answersFrom es [] = []
 answersFrom es (r ∷ rs) = answerTo es r ∷ answersFrom (joined es r (refusal es r)) rs
 
+-- the answers are those of the table and of the verdict's search, over the recording so far
+abbrev pub AnswersByTable : (List Record → List Answer) → Type 0
+AnswersByTable answers = (rs : List Record) → answers rs ≡ answersFrom [] rs
+
 -- Each reckoning on its own says "path" exactly where Order has one
-
-abbrev pub clocksAfter : State → List Record → State
-clocksAfter s [] = s
-clocksAfter s (r ∷ rs) = clocksAfter ((stepOf s r) .state) rs
-
-abbrev pub setsAfter : SetState → List Record → SetState
-setsAfter s [] = s
-setsAfter s (r ∷ rs) = setsAfter ((setStepOf s r) .state) rs
 
 -- for the access f after the recording es: the tasks that pass the tests are those whose latest conflicting access has no path to f, as
 -- it arrived and in any completion
@@ -156,7 +170,7 @@ ClockPaths =
     (rs : List Record) (r : Record) →
     refusal (recording rs) r ≡ 0 →
     accesses (r .kind) ≡ true →
-    let s : State = clocksAfter freshState rs in
+    let s : State = afterAll byClocks freshState rs in
     SaysPaths (recording rs) (eventOf r) (clockApart (s .clocks) (s .last) (r .kind) (r .task) (r .on)) (clockApart (s .fullclocks) (s .last) (r .kind) (r .task) (r .on))
 
 abbrev pub SetPaths : Type 0
@@ -164,7 +178,7 @@ SetPaths =
     (rs : List Record) (r : Record) →
     refusal (recording rs) r ≡ 0 →
     accesses (r .kind) ≡ true →
-    let s : SetState = setsAfter freshSets rs in
+    let s : SetState = afterAll bySets freshSets rs in
     SaysPaths (recording rs) (eventOf r) (setApart (s .sets) (s .last) (r .kind) (r .task) (r .on)) (setApart (s .fullsets) (s .last) (r .kind) (r .task) (r .on))
 
 -- Demand 1, for records: in any state a record is refused with the number of the first row that applies, and the state is as it was, or it
@@ -175,7 +189,7 @@ abbrev pub Judged : Answer → ℕ → Type 0
 Judged a n = (v : Verdict) × (w : ℕ) × Says a n v w
 
 pub data Handled (s : State) (r : Record) : Type 0 where
-  refused : (n : ℕ) → refusalIn (s .control) r ≡ n → 1 ≤ n → n ≤ 9 → stepOf s r ≡ record { state = s; answer = Refused n } → Handled s r
+  refused : (n : ℕ) → refusalIn (s .control) r ≡ n → 1 ≤ n → n ≤ lastRow → stepOf s r ≡ record { state = s; answer = Refused n } → Handled s r
   access-taken : refusalIn (s .control) r ≡ 0 → accesses (r .kind) ≡ true → Judged ((stepOf s r) .answer) (nextNumber (s .control)) → Handled s r
   other-taken : refusalIn (s .control) r ≡ 0 → accesses (r .kind) ≡ false → (stepOf s r) .answer ≡ Accepted (recordNumber (nextNumber (s .control))) → Handled s r
 
@@ -194,7 +208,7 @@ GetsVerdict =
 -- they say the same of every path that they are asked about, as it arrived and in the fullest filling
 pub record Match (rs : List Record) : Type 0 where
   pub answers : fed rs ≡ setFed rs
-  pub paths : (r : Record) → apartByClocks (clocksAfter freshState rs) r ≡ apartBySets (setsAfter freshSets rs) r
+  pub paths : (r : Record) → apartByClocks (afterAll byClocks freshState rs) r ≡ apartBySets (afterAll bySets freshSets rs) r
 
 abbrev pub ReckoningsMatch : Type 0
 ReckoningsMatch = (rs : List Record) → Match rs
@@ -221,3 +235,12 @@ verdictsOf (a ∷ answers) = verdictIn a ++ verdictsOf answers
 -- the recordings of Examples.antt, fed, give the verdicts that stand there
 abbrev pub FedExamples : (List Record → List Answer) → Type 0
 FedExamples answers = map (λ (x : Example). verdictsOf (answers (map recordOf (x .events)))) table ≡ map (λ (x : Example). x .answered) table
+
+-- All of these demands together, of whatever answers lists of records
+pub record Demanded (answers : List Record → List Answer) : Type 0 where
+  pub by-table : AnswersByTable answers
+  pub demand2 : FedDemand2 answers
+  pub demand3 : FedDemand3 answers
+  pub partner : FedPartner answers
+  pub acceptance : FedAcceptance answers
+  pub examples : FedExamples answers

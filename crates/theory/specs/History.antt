@@ -4,11 +4,7 @@ use mathlib.Core.Bool.{Bool, cond, _&&_}
 use mathlib.Core.List.{List}
 use lib.Dec.{ltb, eqb}
 use lib.ListN.{getD, set}
-use Rattle.theory.specs.Recording.{Op, kind}
-
--- the kind is an access: a read or a write
-abbrev pub accesses : ℕ → Bool
-accesses k = ltb k 2
+use Rattle.theory.specs.Recording.{Op, kind, accesses}
 
 -- where the latest access of a kind to variable v by task u is kept
 abbrev pub slot : ℕ → ℕ → ℕ → ℕ

@@ -2,9 +2,9 @@
 use Prim.Native.Nat.{ℕ, _<_}
 use mathlib.Core.List.{List}
 use mathlib.Core.Logic.{_≢_}
-use mathlib.Core.Bool.{Bool, _||_}
+use mathlib.Core.Bool.{_||_}
 use lib.Dec.{T}
-use Rattle.theory.specs.Recording.{Op, read, write, take, give, look, set, start, join, Event, act, At, _is_}
+use Rattle.theory.specs.Recording.{Op, write, take, give, look, set, start, join, Event, act, At, isAccess, _is_}
 
 -- "step", by what the two records say: the five lines of document 01, in their order. A loss mark has no step to or from it.
 pub data Step : Event → Event → Type 0 where
@@ -27,10 +27,6 @@ pub record StepAt (es : List Event) (i j : ℕ) : Type 0 where
 pub data HappensBefore (es : List Event) : ℕ → ℕ → Type 0 where
   one : {i j : ℕ} → StepAt es i j → HappensBefore es i j
   more : {i j k : ℕ} → StepAt es i j → HappensBefore es j k → HappensBefore es i k
-
--- "access": a read or a write
-abbrev pub isAccess : Op → Bool
-isAccess o = o is read || o is write
 
 -- "two accesses conflict": the variable is the same, the tasks differ and at least one writes
 pub data Conflict : Event → Event → Type 0 where

@@ -9,10 +9,10 @@ use lib.ListN.{set}
 use Rattle.theory.specs.declared.masks.Masks.{Masks}
 use Rattle.theory.specs.Turns.{turns}
 use Rattle.theory.specs.Limits.{tasks}
-use Rattle.theory.specs.Recording.{lossMark}
+use Rattle.theory.specs.Recording.{lossMark, accesses}
 use Rattle.theory.specs.Completion.{bit}
 use Rattle.theory.specs.Tables.{rowCount, dueRow, cell, noteActed, onward, mix}
-use Rattle.theory.specs.History.{accesses, slot, latestSlot, latestNumber}
+use Rattle.theory.specs.History.{slot, latestSlot, latestNumber}
 
 -- Clocks: at row n and column u the number of the last record of task u from which order has come to node n
 

@@ -1,7 +1,7 @@
 -- Records and recordings ("What a record says").
 use Prim.Native.Nat.{ℕ, zero, suc}
 use mathlib.Core.List.{List, [], _∷_}
-use mathlib.Core.Bool.{Bool, cond}
+use mathlib.Core.Bool.{Bool, true, false, cond}
 use lib.Dec.{eqb}
 use lib.ListN.{getD}
 use Rattle.theory.specs.Limits.{tasks, semaphores, flags, variables}
@@ -17,44 +17,89 @@ pub data Event : Type 0 where
   act : (op : Op) (task on : ℕ) → Event
   lost : (mask : ℕ) → Event
 
--- the series that the number of an op is of, by its size: `on` is one of the numbers below it
-abbrev pub series : Op → ℕ
-series read = variables
-series write = variables
-series take = semaphores
-series give = semaphores
-series look = flags
-series set = flags
-series start = tasks
-series join = tasks
+-- what an act does to the phase of the task that it names ("Task 0 is live in a fresh state, the others are unseen. .."): nothing, makes it
+-- live, or ends it
+pub data Effect : Type 0 where
+  keeps begins ends : Effect
 
--- the kind number of an op, in a record that is fed
+-- What differs from op to op, but for the steps that it makes (Order.antt)
+pub record Features : Type 0 where
+  -- its kind number, in a record that is fed; numbers are added and never reused
+  pub kind : ℕ
+  -- the series that its number is of, by size: `on` is one of the numbers below it
+  pub series : ℕ
+  -- "access": a read or a write
+  pub access : Bool
+  -- a completion may put it: takes, gives, looks and sets. Starts and joins are resent until they arrive, and lost accesses lie outside: a
+  -- verdict is about accesses that arrived
+  pub losable : Bool
+  pub effect : Effect
+
+abbrev pub features : ℕ → ℕ → Bool → Bool → Effect → Features
+features k s a l e = record { kind = k; series = s; access = a; losable = l; effect = e }
+
+-- the table of ops: kind, series, access, can be lost, effect
+abbrev pub about : Op → Features
+about read = features 0 variables true false keeps
+about write = features 1 variables true false keeps
+about take = features 2 semaphores false true keeps
+about give = features 3 semaphores false true keeps
+about look = features 4 flags false true keeps
+about set = features 5 flags false true keeps
+about start = features 6 tasks false false begins
+about join = features 7 tasks false false ends
+
 abbrev pub kind : Op → ℕ
-kind read = 0
-kind write = 1
-kind take = 2
-kind give = 3
-kind look = 4
-kind set = 5
-kind start = 6
-kind join = 7
+kind o = (about o) .kind
 
--- the kind number of a loss mark, which is the highest
+abbrev pub series : Op → ℕ
+series o = (about o) .series
+
+abbrev pub isAccess : Op → Bool
+isAccess o = (about o) .access
+
+abbrev pub losable : Op → Bool
+losable o = (about o) .losable
+
+-- the kind number of a loss mark
 abbrev pub lossMark : ℕ
 lossMark = 8
 
--- the ops by their kind numbers
-abbrev pub ops : List Op
-ops = read ∷ write ∷ take ∷ give ∷ look ∷ set ∷ start ∷ join ∷ []
+-- the kinds of records by their numbers: each is an op's, or that of a loss mark
+pub data Kind : Type 0 where
+  of-op : Op → Kind
+  of-mark : Kind
+
+abbrev pub kinds : List Kind
+kinds =
+    of-op read ∷ of-op write ∷ of-op take ∷ of-op give ∷ of-op look ∷ of-op set ∷ of-op start ∷ of-op join
+    ∷ of-mark
+    ∷ []
+
+abbrev pub kindAt : ℕ → Kind
+kindAt k = getD kinds k of-mark
+
+-- the op of a kind; a read where it has none, which is never asked
+abbrev pub opBy : Kind → Op
+opBy (of-op o) = o
+opBy of-mark = read
 
 abbrev pub opOf : ℕ → Op
-opOf k = getD ops k read
+opOf k = opBy (kindAt k)
 
 -- the size of a kind's series
 abbrev pub seriesOf : ℕ → ℕ
 seriesOf k = series (opOf k)
 
--- what a record that is fed says, if its kind is one of the nine
+-- the kind is an access
+abbrev pub accessBy : Kind → Bool
+accessBy (of-op o) = isAccess o
+accessBy of-mark = false
+
+abbrev pub accesses : ℕ → Bool
+accesses k = accessBy (kindAt k)
+
+-- what a record that is fed says, if its kind is one of these
 abbrev pub eventOf : Record → Event
 eventOf r = cond (eqb (r .kind) lossMark) (lost (r .on)) (act (opOf (r .kind)) (r .task) (r .on))
 

@@ -15,7 +15,8 @@ use Rattle.theory.specs.declared.state.SetState.{SetState}
 use Rattle.theory.specs.declared.state.SetStepped.{SetStepped}
 use Rattle.theory.specs.declared.masks.Masks.{Masks}
 use Rattle.theory.specs.Control.{countIn, refusalIn, controlAfter}
-use Rattle.theory.specs.History.{accesses, latestNumber, lastAfter}
+use Rattle.theory.specs.Recording.{accesses}
+use Rattle.theory.specs.History.{latestNumber, lastAfter}
 use Rattle.theory.specs.Reckonings.{clocksArrived, clocksFull, setsArrived, setsFull, masksBy, clockMasks, setMasks, lowestTask}
 
 abbrev pub recordNumber : ℕ → RecordNumber

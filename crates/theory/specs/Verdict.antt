@@ -2,8 +2,8 @@
 use Prim.Native.Nat.{ℕ, zero, suc, _≤_, _<_}
 use mathlib.Core.List.{List}
 use lib.Dec.{T}
-use Rattle.theory.specs.Recording.{Op, Event, act, At, ActsIn}
-use Rattle.theory.specs.Order.{HappensBefore, isAccess, Conflict}
+use Rattle.theory.specs.Recording.{Op, Event, act, At, ActsIn, isAccess}
+use Rattle.theory.specs.Order.{HappensBefore, Conflict}
 use Rattle.theory.specs.Completion.{Completion, place}
 
 -- "verdict"

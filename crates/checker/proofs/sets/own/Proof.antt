@@ -6,7 +6,8 @@ use mathlib.Core.Logic.{⊎-elim}
 use mathlib.Core.List.{List}
 use Prim.Native.Nat.{ℕ, _+_}
 use lib.ListN.{set}
-use Rattle.theory.specs.History.{accesses, slot}
+use Rattle.theory.specs.Recording.{accesses}
+use Rattle.theory.specs.History.{slot}
 use Rattle.theory.specs.Reckonings.{addSlot, clearSlot, setOwn}
 use Rattle.theory.proofs.Ranges.{access-fits}
 use borrow.Author.Needs.{needs}
