@@ -1,17 +1,20 @@
--- That a task has acted, in either filling. The tables have no row for what a join hears: where the joined task has acted, that is what has
+-- That a task has acted, in any filling. The tables have no row for what a join hears: where the joined task has acted, that is what has
 -- come to the task's next act, since a start comes before the task's acts. Assumes nothing.
 use mathlib.Core.Path.{_≡_, refl, sym, _∙_, subst}
 use mathlib.Core.Bool.{Bool, true, false, cond, true≢false}
 use mathlib.Core.Logic.{_↔_, _⊎_, inl, inr}
 use mathlib.Core.List.{List, [], _∷_, _++_}
-use Prim.Native.Nat.{ℕ}
+use Prim.Native.Nat.{ℕ, _^_, _<_}
+use native.Mathlib.Omega.{arith}
 use lib.Dec.{eqb}
 use Rattle.theory.specs.Recording.{Op, start, Effect, keeps, begins, ends, about, kind, Event, act, lost}
-use Rattle.theory.specs.Completion.{Named}
+use Rattle.theory.specs.Limits.{tasks}
+use Rattle.theory.specs.Completion.{Named, Filling, arrived, full}
 use Rattle.theory.specs.Acceptance.{Phase, isLive, isUnseen, phaseBy, phaseAfter, phase}
 use Rattle.theory.proofs.ExactControl.{phase-snoc}
 use Rattle.theory.proofs.Carry.{Node, due, acted, Tells, own, own-next, own-acted, by-start}
-use Rattle.theory.proofs.Reach.{Filling, arrived, full, heard-due, told-due, told-acted}
+use Rattle.theory.proofs.Reach.{heard-some, nobody-named, heard-due, told-due, told-acted}
+use Rattle.theory.proofs.Fullest.{Heard}
 use Rattle.theory.proofs.Tests.{Some, some-map, some-snoc, snoc-some, snoc-last}
 use Rattle.theory.proofs.Came.{Came, Newly, Onward, came-next}
 use Rattle.theory.proofs.Reflects.{Reflects, right, wrong, equal}
@@ -21,8 +24,7 @@ use Rattle.theory.proofs.Reflects.{Reflects, right, wrong, equal}
 -- the event, filled in, has acts of task t
 abbrev pub ActsAs : Filling → ℕ → Event → Type 0
 ActsAs w t (act o u n) = t ≡ u
-ActsAs arrived t (lost mask) = ⊥
-ActsAs full t (lost mask) = Named mask t
+ActsAs w t (lost mask) = Named (w mask) t
 
 abbrev pub Acted : Filling → ℕ → List Event → Type 0
 Acted w t es = Some (ActsAs w t) es
@@ -33,15 +35,25 @@ pub record Ended (w : Filling) (Chosen : Event → List Event → Type 0) (es : 
   pub acting : (t : ℕ) → Came w Chosen es i (acted t) → Acted w t es
   pub joined : (t : ℕ) → Acted w t es → Came w Chosen es i (due t) → Came w Chosen es i (acted t)
 
--- In the fullest filling each has acted who has in the other
+-- a filling that fills in for tasks that the mark names, and no others, nor numbers beyond them
+pub record Restricts (w : Filling) : Type 0 where
+  pub within : (mask t : ℕ) → Named (w mask) t → Named mask t
+  pub bounded : (mask : ℕ) → mask < 2 ^ tasks → w mask < 2 ^ tasks
 
-acts-full : (w : Filling) (t : ℕ) (e : Event) → ActsAs w t e → ActsAs full t e
-acts-full w t (act o u n) a = a
-acts-full arrived t (lost mask) a = absurd a
-acts-full full t (lost mask) a = a
+pub arrived-restricts : Restricts arrived
+arrived-restricts = record { within = λ mask t d. absurd (nobody-named d); bounded = λ mask h. omega arith }
 
-pub acted-full : {w : Filling} {t : ℕ} {es : List Event} → Acted w t es → Acted full t es
-acted-full {w} {t} a = some-map (acts-full w t) a
+pub full-restricts : Restricts full
+full-restricts = record { within = λ mask t d. d; bounded = λ mask h. h }
+
+-- In the fullest filling each has acted who has in another
+
+acts-full : {w : Filling} → Restricts w → (t : ℕ) (e : Event) → ActsAs w t e → ActsAs full t e
+acts-full r t (act o u n) a = a
+acts-full r t (lost mask) a = r .within mask t a
+
+pub acted-full : {w : Filling} → Restricts w → {t : ℕ} {es : List Event} → Acted w t es → Acted full t es
+acted-full r {t} a = some-map (acts-full r t) a
 
 -- Acts
 
@@ -97,40 +109,34 @@ module _ {w : Filling} {Chosen : Event → List Event → Type 0} {Stays : Type 
 pub no-tells : {mask : ℕ} {m : Node} → ¬ Tells (lost mask) m
 no-tells x = elim x [ ]
 
-module _ {Chosen : Event → List Event → Type 0} {Stays : Type 0} {es : List Event} {i : ℕ} (mask : ℕ)
+module _ {w : Filling} {Chosen : Event → List Event → Type 0} {Stays : Type 0} {es : List Event} {i : ℕ} (mask : ℕ)
     (keeps : (e : Event) (after : List Event) → Chosen e (after ++ (lost mask ∷ [])) ↔ (Stays × Chosen e after)) where
-  -- as it arrived a mark changes nothing
-  pub mark-came : {m : Node} → Came arrived Chosen (es ++ (lost mask ∷ [])) i m → Came arrived Chosen es i m
-  mark-came d = of (came-next es (lost mask) keeps .0 d)
+  pub ended-mark : Stays → Ended w Chosen es i → Ended w Chosen (es ++ (lost mask ∷ [])) i
+  ended-mark stays x = record { acting = λ u c. acting-of u (came-next es (lost mask) keeps .0 c); joined = λ u a c. came-next es (lost mask) keeps .1 (inl (stays, joined-of u (some-snoc es a) (came-next es (lost mask) keeps .0 c))) }
     where
-      of : {m : Node} → (Stays × Onward arrived Chosen es (lost mask) i m) ⊎ (Newly Chosen es (lost mask) i × Tells (lost mask) m) → Came arrived Chosen es i m
-      of (inl (s, inl c)) = c
-      of (inl (s, inr (p, c, f))) = absurd f
-      of (inr (c, y)) = absurd (no-tells y)
-
-  pub came-mark : {m : Node} → Stays → Came arrived Chosen es i m → Came arrived Chosen (es ++ (lost mask ∷ [])) i m
-  came-mark stays d = came-next es (lost mask) keeps .1 (inl (stays, inl d))
-
-  pub ended-mark : Stays → Ended arrived Chosen es i → Ended arrived Chosen (es ++ (lost mask ∷ [])) i
-  ended-mark stays x = record { acting = λ u c. snoc-some (lost mask) (x .acting u (mark-came c)); joined = λ u a c. came-mark stays (x .joined u (past (some-snoc es a)) (mark-came c)) }
-    where
-      past : {u : ℕ} → Acted arrived u es ⊎ ⊥ → Acted arrived u es
-      past (inl a) = a
-      past (inr f) = absurd f
-
-  pub ended-mix : Stays → Ended full Chosen es i → Ended full Chosen (es ++ (lost mask ∷ [])) i
-  ended-mix stays x = record { acting = λ u c. acting-of u (came-next es (lost mask) keeps .0 c); joined = λ u a c. came-next es (lost mask) keeps .1 (inl (stays, joined-of u (some-snoc es a) (came-next es (lost mask) keeps .0 c))) }
-    where
-      acting-of : (u : ℕ) → (Stays × Onward full Chosen es (lost mask) i (acted u)) ⊎ (Newly Chosen es (lost mask) i × Tells (lost mask) (acted u)) → Acted full u (es ++ (lost mask ∷ []))
+      acting-of : (u : ℕ) → (Stays × Onward w Chosen es (lost mask) i (acted u)) ⊎ (Newly Chosen es (lost mask) i × Tells (lost mask) (acted u)) → Acted w u (es ++ (lost mask ∷ []))
       acting-of u (inl (s, inl c)) = snoc-some (lost mask) (x .acting u c)
       acting-of u (inl (s, inr (p, c, (h, y)))) = snoc-last es (lost mask) (told-acted .0 y)
       acting-of u (inr (c, y)) = absurd (no-tells y)
 
-      joined-of : (u : ℕ) → Acted full u es ⊎ Named mask u → (Stays × Onward full Chosen es (lost mask) i (due u)) ⊎ (Newly Chosen es (lost mask) i × Tells (lost mask) (due u)) → Onward full Chosen es (lost mask) i (acted u)
+      joined-of : (u : ℕ) → Acted w u es ⊎ Named (w mask) u → (Stays × Onward w Chosen es (lost mask) i (due u)) ⊎ (Newly Chosen es (lost mask) i × Tells (lost mask) (due u)) → Onward w Chosen es (lost mask) i (acted u)
       joined-of u (inl a) (inl (s, inl c)) = inl (x .joined u a c)
       joined-of u (inr d) (inl (s, inl c)) = inr (due u, c, (heard-due .1 d, told-acted .1 d))
       joined-of u a (inl (s, inr (p, c, (h, y)))) = inr (p, c, (h, told-acted .1 (told-due .0 y)))
       joined-of u a (inr (c, y)) = absurd (no-tells y)
+
+  -- where nobody's lost records are filled in a mark changes nothing
+  module _ (none : w mask ≡ 0) where
+    pub mark-came : {m : Node} → Came w Chosen (es ++ (lost mask ∷ [])) i m → Came w Chosen es i m
+    mark-came d = of (came-next es (lost mask) keeps .0 d)
+      where
+        of : {m : Node} → (Stays × Onward w Chosen es (lost mask) i m) ⊎ (Newly Chosen es (lost mask) i × Tells (lost mask) m) → Came w Chosen es i m
+        of (inl (s, inl c)) = c
+        of (inl (s, inr (p, c, (h, y)))) = absurd (nobody-named (heard-some (subst (λ (k : ℕ). Heard k p) none h) .1))
+        of (inr (c, y)) = absurd (no-tells y)
+
+    pub came-mark : {m : Node} → Stays → Came w Chosen es i m → Came w Chosen (es ++ (lost mask ∷ [])) i m
+    came-mark stays d = came-next es (lost mask) keeps .1 (inl (stays, inl d))
 
 -- Nothing has acted in the empty recording
 
@@ -176,7 +182,7 @@ pub fresh-seen : Seen []
 fresh-seen = record { seen = λ t a. absurd (none-acted a) }
 
 -- so whom a start tells has not acted
-pub starts-unseen : {w : Filling} {es : List Event} {o : Op} {t n : ℕ} → Seen es → (kind o ≡ kind start → isUnseen (phase es n) ≡ true) →
+pub starts-unseen : {w : Filling} → Restricts w → {es : List Event} {o : Op} {t n : ℕ} → Seen es → (kind o ≡ kind start → isUnseen (phase es n) ≡ true) →
     (u : ℕ) → Tells (act o t n) (due u) → (u ≡ t) ⊎ (¬ Acted w u es)
-starts-unseen s f u own-next = inl refl
-starts-unseen s f u by-start = inr (λ a. true≢false (sym (f refl) ∙ s .seen u (acted-full a)))
+starts-unseen r s f u own-next = inl refl
+starts-unseen r s f u by-start = inr (λ a. true≢false (sym (f refl) ∙ s .seen u (acted-full r a)))

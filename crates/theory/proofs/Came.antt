@@ -6,7 +6,8 @@ use Prim.Native.Nat.{ℕ, suc, _≤_, _<_, suc-le-suc, zero-le}
 use lib.ListN.{length}
 use Rattle.theory.specs.Recording.{Event}
 use Rattle.theory.proofs.Carry.{Node, due, acted, Tells}
-use Rattle.theory.proofs.Reach.{Filling, Flow, Reach, reach-start, reach-next, reach-acted}
+use Rattle.theory.specs.Completion.{Filling}
+use Rattle.theory.proofs.Reach.{Flow, Reach, reach-start, reach-next, reach-acted}
 use Rattle.theory.proofs.Places.{Occurs, first, next}
 
 -- Definition

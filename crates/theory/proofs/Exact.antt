@@ -1,4 +1,4 @@
--- A column of a table is exact if its cells say to which nodes order has come. Acts and marks keep it so, in either filling, for
+-- A column of a table is exact if its cells say to which nodes order has come. Acts and marks keep it so, in any filling, for
 -- clocks and sets alike and at any width. Assumes nothing.
 use mathlib.Core.Path.{_≡_, refl, sym, _∙_, subst}
 use mathlib.Core.Bool.{Bool, true, false, cond}
@@ -6,24 +6,24 @@ use mathlib.Core.Logic.{_↔_, _⊎_, inl, inr}
 use mathlib.Core.List.{List, [], _∷_, _++_}
 use Prim.Native.Nat.{ℕ, _*_, _≤_, _<_}
 use native.Mathlib.Omega.{arith}
-use borrow.Author.Tests.{lt-ltb, le-ltb}
+use borrow.Author.Tests.{lt-ltb, le-ltb, ne-eqb}
 use lib.Dec.{T, ltb, eqb, lit<}
 use lib.ListN.{replicate}
 use Rattle.theory.specs.Recording.{Op, Event, act, lost, series, kind}
-use Rattle.theory.specs.Completion.{bit, Named}
-use Rattle.theory.specs.Tables.{cell, joinsActed, heardRow, toldRow, alsoTold, onward, isTold, mix}
+use Rattle.theory.specs.Completion.{bit, Named, Filling, arrived, full}
+use Rattle.theory.specs.Tables.{cell, joinsActed, heardRow, toldRow, alsoTold, onward, isTold, mix, mark}
 use Rattle.theory.proofs.Carry.{Node, due, acted, semaphore, flag, Hears, own, Tells, own-next}
 use Rattle.theory.proofs.Fullest.{Heard, Told, named-task}
-use Rattle.theory.proofs.Reach.{Filling, arrived, full, heard-due, heard-acted, heard-semaphore, heard-flag, told-due, told-acted, told-semaphore, told-flag}
+use Rattle.theory.proofs.Reach.{nobody-named, heard-due, heard-acted, heard-semaphore, heard-flag, told-due, told-acted, told-semaphore, told-flag}
 use Rattle.theory.proofs.Tables.{Sized, Joins, Knows, fresh-cell, fresh-none}
 use Rattle.theory.proofs.Acting.{flow-knows}
-use Rattle.theory.proofs.Mixing.{NamedKnows, mix-hub, mix-told, mix-untold}
+use Rattle.theory.proofs.Mixing.{NamedKnows, mix-hub, mix-told, mix-untold, mix-acted}
 use Rattle.theory.proofs.Nodes.{row, InRange, due-in, Object, a-semaphore, a-flag, object-row, row-below, row-one, heardNode, toldNode, readNode, read-row, told-row, read-in, told-in, told-tells, hears-cases, tells-cases, read-hears, heard-read, joined-in, told-object}
 use Rattle.theory.proofs.Marks.{bit-named, named-bit, told-test, test-told}
 use Rattle.theory.proofs.Tests.{some-snoc, snoc-some, snoc-last}
 use Rattle.theory.proofs.Places.{nowhere}
 use Rattle.theory.proofs.Came.{Came, came-acted, Newly, Onward, came-next}
-use Rattle.theory.proofs.Acted.{ActsAs, Acted, Ended, ended-act, no-tells, mark-came, came-mark, ended-mark, ended-mix, none-acted}
+use Rattle.theory.proofs.Acted.{ActsAs, Acted, Ended, ended-act, no-tells, mark-came, came-mark, ended-mark, none-acted}
 use Rattle.theory.proofs.Reflects.{Reflects, right, wrong, same-as, equal, at-most, by-test}
 
 -- Definition
@@ -215,80 +215,90 @@ module _ {P : ℕ → Type 0} {j : ℕ → ℕ → ℕ} {w : Filling} {Chosen : 
 -- Marks
 
 -- what has come to a node that a mark tells has come to one that it hears
-told-heard : {Chosen : Event → List Event → Type 0} {es : List Event} {i mask : ℕ} (m : Node) → Told mask m → Came full Chosen es i m →
-    (p : Node) × Heard mask p × Came full Chosen es i p
+told-heard : {w : Filling} {Chosen : Event → List Event → Type 0} {es : List Event} {i mask : ℕ} (m : Node) → Told mask m → Came w Chosen es i m →
+    (p : Node) × Heard mask p × Came w Chosen es i p
 told-heard (due t) y d = (due t, heard-due .1 (told-due .0 y), d)
 told-heard (acted t) y d = (due t, heard-due .1 (told-acted .0 y), came-acted d)
 told-heard (semaphore s) y d = (semaphore s, heard-semaphore .1 (told-semaphore .0 y), d)
 told-heard (flag f) y d = (flag f, heard-flag .1 (told-flag .0 y), d)
+
+-- whose lost records are filled in: nobody's, or those of some task
+pub data Filled-in (m : ℕ) : Type 0 where
+  nobody : m ≡ 0 → Filled-in m
+  somebody : ¬ (m ≡ 0) → (t : ℕ) × Named m t → Filled-in m
 
 -- a mark that names a task hears every object
 heard-object : {mask : ℕ} → (t : ℕ) × Named mask t → {m : Node} → Object m → Heard mask m
 heard-object some (a-semaphore h) = heard-semaphore .1 (h, some)
 heard-object some (a-flag h) = heard-flag .1 (h, some)
 
-module _ {P : ℕ → Type 0} {Chosen : Event → List Event → Type 0} {Stays : Type 0} {es : List Event} {width i c : ℕ} {b : List ℕ} (mask : ℕ)
+module _ {P : ℕ → Type 0} {w : Filling} {Chosen : Event → List Event → Type 0} {Stays : Type 0} {es : List Event} {width i c : ℕ} {b : List ℕ} (mask : ℕ)
     (keeps : (e : Event) (after : List Event) → Chosen e (after ++ (lost mask ∷ [])) ↔ (Stays × Chosen e after)) (stays : Stays) where
-  -- as it arrived a mark changes nothing
-  pub exact-mark : Exact P arrived Chosen es width b i c → Exact P arrived Chosen (es ++ (lost mask ∷ [])) width b i c
-  exact-mark x =
+  -- where nobody's lost records are filled in a mark changes nothing
+  exact-none : w mask ≡ 0 → Exact P w Chosen es width b i c → Exact P w Chosen (es ++ (lost mask ∷ [])) width b i c
+  exact-none none x =
       record {
-        cells = λ m r. (λ a. came-mark mask keeps stays (x .cells m r .0 a), λ d. x .cells m r .1 (mark-came mask keeps d));
-        hub = (λ a. let (m, k, d) = x .hub .0 a in (m, k, came-mark mask keeps stays d), λ d. x .hub .1 (d .0, d .1, mark-came mask keeps (d .2)));
+        cells = λ m r. (λ a. came-mark mask keeps none stays (x .cells m r .0 a), λ d. x .cells m r .1 (mark-came mask keeps none d));
+        hub = (λ a. let (m, k, d) = x .hub .0 a in (m, k, came-mark mask keeps none stays d), λ d. x .hub .1 (d .0, d .1, mark-came mask keeps none (d .2)));
         ended = ended-mark mask keeps stays (x .ended);
       }
 
-  -- in the fullest filling it mixes
-  module _ {j : ℕ → ℕ → ℕ} (joins : Joins j P) (sized : Sized width b) (wide : 16 ≤ width) (hc : c < width) (some : (t : ℕ) × Named mask t) (x : Exact P full Chosen es width b i c) where
-    heard-known : (p : Node) → Heard mask p → Came full Chosen es i p → Knows P width b 80 c ⊎ NamedKnows P width mask b c 16
+  -- where some are it mixes
+  module _ {j : ℕ → ℕ → ℕ} (joins : Joins j P) (sized : Sized width b) (wide : 16 ≤ width) (hc : c < width) (some : (t : ℕ) × Named (w mask) t) (x : Exact P w Chosen es width b i c) where
+    heard-known : (p : Node) → Heard (w mask) p → Came w Chosen es i p → Knows P width b 80 c ⊎ NamedKnows P width (w mask) b c 16
     heard-known (due t) h d = let q = heard-due .0 h in inr (t, named-task q, named-bit q, x .cells (due t) (due-in (named-task q)) .1 d)
     heard-known (acted t) h d = absurd (heard-acted h)
     heard-known (semaphore s) h d = inl (x .hub .1 (semaphore s, a-semaphore (heard-semaphore .0 h .0), d))
     heard-known (flag f) h d = inl (x .hub .1 (flag f, a-flag (heard-flag .0 h .0), d))
 
-    known-on : {m : Node} → Told mask m → Knows P width b 80 c ⊎ NamedKnows P width mask b c 16 → Onward full Chosen es (lost mask) i m
+    known-on : {m : Node} → Told (w mask) m → Knows P width b 80 c ⊎ NamedKnows P width (w mask) b c 16 → Onward w Chosen es (lost mask) i m
     known-on y (inl a) = let (p, k, d) = x .hub .0 a in inr (p, d, (heard-object some k, y))
-    known-on y (inr (t, l, q, a)) = inr (due t, x .cells (due t) (due-in l) .0 a, (heard-due .1 (bit-named mask t l q), y))
+    known-on y (inr (t, l, q, a)) = inr (due t, x .cells (due t) (due-in l) .0 a, (heard-due .1 (bit-named (w mask) t l q), y))
 
-    on-known : {m : Node} → Told mask m → (Stays × Onward full Chosen es (lost mask) i m) ⊎ (Newly Chosen es (lost mask) i × Tells (lost mask) m) →
-        Knows P width b 80 c ⊎ NamedKnows P width mask b c 16
+    on-known : {m : Node} → Told (w mask) m → (Stays × Onward w Chosen es (lost mask) i m) ⊎ (Newly Chosen es (lost mask) i × Tells (lost mask) m) →
+        Knows P width b 80 c ⊎ NamedKnows P width (w mask) b c 16
     on-known {m} y (inl (s, inl d)) = let (p, h, e) = told-heard m y d in heard-known p h e
     on-known y (inl (s, inr (p, d, (h, z)))) = heard-known p h d
     on-known y (inr (d, z)) = absurd (no-tells z)
 
-    mixed : (m : Node) → InRange m → Knows P width (mix j width mask b) (row m) c ↔ Came full Chosen (es ++ (lost mask ∷ [])) i m
-    mixed m r = decided (by-test (isTold mask (row m)))
+    mixed : (m : Node) → InRange m → Knows P width (mix j width (w mask) b) (row m) c ↔ Came w Chosen (es ++ (lost mask ∷ [])) i m
+    mixed m r = decided (by-test (isTold (w mask) (row m)))
       where
-        decided : {p : Bool} → Reflects (T (isTold mask (row m))) p → Knows P width (mix j width mask b) (row m) c ↔ Came full Chosen (es ++ (lost mask ∷ [])) i m
+        decided : {p : Bool} → Reflects (T (isTold (w mask) (row m))) p → Knows P width (mix j width (w mask) b) (row m) c ↔ Came w Chosen (es ++ (lost mask ∷ [])) i m
         decided (right q) =
             let y = test-told some r q in
-            let e = mix-told joins sized mask c wide hc (row m) (row-below r) q in
+            let e = mix-told joins sized (w mask) c wide hc (row m) (row-below r) q in
             (λ a. came-next es (lost mask) keeps .1 (inl (stays, known-on y (e .0 a))), λ d. e .1 (on-known y (came-next es (lost mask) keeps .0 d)))
         decided (wrong f) =
-            let e = mix-untold joins sized mask c wide hc (row m) (row-below r) f in
+            let e = mix-untold joins sized (w mask) c wide hc (row m) (row-below r) f in
             (λ a. came-next es (lost mask) keeps .1 (inl (stays, inl (x .cells m r .0 (e .0 a)))), λ d. e .1 (x .cells m r .1 (same (came-next es (lost mask) keeps .0 d))))
           where
-            same : (Stays × Onward full Chosen es (lost mask) i m) ⊎ (Newly Chosen es (lost mask) i × Tells (lost mask) m) → Came full Chosen es i m
+            same : (Stays × Onward w Chosen es (lost mask) i m) ⊎ (Newly Chosen es (lost mask) i × Tells (lost mask) m) → Came w Chosen es i m
             same (inl (s, inl d)) = d
             same (inl (s, inr (p, d, (h, y)))) = absurd (f (told-test r y))
             same (inr (d, y)) = absurd (no-tells y)
 
-    hub-mixed : Knows P width (mix j width mask b) 80 c ↔ ToObject full Chosen (es ++ (lost mask ∷ [])) i
+    hub-mixed : Knows P width (mix j width (w mask) b) 80 c ↔ ToObject w Chosen (es ++ (lost mask ∷ [])) i
     hub-mixed = (λ a. to (e .0 a), λ d. e .1 (from (d .0) (d .1) (came-next es (lost mask) keeps .0 (d .2))))
       where
-        e : Knows P width (mix j width mask b) 80 c ↔ (Knows P width b 80 c ⊎ NamedKnows P width mask b c 16)
-        e = mix-hub joins sized mask c wide hc
+        e : Knows P width (mix j width (w mask) b) 80 c ↔ (Knows P width b 80 c ⊎ NamedKnows P width (w mask) b c 16)
+        e = mix-hub joins sized (w mask) c wide hc
 
-        to : Knows P width b 80 c ⊎ NamedKnows P width mask b c 16 → ToObject full Chosen (es ++ (lost mask ∷ [])) i
+        to : Knows P width b 80 c ⊎ NamedKnows P width (w mask) b c 16 → ToObject w Chosen (es ++ (lost mask ∷ [])) i
         to a = (semaphore 0, a-semaphore (lit< tt), came-next es (lost mask) keeps .1 (inl (stays, known-on (told-semaphore .1 (lit< tt, some)) a)))
 
-        from : (m : Node) → Object m → (Stays × Onward full Chosen es (lost mask) i m) ⊎ (Newly Chosen es (lost mask) i × Tells (lost mask) m) → Knows P width b 80 c ⊎ NamedKnows P width mask b c 16
+        from : (m : Node) → Object m → (Stays × Onward w Chosen es (lost mask) i m) ⊎ (Newly Chosen es (lost mask) i × Tells (lost mask) m) → Knows P width b 80 c ⊎ NamedKnows P width (w mask) b c 16
         from m k (inl (s, inl d)) = inl (x .hub .1 (m, k, d))
         from m k (inl (s, inr (p, d, (h, y)))) = heard-known p h d
         from m k (inr (d, y)) = absurd (no-tells y)
 
-    pub exact-mix : Exact P full Chosen (es ++ (lost mask ∷ [])) width (mix j width mask b) i c
-    exact-mix = record { cells = mixed; hub = hub-mixed; ended = ended-mix mask keeps stays (x .ended) }
+    exact-mix : Exact P w Chosen (es ++ (lost mask ∷ [])) width (mix j width (w mask) b) i c
+    exact-mix = record { cells = mixed; hub = hub-mixed; ended = ended-mark mask keeps stays (x .ended) }
+
+  pub exact-mark : {j : ℕ → ℕ → ℕ} → Joins j P → Sized width b → 16 ≤ width → c < width → Filled-in (w mask) → Exact P w Chosen es width b i c →
+      Exact P w Chosen (es ++ (lost mask ∷ [])) width (mark j width (w mask) b) i c
+  exact-mark {j} joins sized wide hc (nobody e) x = subst (λ (k : ℕ). Exact P w Chosen (es ++ (lost mask ∷ [])) width (mark j width k b) i c) (sym e) (exact-none e x)
+  exact-mark joins sized wide hc (somebody n some) x = rw (ne-eqb (w mask) 0 n) (exact-mix joins sized wide hc some x)
 
 -- What has acted
 
@@ -314,12 +324,14 @@ module _ {w : Filling} {es : List Event} {width : ℕ} {b b′ : List ℕ} where
       ExactActed w (es ++ (act o u n ∷ [])) width b′
   acted-act o u n e x = acted-next (act o u n) (λ t. eqb t u) (λ t h. equal t u) e x
 
-pub acted-mark : {es : List Event} {width : ℕ} {b : List ℕ} (mask : ℕ) → ExactActed arrived es width b → ExactActed arrived (es ++ (lost mask ∷ [])) width b
-acted-mark mask x = acted-next (lost mask) (λ t. false) (λ t h. wrong (λ f. f)) (λ t h. refl) x
-
-pub acted-mix : {es : List Event} {width : ℕ} {b b′ : List ℕ} (mask : ℕ) → ((t : ℕ) → t < 16 → cell width b′ 81 t ≡ cond (bit mask t) 1 (cell width b 81 t)) →
-    ExactActed full es width b → ExactActed full (es ++ (lost mask ∷ [])) width b′
-acted-mix mask e x = acted-next (lost mask) (bit mask) (λ t h. same-as (bit-named mask t h) named-bit (by-test (bit mask t))) e x
+pub acted-mark : {w : Filling} {es : List Event} {width : ℕ} {b : List ℕ} (j : ℕ → ℕ → ℕ) (mask : ℕ) → Sized width b → 16 ≤ width → Filled-in (w mask) → ExactActed w es width b →
+    ExactActed w (es ++ (lost mask ∷ [])) width (mark j width (w mask) b)
+acted-mark {w} {es} {width} {b} j mask sized wide (nobody e) x =
+    subst (λ (k : ℕ). ExactActed w (es ++ (lost mask ∷ [])) width (mark j width k b)) (sym e)
+    (acted-next (lost mask) (λ t. false) (λ t h. wrong (λ d. nobody-named (subst (λ (k : ℕ). Named k t) e d))) (λ t h. refl) x)
+acted-mark {w} j mask sized wide (somebody n some) x =
+    rw (ne-eqb (w mask) 0 n)
+    (acted-next (lost mask) (bit (w mask)) (λ t h. same-as (bit-named (w mask) t h) named-bit (by-test (bit (w mask) t))) (λ t h. mix-acted sized j (w mask) t wide h) x)
 
 -- Fresh tables
 

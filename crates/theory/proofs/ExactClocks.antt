@@ -8,19 +8,19 @@ use Prim.Native.Nat.{ℕ, suc, _<_, max}
 use native.Mathlib.Omega.{arith}
 use lib.ListN.{length, replicate}
 use Rattle.theory.specs.Recording.{Op, Event, act, lost, series, kind, ActsIn, acts}
-use Rattle.theory.specs.Completion.{Named}
-use Rattle.theory.specs.Tables.{mix, cell}
+use Rattle.theory.specs.Completion.{Named, Filling, arrived, full}
+use Rattle.theory.specs.Tables.{mark, cell}
 use Rattle.theory.specs.Reckonings.{clockOwn, clockAct}
 use Rattle.theory.proofs.Reflects.{Reflects, right, wrong, equal, at-most, both}
 use Rattle.theory.proofs.Carry.{Node, due, Tells}
-use Rattle.theory.proofs.Reach.{Filling, arrived, full}
+
 use Rattle.theory.proofs.Tables.{Sized, Joins, Knows, knows-same, same-max, sized-fresh}
 use Rattle.theory.proofs.Acting.{sized-flow, flow-acted, sized-clock-own, clock-own-same, clock-own-other, clock-own-acted}
-use Rattle.theory.proofs.Mixing.{sized-mix, mix-acted}
+use Rattle.theory.proofs.Mixing.{sized-mark}
 use Rattle.theory.proofs.Nodes.{row, InRange, due-in, row-below, row-one, told-row, told-in}
 use Rattle.theory.proofs.Acted.{Acted}
 use Rattle.theory.proofs.Came.{Came, Newly, occurs-short}
-use Rattle.theory.proofs.Exact.{Exact, ToObject, Owned, ExactActed, exact-act, exact-mark, exact-mix, fresh-exact, acted-same, acted-act, acted-mark, acted-mix, fresh-acted}
+use Rattle.theory.proofs.Exact.{Filled-in, Exact, ToObject, Owned, ExactActed, exact-act, exact-mark, fresh-exact, acted-same, acted-act, acted-mark, fresh-acted}
 
 -- Definition
 
@@ -102,17 +102,12 @@ module _ {w : Filling} {es : List Event} {b : List ℕ} {t n number : ℕ} (o : 
 
 -- Marks
 
-pub clocks-mark : {es : List Event} {b : List ℕ} (mask : ℕ) → ExactClocks arrived es b → ExactClocks arrived (es ++ (lost mask ∷ [])) b
-clocks-mark mask x =
-    record { sized = x .sized; column = λ u i hu. exact-mark mask (keeps u (lost mask)) tt (x .column u i hu); acting = acted-mark mask (x .acting) }
-
-pub clocks-mix : {es : List Event} {b : List ℕ} (mask : ℕ) → (t : ℕ) × Named mask t → ExactClocks full es b →
-    ExactClocks full (es ++ (lost mask ∷ [])) (mix max 16 mask b)
-clocks-mix mask some x =
+pub clocks-mark : {w : Filling} {es : List Event} {b : List ℕ} (mask : ℕ) → Filled-in (w mask) → ExactClocks w es b → ExactClocks w (es ++ (lost mask ∷ [])) (mark max 16 (w mask) b)
+clocks-mark {w} mask f x =
     record {
-      sized = sized-mix (x .sized) max mask;
-      column = λ u i hu. exact-mix mask (keeps u (lost mask)) tt (joins-max i) (x .sized) (omega arith) hu some (x .column u i hu);
-      acting = acted-mix mask (λ t h. mix-acted (x .sized) max mask t (omega arith) h) (x .acting);
+      sized = sized-mark (x .sized) max (w mask);
+      column = λ u i hu. exact-mark mask (keeps u (lost mask)) tt (joins-max i) (x .sized) (omega arith) hu f (x .column u i hu);
+      acting = acted-mark max mask (x .sized) (omega arith) f (x .acting);
     }
 
 -- The fresh table

@@ -10,22 +10,22 @@ use lib.Dec.{T, eqb}
 use lib.ListN.{replicate}
 use Rattle.theory.specs.Recording.{Op, Event, act, lost, series, kind, accesses, isAccess}
 
-use Rattle.theory.specs.Completion.{bit, Named}
-use Rattle.theory.specs.Tables.{cell, noteActed, mix}
+use Rattle.theory.specs.Completion.{bit, Named, Filling, arrived, full}
+use Rattle.theory.specs.Tables.{cell, noteActed, mark}
 use Rattle.theory.specs.History.{slot}
 use Rattle.theory.specs.Reckonings.{hasSlot, clearSlot, addSlot, setOwn, setAct}
 use Rattle.theory.proofs.Reflects.{Reflects, right, wrong, equal, by-test}
 use Rattle.theory.proofs.Carry.{Node, due, Tells}
-use Rattle.theory.proofs.Reach.{Filling, arrived, full}
+
 use Rattle.theory.proofs.Tables.{Sized, Knows, knows-same, sized-fresh}
 use Rattle.theory.proofs.Words.{joins-or}
 use Rattle.theory.proofs.Acting.{sized-flow, flow-acted, sized-note, note-other, note-cell, sized-afresh, afresh-own, afresh-cleared, afresh-other, afresh-acted}
-use Rattle.theory.proofs.Mixing.{sized-mix, mix-acted}
+use Rattle.theory.proofs.Mixing.{sized-mark}
 use Rattle.theory.proofs.Nodes.{row, InRange, due-in, row-below, row-one, told-row, told-in}
 use Rattle.theory.proofs.Tests.{Some, some-snoc, snoc-some, snoc-last}
 use Rattle.theory.proofs.Came.{Came, Newly}
 use Rattle.theory.proofs.Acted.{Acted}
-use Rattle.theory.proofs.Exact.{Exact, Owned, ExactActed, exact-act, exact-mark, exact-mix, fresh-exact, acted-same, acted-act, acted-mark, acted-mix, fresh-acted}
+use Rattle.theory.proofs.Exact.{Filled-in, Exact, Owned, ExactActed, exact-act, exact-mark, fresh-exact, acted-same, acted-act, acted-mark, fresh-acted}
 use Rattle.theory.proofs.Slots.{InSlot, in-slot, access-kind, slot-below, in-access, in-one, no-slot-mark}
 use Rattle.theory.proofs.Ops.{access-on, access-tests, other-tests}
 
@@ -164,16 +164,12 @@ module _ {w : Filling} {es : List Event} {b : List ℕ} {t n : ℕ} (o : Op) (x 
 
 -- Marks
 
-pub sets-mark : {es : List Event} {b : List ℕ} (mask : ℕ) → ExactSets arrived es b → ExactSets arrived (es ++ (lost mask ∷ [])) b
-sets-mark mask x =
-    record { sized = x .sized; column = λ s l. exact-mark mask (keeps s (lost mask)) no-slot-mark (x .column s l); acting = acted-mark mask (x .acting) }
-
-pub sets-mix : {es : List Event} {b : List ℕ} (mask : ℕ) → (t : ℕ) × Named mask t → ExactSets full es b → ExactSets full (es ++ (lost mask ∷ [])) (mix bitOr 64 mask b)
-sets-mix mask some x =
+pub sets-mark : {w : Filling} {es : List Event} {b : List ℕ} (mask : ℕ) → Filled-in (w mask) → ExactSets w es b → ExactSets w (es ++ (lost mask ∷ [])) (mark bitOr 64 (w mask) b)
+sets-mark {w} mask f x =
     record {
-      sized = sized-mix (x .sized) bitOr mask;
-      column = λ s l. exact-mix mask (keeps s (lost mask)) no-slot-mark (joins-or (s % 32)) (x .sized) (omega arith) (word-below l) some (x .column s l);
-      acting = acted-mix mask (λ t h. mix-acted (x .sized) bitOr mask t (omega arith) h) (x .acting);
+      sized = sized-mark (x .sized) bitOr (w mask);
+      column = λ s l. exact-mark mask (keeps s (lost mask)) no-slot-mark (joins-or (s % 32)) (x .sized) (omega arith) (word-below l) f (x .column s l);
+      acting = acted-mark bitOr mask (x .sized) (omega arith) f (x .acting);
     }
 
 -- The fresh table

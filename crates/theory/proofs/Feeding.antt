@@ -14,24 +14,27 @@ use Rattle.theory.specs.declared.state.State.{State}
 use Rattle.theory.specs.declared.state.SetState.{SetState}
 use Rattle.theory.specs.Recording.{Op, Event, act, lost, kind, lossMark, eventOf, isAccess}
 
-use Rattle.theory.specs.Completion.{names, Named}
+use Rattle.theory.specs.Completion.{names, Named, arrived, full, Filling}
 use Rattle.theory.specs.Acceptance.{isLive, phase, Standing, standing, refusal, joined, fedAfter}
 use Rattle.theory.specs.Control.{controlAfter}
 use Rattle.theory.specs.History.{lastAfter}
-use Rattle.theory.specs.Reckonings.{clocksArrived, clocksFull, setsArrived, setsFull, clockMask, setMask, clockMasks, setMasks}
+use Rattle.theory.specs.Reckonings.{clocksBy, setsBy, clockMask, setMask, clockMasks, setMasks}
 use Rattle.theory.specs.Step.{nextNumber, answeredBy, stepOf, stepBy, setStepOf, setStepBy, freshControl, freshState, freshSets}
+use Rattle.theory.specs.Decide.{partner}
 use Rattle.theory.specs.Feeding.{Checker, fedTo, afterAll, byClocks, bySets, acceptedAnswer, answerBy, answerTo, answersFrom}
 use Rattle.theory.proofs.Reflects.{Reflects, right, wrong, by-test, equal, is-true}
 use Rattle.theory.proofs.Acceptance.{ActAllowed, MarkAllowed, Allowed, allowed}
 use Rattle.theory.proofs.Ops.{op-of, no-mark, event-act, on-series, access-on, access-tests, other-tests}
-use Rattle.theory.proofs.Reach.{arrived, full}
+
 use Rattle.theory.proofs.Marks.{bit-named}
+use Rattle.theory.proofs.Exact.{Filled-in, nobody, somebody}
+use Rattle.theory.proofs.Reach.{arrived-nothing}
 use Rattle.theory.proofs.ExactControl.{ExactControl, fresh-control, control-act, control-mark, same-refusal}
-use Rattle.theory.proofs.ExactClocks.{ExactClocks, clocks-act, clocks-mark, clocks-mix, fresh-clocks}
-use Rattle.theory.proofs.ExactSets.{ExactSets, sets-act, sets-mark, sets-mix, fresh-sets}
+use Rattle.theory.proofs.ExactClocks.{ExactClocks, clocks-act, clocks-mark, fresh-clocks}
+use Rattle.theory.proofs.ExactSets.{ExactSets, sets-act, sets-mark, fresh-sets}
 use Rattle.theory.proofs.Slots.{ExactHistory, history-act, history-mark, fresh-history}
 use Rattle.theory.proofs.Conflicts.{Ranged, ranged-act, ranged-mark, fresh-ranged}
-use Rattle.theory.proofs.Acted.{Seen, seen-event, fresh-seen, starts-unseen}
+use Rattle.theory.proofs.Acted.{Restricts, arrived-restricts, full-restricts, Seen, seen-event, fresh-seen, starts-unseen}
 use Rattle.theory.proofs.Represents.{clock-finds, set-finds, judged-found}
 
 -- What an accepted record is
@@ -54,11 +57,13 @@ some-bit (suc k) n h l = decided (n % 2) refl (some-bit k (n / 2))
         (suc t, omega arith, rw (← higher t) q)
     decided (suc d) e below = (0, omega arith, omega arith)
 
-mark-names : {s : Standing} {n : ℕ} → MarkAllowed s n → (t : ℕ) × Named n t
-mark-names {n = n} m =
-    let h = m .some in
-    let (t, l, d) = some-bit 16 n (λ z. omega arith) (m .fits) in
-    (t, bit-named n t l (subst T (sym (eq-eqb _ _ d)) tt))
+-- whose lost records of an accepted mark a filling fills in
+mark-filled : {w : Filling} → Restricts w → {s : Standing} {n : ℕ} → MarkAllowed s n → Filled-in (w n)
+mark-filled {w} r {n = n} m = decided (equal (w n) 0)
+  where
+    decided : {b : Bool} → Reflects (w n ≡ 0) b → Filled-in (w n)
+    decided (right e) = nobody e
+    decided (wrong f) = let (t, l, d) = some-bit 16 (w n) f (r .bounded n (m .fits)) in somebody f (t, bit-named (w n) t l (subst T (sym (eq-eqb _ _ d)) tt))
 
 mark-live : {s : Standing} {n : ℕ} → MarkAllowed s n → (t : ℕ) → Named n t → s .live t ≡ true
 mark-live {n = n} m t k = m .live t (is-true (by-test (names n t)) (k .named))
@@ -118,24 +123,26 @@ base-next {control = control} b (a-mark t n m) =
     }
 
 clocks-next : {es : List Event} {control last clocks fullclocks : List ℕ} {r : Record} → Base es control last → Clocks es clocks fullclocks → Shape es r →
-    Clocks (Then es r) (clocksArrived (r .kind) (r .task) (r .on) (nextNumber control) clocks) (clocksFull (r .kind) (r .task) (r .on) (nextNumber control) fullclocks)
+    Clocks (Then es r) (clocksBy arrived (r .kind) (r .task) (r .on) (nextNumber control) clocks) (clocksBy full (r .kind) (r .task) (r .on) (nextNumber control) fullclocks)
 clocks-next {es} {control} {last} {clocks} {fullclocks} b x (an-act o t n a) =
     rw (event-act o t n, no-mark o)
     (record {
-      as-arrived = clocks-act o (x .as-arrived) (a .fits .task-fits) (on-series o (a .fits)) (next-number (b .control-exact)) (starts-unseen (b .seen) (a .starts-unseen));
-      in-full = clocks-act o (x .in-full) (a .fits .task-fits) (on-series o (a .fits)) (next-number (b .control-exact)) (starts-unseen (b .seen) (a .starts-unseen));
+      as-arrived = clocks-act o (x .as-arrived) (a .fits .task-fits) (on-series o (a .fits)) (next-number (b .control-exact)) (starts-unseen arrived-restricts (b .seen) (a .starts-unseen));
+      in-full = clocks-act o (x .in-full) (a .fits .task-fits) (on-series o (a .fits)) (next-number (b .control-exact)) (starts-unseen full-restricts (b .seen) (a .starts-unseen));
     })
-clocks-next b x (a-mark t n m) = record { as-arrived = clocks-mark n (x .as-arrived); in-full = clocks-mix n (mark-names m) (x .in-full) }
+clocks-next b x (a-mark t n m) =
+    record { as-arrived = clocks-mark n (mark-filled arrived-restricts m) (x .as-arrived); in-full = clocks-mark n (mark-filled full-restricts m) (x .in-full) }
 
 sets-next : {es : List Event} {sets fullsets : List ℕ} {r : Record} → Seen es → Sets es sets fullsets → Shape es r →
-    Sets (Then es r) (setsArrived (r .kind) (r .task) (r .on) sets) (setsFull (r .kind) (r .task) (r .on) fullsets)
+    Sets (Then es r) (setsBy arrived (r .kind) (r .task) (r .on) sets) (setsBy full (r .kind) (r .task) (r .on) fullsets)
 sets-next s x (an-act o t n a) =
     rw (event-act o t n, no-mark o)
     (record {
-      as-arrived = sets-act o (x .as-arrived) (a .fits .task-fits) (on-series o (a .fits)) (starts-unseen s (a .starts-unseen));
-      in-full = sets-act o (x .in-full) (a .fits .task-fits) (on-series o (a .fits)) (starts-unseen s (a .starts-unseen));
+      as-arrived = sets-act o (x .as-arrived) (a .fits .task-fits) (on-series o (a .fits)) (starts-unseen arrived-restricts s (a .starts-unseen));
+      in-full = sets-act o (x .in-full) (a .fits .task-fits) (on-series o (a .fits)) (starts-unseen full-restricts s (a .starts-unseen));
     })
-sets-next s x (a-mark t n m) = record { as-arrived = sets-mark n (x .as-arrived); in-full = sets-mix n (mark-names m) (x .in-full) }
+sets-next s x (a-mark t n m) =
+    record { as-arrived = sets-mark n (mark-filled arrived-restricts m) (x .as-arrived); in-full = sets-mark n (mark-filled full-restricts m) (x .in-full) }
 
 -- What is answered
 
@@ -159,7 +166,7 @@ clock-answer {es} {control} {last} {clocks} {fullclocks} b x (an-act o t n a) = 
         rw (access-tests o c, is-true (by-test (isAccess o)) c, number)
         (judged-found last (kind o) n (suc (length es)) (clockMask fullclocks last (kind o) t n) (clockMask clocks last (kind o) t n) (act o t n) es
         (clock-finds {w = full} o t n (b .history) (b .ranged) c (a .fits .task-fits) (access-on o c (on-series o (a .fits))) (x .in-full))
-        (clock-finds {w = arrived} o t n (b .history) (b .ranged) c (a .fits .task-fits) (access-on o c (on-series o (a .fits))) (x .as-arrived)))
+        (clock-finds {w = arrived} o t n (b .history) (b .ranged) c (a .fits .task-fits) (access-on o c (on-series o (a .fits))) (x .as-arrived) ∙ ap (λ (g : ℕ → List Event). partner g (act o t n) 1 es) arrived-nothing))
     decided (wrong l) = rw (other-tests o l, is-false {b = isAccess o} l, number)
 clock-answer b x (a-mark t n m) = rw (next-number (b .control-exact))
 
@@ -176,7 +183,7 @@ set-answer {es} {control} {last} {sets} {fullsets} b x (an-act o t n a) = rw (ev
         rw (access-tests o c, is-true (by-test (isAccess o)) c, number)
         (judged-found last (kind o) n (suc (length es)) (setMask fullsets last (kind o) t n) (setMask sets last (kind o) t n) (act o t n) es
         (set-finds {w = full} o t n (b .history) (b .ranged) c (a .fits .task-fits) (access-on o c (on-series o (a .fits))) (x .in-full))
-        (set-finds {w = arrived} o t n (b .history) (b .ranged) c (a .fits .task-fits) (access-on o c (on-series o (a .fits))) (x .as-arrived)))
+        (set-finds {w = arrived} o t n (b .history) (b .ranged) c (a .fits .task-fits) (access-on o c (on-series o (a .fits))) (x .as-arrived) ∙ ap (λ (g : ℕ → List Event). partner g (act o t n) 1 es) arrived-nothing))
     decided (wrong l) = rw (other-tests o l, is-false {b = isAccess o} l, number)
 set-answer b x (a-mark t n m) = rw (next-number (b .control-exact))
 

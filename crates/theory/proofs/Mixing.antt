@@ -6,10 +6,10 @@ use mathlib.Core.Logic.{_↔_, _⊎_, inl, inr, ⊎-elim}
 use mathlib.Core.List.{List}
 use Prim.Native.Nat.{ℕ, zero, suc, _+_, _*_, _≤_, _<_}
 use native.Mathlib.Omega.{arith}
-use lib.Dec.{T, lit<}
+use lib.Dec.{T, lit<, eqb}
 use Rattle.theory.specs.Turns.{turns}
 use Rattle.theory.specs.Completion.{bit}
-use Rattle.theory.specs.Tables.{cell, joinRow, rowOf, putRow, isTold, hub, rowOrHub, gather, spread, noteNamed, mix}
+use Rattle.theory.specs.Tables.{cell, joinRow, rowOf, putRow, isTold, hub, rowOrHub, gather, spread, noteNamed, mix, mark}
 use Rattle.theory.proofs.Reflects.{Reflects, right, wrong, equal}
 use Rattle.theory.proofs.Tables.{Sized, Joins, Knows, knows-same, sized-set, sized-turns, sized-join, sized-put, in-table, one-place, stores-at, stores-other, row-cell, put-same, put-other, join-self, join-cell-other, join-knows}
 
@@ -199,3 +199,11 @@ unfolding mix
 mix-acted {w} {b} s j mask t wide h =
     named-cell (sized-spread (sized-gather s j mask) mask) mask wide t h
     ∙ ap (cond (bit mask t) 1) (untold-cell (sized-gather s j mask) mask t (omega arith) 81 (λ x. omega (arith, x .0)) ∙ gather-kept j s mask 81 t (omega arith) (λ e. omega arith))
+
+-- a mark keeps the size
+pub sized-mark : {w : ℕ} {b : List ℕ} → Sized w b → (j : ℕ → ℕ → ℕ) (mask : ℕ) → Sized w (mark j w mask b)
+sized-mark {w} {b} s j mask = decided (eqb mask 0)
+  where
+    decided : (c : Bool) → Sized w (cond c b (mix j w mask b))
+    decided true = s
+    decided false = sized-mix s j mask

@@ -1,6 +1,6 @@
 -- Each reckoning on its own says "path" exactly where Order has one, after every list, marks included, as it arrived and in the fullest
 -- filling; so the two match. The statements are in specs/Feeding.antt. Assumes nothing.
-use mathlib.Core.Path.{_≡_, refl, sym, _∙_, ap₂}
+use mathlib.Core.Path.{_≡_, refl, sym, _∙_, ap₂, subst}
 use mathlib.Core.Bool.{Bool, true, false, true≢false}
 use Rattle.theory.proofs.Reflects.{Reflects, right, wrong, by-test}
 use mathlib.Core.Logic.{_↔_}
@@ -20,10 +20,11 @@ use Rattle.theory.specs.Verdict.{Latest, ApartAsArrived, ApartInAll}
 use Rattle.theory.specs.Reckonings.{clockApart, setApart, maskOf, masksBy, clockMasks, setMasks}
 use Rattle.theory.specs.Step.{masksUnless, apartByClocks, apartBySets, freshState, freshSets}
 use Rattle.theory.specs.Feeding.{afterAll, byClocks, bySets, SaysPaths, ClockPaths, SetPaths, ReckoningsMatch}
-use Rattle.theory.proofs.Reach.{arrived, full, filling}
+
 use Rattle.theory.proofs.Places.{Ends, Occurs}
 use Rattle.theory.proofs.Leads.{Leads}
-use Rattle.theory.specs.Completion.{fillWith}
+use Rattle.theory.specs.Completion.{fillWith, arrived, full, filling}
+use Rattle.theory.proofs.Reach.{arrived-nothing}
 use Rattle.theory.proofs.Bounds.{apart-as-arrived, apart-in-all}
 use Rattle.theory.proofs.Decide.{Candidate, candidate-latest, candidate-far, far-candidate}
 use Rattle.theory.proofs.Ops.{event-act, on-series, access-on, other-tests}
@@ -50,7 +51,9 @@ module _ (es : List Event) (p : Op) (t v : ℕ) where
     where
       agree : (i : ℕ) (o : Op) (u n : ℕ) (mid : List Event) → Occurs es i (act o u n) mid →
           ApartAsArrived (es ++ (act p t v ∷ [])) (length es) i ↔ (¬ Leads (act o u n) (fillWith (filling arrived) mid) (act p t v))
-      agree i o u n mid s = apart-as-arrived at-end s
+      agree i o u n mid s =
+          subst (λ (g : ℕ → List Event). ApartAsArrived (es ++ (act p t v ∷ [])) (length es) i ↔ (¬ Leads (act o u n) (fillWith g mid) (act p t v))) (sym arrived-nothing)
+          (apart-as-arrived at-end s)
 
   full-candidate : {u : ℕ} → ((i : ℕ) × Candidate (filling full) (act p t v) es u i)
       ↔ ((i : ℕ) × Latest (es ++ (act p t v ∷ [])) u i (length es) × ApartInAll (es ++ (act p t v ∷ [])) (length es) i)

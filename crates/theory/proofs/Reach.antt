@@ -1,32 +1,28 @@
--- The laws by which clocks and sets are reckoned: to which nodes order from an event has come, after a list of events in either
+-- The laws by which clocks and sets are reckoned: to which nodes order from an event has come, after a list of events in any
 -- filling, and how one more act or mark at the end of the list moves it on. Assumes nothing.
 use mathlib.Core.Logic.{_↔_, _⊎_, inl, inr}
 use mathlib.Core.Path.{_≡_, refl, sym, ap, subst, _∙_}
 use mathlib.Core.List.{List, [], _∷_, _++_, append-assoc}
-use Prim.Native.Nat.{ℕ, _<_}
-use lib.Dec.{lit<}
-use Rattle.theory.specs.Limits.{semaphores, flags}
+use mathlib.Core.Bool.{false}
+use Prim.Native.Nat.{ℕ, suc, _<_}
+use lib.Dec.{T, lit<}
+use Rattle.theory.specs.Limits.{tasks, semaphores, flags}
+use Rattle.theory.specs.Turns.{turns}
+use Rattle.theory.specs.Acceptance.{anyBelow}
 use Rattle.theory.specs.Recording.{take, give, look, set, Event, act, lost}
-use Rattle.theory.specs.Completion.{Named, filler, fillWith, nothing, rounds}
+use Rattle.theory.specs.Completion.{bit, names, Named, filler, fillWith, nothing, round, rounds, Filling, arrived, filling}
+use Rattle.theory.proofs.Reflects.{by-test, both, at-most, passed}
+use Rattle.theory.proofs.Acceptance.{none-below}
 use Rattle.theory.proofs.Leads.{Leads}
 use Rattle.theory.proofs.Carry.{Node, due, acted, semaphore, flag, Hears, own, by-take, by-look, by-join, Tells, own-next, own-acted, by-give, by-set, by-start, Carry, stay, pass, move, carry-skip, carry-append, carry-split, acted-next, carry-acted, leads-carried, carried-leads}
 use Rattle.theory.proofs.Fullest.{Heard, Told, Mix, same, mixed, carry-mix, mix-rounds, filler-rounds}
 
 -- Definition
 
--- the two fillings: the recording as it arrived, and the fullest
-pub data Filling : Type 0 where
-  arrived full : Filling
-
-abbrev pub filling : Filling → ℕ → List Event
-filling arrived = nothing
-filling full = rounds
-
 -- order goes over one event from the one node to the other
 abbrev pub Flow : Filling → Event → Node → Node → Type 0
 Flow w (act o t n) p m = Hears p (act o t n) × Tells (act o t n) m
-Flow arrived (lost mask) p m = ⊥
-Flow full (lost mask) p m = Heard mask p × Told mask m
+Flow w (lost mask) p m = Heard (w mask) p × Told (w mask) m
 
 -- order from e has come to node m after the events
 pub record Reach (w : Filling) (e : Event) (xs : List Event) (m : Node) : Type 0 where
@@ -48,21 +44,19 @@ carry-flow w (act o t n) c = of-act c
     of-act : {x : Event} {p m : Node} → Carry p (x ∷ []) m → (p ≡ m) ⊎ (Hears p x × Tells x m)
     of-act (pass stay) = inl refl
     of-act (move h t stay) = inr (h, t)
-carry-flow arrived (lost mask) stay = inl refl
-carry-flow full (lost mask) c =
-    let (q, inside, rest) = carry-split (rounds mask) c in
-    of-mark (carry-mix (filler-rounds mask) inside) rest
+carry-flow w (lost mask) c =
+    let (q, inside, rest) = carry-split (rounds (w mask)) c in
+    of-mark (carry-mix (filler-rounds (w mask)) inside) rest
   where
-    of-mark : {p q m : Node} → Mix mask p q → Carry q [] m → (p ≡ m) ⊎ (Heard mask p × Told mask m)
+    of-mark : {p q m : Node} → Mix (w mask) p q → Carry q [] m → (p ≡ m) ⊎ (Heard (w mask) p × Told (w mask) m)
     of-mark same stay = inl refl
     of-mark (mixed h t) stay = inr (h, t)
 
 flow-carry : (w : Filling) (x : Event) {p m : Node} → (p ≡ m) ⊎ Flow w x p m → Carry p (fillWith (filling w) (x ∷ [])) m
 flow-carry w (act o t n) {p} (inl e) = subst (Carry p (act o t n ∷ [])) e (pass stay)
 flow-carry w (act o t n) (inr (h, t′)) = move h t′ stay
-flow-carry arrived (lost mask) {p} (inl e) = subst (Carry p []) e stay
-flow-carry full (lost mask) {p} (inl e) = subst (Carry p (rounds mask ++ [])) e (carry-append (mix-rounds same) stay)
-flow-carry full (lost mask) (inr (h, t)) = carry-append (mix-rounds (mixed h t)) stay
+flow-carry w (lost mask) {p} (inl e) = subst (Carry p (rounds (w mask) ++ [])) e (carry-append (mix-rounds same) stay)
+flow-carry w (lost mask) (inr (h, t)) = carry-append (mix-rounds (mixed h t)) stay
 
 module _ {w : Filling} {e : Event} where
   pub reach-start : {m : Node} → Reach w e [] m ↔ Tells e m
@@ -109,6 +103,28 @@ module _ {w : Filling} {e : Event} where
   leads-reach = (λ l. let (n, m, t, c, h) = leads-carried l in (m, record { n = n; told = t; carried = c }, h), λ r. carried-leads (r .1 .told) (r .1 .carried) (r .2))
 
 -- What a mark hears and tells, by its mask
+
+-- who hears or tells anything is named
+pub heard-some : {mask : ℕ} {n : Node} → Heard mask n → (t : ℕ) × Named mask t
+heard-some (_, filler l d h, _) = (_, d)
+
+-- the mask 0 names nobody: tried out
+zero-tried : anyBelow tasks (bit 0) ≡ false
+unfolding turns
+zero-tried = refl
+
+pub nobody-named : {t : ℕ} → ¬ Named 0 t
+nobody-named {t} d =
+    let (h, b) = passed (both (at-most (suc t) tasks) (by-test (bit 0 t))) (d .named) in
+    subst T (none-below tasks (bit 0) zero-tried t h) b
+
+-- so the recording as it arrived is filled with nothing
+arrived-none : rounds 0 ≡ []
+unfolding rounds round
+arrived-none = refl
+
+pub arrived-nothing : filling arrived ≡ nothing
+arrived-nothing = λ i mask. arrived-none i
 
 -- the next act of each named task
 pub heard-due : {mask t : ℕ} → Heard mask (due t) ↔ Named mask t

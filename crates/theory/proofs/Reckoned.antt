@@ -10,14 +10,14 @@ use native.Mathlib.Omega.{arith}
 use lib.Dec.{T, ltb}
 use Rattle.theory.specs.Recording.{Op, read, write, Event, act, lost, kind, ActsIn, acts, isAccess}
 use Rattle.theory.specs.Order.{Conflict, conflict}
-use Rattle.theory.specs.Completion.{bit, fillWith}
+use Rattle.theory.specs.Completion.{bit, fillWith, Filling, filling}
 use Rattle.theory.specs.Tables.{cell}
 use Rattle.theory.specs.History.{slot, otherKind, otherLater, latestSlot, latestNumber}
 use Rattle.theory.specs.Reckonings.{hasSlot, knownSlots, clockApart, setApart, maskOf, setMask}
 use Rattle.theory.proofs.Reflects.{Reflects, right, wrong, by-test, equal, at-most, fails, both, passed, passes}
 use Rattle.theory.proofs.Leads.{Leads}
 use Rattle.theory.proofs.Carry.{Node, due, Hears, own, own-next, Carry, pass, move, carry-skip, carry-append}
-use Rattle.theory.proofs.Reach.{Filling, filling, Reach, leads-reach}
+use Rattle.theory.proofs.Reach.{Reach, leads-reach}
 use Rattle.theory.proofs.Places.{Occurs, first, next}
 use Rattle.theory.proofs.Latest.{Final, some-after, some-occurs, occurs-after}
 use Rattle.theory.proofs.Decide.{Candidate}

@@ -85,3 +85,19 @@ rounds mask = round mask ++ round mask
 -- "the fullest" completion of a recording
 abbrev pub fullest : List Event → List Event
 fullest = fillWith rounds
+
+-- Fillings that are computed: of the tasks that a mark names, those whose lost records are filled in, as a mask
+abbrev pub Filling : Type 0
+Filling = ℕ → ℕ
+
+-- nobody's: the recording as it arrived
+abbrev pub arrived : Filling
+arrived mask = 0
+
+-- everybody's: the fullest
+abbrev pub full : Filling
+full mask = mask
+
+-- a mark is filled with the whole round of those tasks, twice
+abbrev pub filling : Filling → ℕ → List Event
+filling w mask = rounds (w mask)

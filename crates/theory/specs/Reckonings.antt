@@ -10,8 +10,8 @@ use Rattle.theory.specs.declared.masks.Masks.{Masks}
 use Rattle.theory.specs.Turns.{turns}
 use Rattle.theory.specs.Limits.{tasks}
 use Rattle.theory.specs.Recording.{lossMark, accesses}
-use Rattle.theory.specs.Completion.{bit}
-use Rattle.theory.specs.Tables.{rowCount, dueRow, cell, noteActed, onward, mix}
+use Rattle.theory.specs.Completion.{bit, Filling}
+use Rattle.theory.specs.Tables.{rowCount, dueRow, cell, noteActed, onward, mark}
 use Rattle.theory.specs.History.{slot, latestSlot, latestNumber}
 
 -- Clocks: at row n and column u the number of the last record of task u from which order has come to node n
@@ -22,12 +22,9 @@ clockOwn task number b = noteActed tasks task (set b (dueRow task * tasks + task
 abbrev pub clockAct : ℕ → ℕ → ℕ → ℕ → List ℕ → List ℕ
 clockAct k task on number b = onward max tasks k task on (clockOwn task number b)
 
--- after a record: as it arrived, and in the fullest filling
-abbrev pub clocksArrived : ℕ → ℕ → ℕ → ℕ → List ℕ → List ℕ
-clocksArrived k task on number b = cond (eqb k lossMark) b (clockAct k task on number b)
-
-abbrev pub clocksFull : ℕ → ℕ → ℕ → ℕ → List ℕ → List ℕ
-clocksFull k task on number b = cond (eqb k lossMark) (mix max tasks on b) (clockAct k task on number b)
+-- after a record, in a filling
+abbrev pub clocksBy : Filling → ℕ → ℕ → ℕ → ℕ → List ℕ → List ℕ
+clocksBy w k task on number b = cond (eqb k lossMark) (mark max tasks (w on) b) (clockAct k task on number b)
 
 -- Sets: at row n and slot s whether order from the kept access of slot s has come to node n, as a bit: a word has 32 slots
 
@@ -71,11 +68,8 @@ setOwn k task on b = noteActed slotWords task (cond (accesses k) (addSlot (dueRo
 abbrev pub setAct : ℕ → ℕ → ℕ → List ℕ → List ℕ
 setAct k task on b = onward bitOr slotWords k task on (setOwn k task on b)
 
-abbrev pub setsArrived : ℕ → ℕ → ℕ → List ℕ → List ℕ
-setsArrived k task on b = cond (eqb k lossMark) b (setAct k task on b)
-
-abbrev pub setsFull : ℕ → ℕ → ℕ → List ℕ → List ℕ
-setsFull k task on b = cond (eqb k lossMark) (mix bitOr slotWords on b) (setAct k task on b)
+abbrev pub setsBy : Filling → ℕ → ℕ → ℕ → List ℕ → List ℕ
+setsBy w k task on b = cond (eqb k lossMark) (mark bitOr slotWords (w on) b) (setAct k task on b)
 
 -- Which tasks' latest conflicting access has no path to an access. A task's own never counts: order from it has come to its next act.
 

@@ -14,10 +14,11 @@ use Rattle.theory.specs.declared.state.Stepped.{Stepped}
 use Rattle.theory.specs.declared.state.SetState.{SetState}
 use Rattle.theory.specs.declared.state.SetStepped.{SetStepped}
 use Rattle.theory.specs.declared.masks.Masks.{Masks}
+use Rattle.theory.specs.Completion.{arrived, full}
 use Rattle.theory.specs.Control.{countIn, refusalIn, controlAfter}
 use Rattle.theory.specs.Recording.{accesses}
 use Rattle.theory.specs.History.{latestNumber, lastAfter}
-use Rattle.theory.specs.Reckonings.{clocksArrived, clocksFull, setsArrived, setsFull, masksBy, clockMasks, setMasks, lowestTask}
+use Rattle.theory.specs.Reckonings.{clocksBy, setsBy, masksBy, clockMasks, setMasks, lowestTask}
 
 abbrev pub recordNumber : ℕ → RecordNumber
 recordNumber n = record { 0 = n }
@@ -58,8 +59,8 @@ accepted s r =
           record {
             control = controlAfter (r .kind) (r .on) (s .control);
             last = lastAfter (r .kind) (r .task) (r .on) (nextNumber (s .control)) (s .last);
-            clocks = clocksArrived (r .kind) (r .task) (r .on) (nextNumber (s .control)) (s .clocks);
-            fullclocks = clocksFull (r .kind) (r .task) (r .on) (nextNumber (s .control)) (s .fullclocks);
+            clocks = clocksBy arrived (r .kind) (r .task) (r .on) (nextNumber (s .control)) (s .clocks);
+            fullclocks = clocksBy full (r .kind) (r .task) (r .on) (nextNumber (s .control)) (s .fullclocks);
           };
       answer =
           answeredBy (s .last) (r .kind) (r .on) (nextNumber (s .control)) (clockMasks (s .clocks) (s .fullclocks) (s .last) (r .kind) (r .task) (r .on));
@@ -82,8 +83,8 @@ setAccepted s r =
           record {
             control = controlAfter (r .kind) (r .on) (s .control);
             last = lastAfter (r .kind) (r .task) (r .on) (nextNumber (s .control)) (s .last);
-            sets = setsArrived (r .kind) (r .task) (r .on) (s .sets);
-            fullsets = setsFull (r .kind) (r .task) (r .on) (s .fullsets);
+            sets = setsBy arrived (r .kind) (r .task) (r .on) (s .sets);
+            fullsets = setsBy full (r .kind) (r .task) (r .on) (s .fullsets);
           };
       answer =
           answeredBy (s .last) (r .kind) (r .on) (nextNumber (s .control)) (setMasks (s .sets) (s .fullsets) (s .last) (r .kind) (r .task) (r .on));

@@ -117,3 +117,7 @@ noteNamed w mask b = turns 16 (λ t b. set b (actedRow * w + t) (cond (bit mask 
 -- the fullest filling of a mark, in closed form: whatever a lost record can hear goes on to all that one can tell
 unfoldable pub mix : (ℕ → ℕ → ℕ) → ℕ → ℕ → List ℕ → List ℕ
 mix j w mask b = noteNamed w mask (spread w mask (gather j w mask b))
+
+-- a mark whose lost records of these tasks are filled in; where there are none, nobody is told
+abbrev pub mark : (ℕ → ℕ → ℕ) → ℕ → ℕ → List ℕ → List ℕ
+mark j w mask b = cond (eqb mask 0) b (mix j w mask b)
