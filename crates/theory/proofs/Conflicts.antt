@@ -1,23 +1,25 @@
 -- The history tells each task's latest conflicting access: its number is one more than the place of the task's final access that
 -- conflicts, and 0 where there is none. Assumes nothing.
 use mathlib.Core.Path.{_≡_, refl, sym, ap, subst}
-use mathlib.Core.Bool.{Bool, true, false, cond, _&&_}
+use mathlib.Core.Bool.{Bool, true, not, _||_}
 use mathlib.Core.Logic.{_↔_, _≢_}
 use mathlib.Core.List.{List, [], _∷_, _++_}
-use Prim.Native.Nat.{ℕ, suc, _+_, _≤_, _<_, max}
+use Prim.Native.Nat.{ℕ, suc, _≤_, _<_}
 use native.Mathlib.Nat.{le-refl}
 use native.Mathlib.Omega.{arith}
-use borrow.Author.Tests.{lt-ltb, le-ltb, ltb-true, ltb-false}
-use lib.Dec.{T, ltb, eqb}
-use Rattle.theory.specs.Recording.{Op, read, write, take, give, look, start, join, Event, act, lost, series, kind, _is_, ActsIn, acts, isAccess}
-use Rattle.theory.specs.Order.{Conflict, conflict}
-use Rattle.theory.specs.History.{slot, lastOf, otherKind, otherLater, latestSlot, latestNumber}
-use Rattle.theory.proofs.Reflects.{Reflects, right, wrong, at-most}
+use borrow.Author.Tests.{ltb-true}
+use lib.Dec.{T, ltb}
+use lib.ListN.{length}
+use Rattle.theory.specs.Recording.{Op, Event, act, lost, series, kind, about, accessNumber, Kind, of-op, of-mark, _is_, ActsIn, acts, isAccess}
+use Rattle.theory.specs.Order.{clashes, Conflict, conflict}
+use Rattle.theory.specs.History.{askers, asker, askAt, slots, latestSlot, latestNumber}
+use Rattle.theory.proofs.Reflects.{Reflects, right, wrong, at-most, by-test, is-true, passed}
 use Rattle.theory.proofs.Places.{Occurs, first, next}
 use Rattle.theory.proofs.Tests.{Again}
 use Rattle.theory.proofs.Latest.{Final, some-after, some-occurs, occurs-after}
 use Rattle.theory.proofs.Came.{Snoc, old, new, occurs-snoc}
-use Rattle.theory.proofs.Slots.{InSlot, in-slot, ExactHistory, slot-below, slot-one, access-kind}
+use Rattle.theory.proofs.Slots.{InSlot, in-slot, ExactHistory, slot-below, slot-one}
+use Rattle.theory.proofs.Ops.{opOf-kind, same-op, each-op}
 
 -- Ranges
 
@@ -43,98 +45,35 @@ ranged-mark {es} mask r = record { in-range = λ j p u m after q. cases (occurs-
 
 -- Conflicting accesses by slots
 
--- the slots of task u's accesses that conflict with one of op p to variable v
-pub data Conflicting (p : Op) (v u : ℕ) : ℕ → Type 0 where
-  writes : Conflicting p v u (slot 1 v u)
-  reads : T (p is write) → Conflicting p v u (slot 0 v u)
+-- the slot that an access of op p asks: the number of the kind that asks is in range, and tells the op
+pub asker-below : (p : Op) → askAt (kind p) < length askers
+asker-below p = rw (opOf-kind p) (ltb-true (accessNumber ((about p) .access)) (length askers) (each-op in-askers refl refl p))
+  where
+    in-askers : Kind → Bool
+    in-askers (of-op o) = ltb (accessNumber ((about o) .access)) (length askers)
+    in-askers of-mark = true
 
-pub conflicting-below : {p : Op} {v u s : ℕ} → v < 64 → u < 16 → Conflicting p v u s → s < 2048
-conflicting-below hv hu writes = slot-below {k = 1} (omega arith) hv hu
-conflicting-below hv hu (reads w) = slot-below {k = 0} (omega arith) hv hu
+pub asker-op : (p : Op) → T (isAccess p) → asker (askAt (kind p)) ≡ p
+asker-op p a = rw (opOf-kind p) (passed (same-op (asker (accessNumber ((about p) .access))) p) (subst T (sym (rw (is-true (by-test (isAccess p)) a) at (each-op is-asker refl refl p))) tt))
+  where
+    is-asker : Kind → Bool
+    is-asker (of-op o) = not (isAccess o) || asker (accessNumber ((about o) .access)) is o
+    is-asker of-mark = true
 
-kind-read : (o : Op) → kind o ≡ 0 → o ≡ read
-kind-read read e = refl
-kind-read write e = absurd (omega arith)
-kind-read take e = absurd (omega arith)
-kind-read give e = absurd (omega arith)
-kind-read look e = absurd (omega arith)
-kind-read Op.set e = absurd (omega arith)
-kind-read start e = absurd (omega arith)
-kind-read join e = absurd (omega arith)
-
-kind-write : (o : Op) → kind o ≡ 1 → o ≡ write
-kind-write read e = absurd (omega arith)
-kind-write write e = refl
-kind-write take e = absurd (omega arith)
-kind-write give e = absurd (omega arith)
-kind-write look e = absurd (omega arith)
-kind-write Op.set e = absurd (omega arith)
-kind-write start e = absurd (omega arith)
-kind-write join e = absurd (omega arith)
+pub latest-below : (p : Op) {v u : ℕ} → v < 64 → u < 16 → latestSlot (kind p) v u < slots
+latest-below p hv hu = slot-below (asker-below p) hv hu
 
 module _ {p : Op} {t v u : ℕ} (ap : T (isAccess p)) (hv : v < 64) (hu : u < 16) where
-  slot-conflict : u ≢ t → {s : ℕ} {e : Event} → Conflicting p v u s → InSlot s e → ActsIn u e × Conflict e (act p t v)
-  slot-conflict apart writes (in-slot {o = o} {u = u′} {v = v′} a hu′ hv′ e) =
-      let (ek, ev, eu) = slot-one {k = 1} {k′ = kind o} (omega arith) (access-kind o a) hv hv′ hu hu′ e in
-      rw (← ev, ← eu, kind-write o (sym ek)) (acts, conflict tt ap apart tt)
-  slot-conflict apart (reads w) (in-slot {o = o} {u = u′} {v = v′} a hu′ hv′ e) =
-      let (ek, ev, eu) = slot-one {k = 0} {k′ = kind o} (omega arith) (access-kind o a) hv hv′ hu hu′ e in
-      rw (← ev, ← eu, kind-read o (sym ek)) (acts, conflict tt ap apart w)
+  slot-conflict : u ≢ t → {e : Event} → InSlot (latestSlot (kind p) v u) e → ActsIn u e × Conflict e (act p t v)
+  slot-conflict apart (in-slot {o = o} {u = u′} {v = v′} a h c hu′ hv′ e) =
+      let (ea, ev, eu) = slot-one {a = askAt (kind p)} {a′ = a} hv hv′ hu hu′ e in
+      rw (← ev, ← eu) (acts, conflict apart (subst (λ (q : Op). T (clashes o q)) (ap′ ea) c))
+    where
+      ap′ : askAt (kind p) ≡ a → asker a ≡ p
+      ap′ ea = subst (λ (k : ℕ). asker k ≡ p) ea (asker-op p ap)
 
-  conflict-slot : {e : Event} → ActsIn u e → Conflict e (act p t v) → (s : ℕ) × Conflicting p v u s × InSlot s e
-  conflict-slot acts (conflict {o = read} a b n w) = (slot 0 v u, reads w, in-slot a hu hv refl)
-  conflict-slot acts (conflict {o = write} a b n w) = (slot 1 v u, writes, in-slot a hu hv refl)
-
--- its number is the greater of two for either kind of access: a read has the write twice
-pub latest-greater : (last : List ℕ) (k v u : ℕ) → latestNumber last k v u ≡ max (lastOf last (slot 1 v u)) (lastOf last (slot (otherKind k) v u))
-latest-greater last k v u = by-kind (eqb k 1)
-  where
-    later : (b : Bool) → ltb (lastOf last (slot 1 v u)) (lastOf last (slot 0 v u)) ≡ b →
-        lastOf last (cond b (slot 0 v u) (slot 1 v u)) ≡ max (lastOf last (slot 1 v u)) (lastOf last (slot 0 v u))
-    later true e = omega (arith, ltb-true (lastOf last (slot 1 v u)) (lastOf last (slot 0 v u)) e)
-    later false e = omega (arith, ltb-false (lastOf last (slot 1 v u)) (lastOf last (slot 0 v u)) e)
-
-    by-kind : (b : Bool) →
-        lastOf last (cond (b && ltb (lastOf last (slot 1 v u)) (lastOf last (slot 0 v u))) (slot 0 v u) (slot 1 v u))
-        ≡ max (lastOf last (slot 1 v u)) (lastOf last (slot (cond b 0 1) v u))
-    by-kind true = later (ltb (lastOf last (slot 1 v u)) (lastOf last (slot 0 v u))) refl
-    by-kind false = omega arith
-
--- its slot is that of the other kind where that is later, and that of the write elsewhere
-pub latest-later : (last : List ℕ) (k v u : ℕ) → latestSlot last k v u ≡ cond (otherLater last k v u) (slot (otherKind k) v u) (slot 1 v u)
-latest-later last k v u = by-kind (eqb k 1)
-  where
-    either : (b : Bool) → slot 1 v u ≡ cond b (slot 1 v u) (slot 1 v u)
-    either true = refl
-    either false = refl
-
-    by-kind : (b : Bool) →
-        cond (b && ltb (lastOf last (slot 1 v u)) (lastOf last (slot 0 v u))) (slot 0 v u) (slot 1 v u)
-        ≡ cond (ltb (lastOf last (slot 1 v u)) (lastOf last (slot (cond b 0 1) v u))) (slot (cond b 0 1) v u) (slot 1 v u)
-    by-kind true = refl
-    by-kind false = either (ltb (lastOf last (slot 1 v u)) (lastOf last (slot 1 v u)))
-
--- the later of the conflicting slots
-pub latest-above : (p : Op) → T (isAccess p) → (v u : ℕ) (last : List ℕ) (m : ℕ) → (m < latestNumber last (kind p) v u) ↔ ((s : ℕ) × Conflicting p v u s × (m < lastOf last s))
-latest-above read a v u last m = (λ h. (slot 1 v u, writes, h), from)
-  where
-    from : (s : ℕ) × Conflicting read v u s × (m < lastOf last s) → m < lastOf last (slot 1 v u)
-    from (_, writes, h) = h
-    from (_, reads w, h) = absurd w
-latest-above write a v u last m = decided (at-most (suc (lastOf last (slot 1 v u))) (lastOf last (slot 0 v u)))
-  where
-    decided : {b : Bool} → Reflects (lastOf last (slot 1 v u) < lastOf last (slot 0 v u)) b →
-        (m < latestNumber last 1 v u) ↔ ((s : ℕ) × Conflicting write v u s × (m < lastOf last s))
-    decided (right l) = rw (lt-ltb _ _ l) (λ h. (slot 0 v u, reads tt, h), from)
-      where
-        from : (s : ℕ) × Conflicting write v u s × (m < lastOf last s) → m < lastOf last (slot 0 v u)
-        from (_, writes, h) = omega arith
-        from (_, reads w, h) = h
-    decided (wrong l) = rw (le-ltb (lastOf last (slot 1 v u)) (lastOf last (slot 0 v u)) (omega arith)) (λ h. (slot 1 v u, writes, h), from)
-      where
-        from : (s : ℕ) × Conflicting write v u s × (m < lastOf last s) → m < lastOf last (slot 1 v u)
-        from (_, writes, h) = h
-        from (_, reads w, h) = omega arith
+  conflict-slot : {e : Event} → ActsIn u e → Conflict e (act p t v) → InSlot (latestSlot (kind p) v u) e
+  conflict-slot acts (conflict {o = o} n c) = in-slot (askAt (kind p)) (asker-below p) (subst (λ (q : Op). T (clashes o q)) (sym (asker-op p ap)) c) hu hv refl
 
 -- The number of the latest
 
@@ -158,16 +97,14 @@ module _ {es : List Event} {last : List ℕ} {p : Op} {t v u : ℕ} (h : ExactHi
     where
       to : m < latestNumber last (kind p) v u → (j : ℕ) × (m ≤ j) × ConflictAt es u (act p t v) j
       to l =
-          let (s, c, k) = latest-above p ap v u last m .0 l in
-          let d = h .held s m (conflicting-below hv hu c) .0 k in
-          let (a, q) = slot-conflict ap hv hu apart c (d .inside) in
+          let d = h .held (latestSlot (kind p) v u) m (latest-below p hv hu) .0 l in
+          let (a, q) = slot-conflict ap hv hu apart (d .inside) in
           (d .j, d .recent, record { e = d .e; after = d .after; occurs = d .occurs; acting = a; conflict = q })
 
       from : (j : ℕ) × (m ≤ j) × ConflictAt es u (act p t v) j → m < latestNumber last (kind p) v u
       from (j, l, x) =
-          let (s, c, q) = conflict-slot ap hv hu (x .acting) (x .conflict) in
-          latest-above p ap v u last m .1
-          (s, c, h .held s m (conflicting-below hv hu c) .1 (record { j = j; e = x .e; after = x .after; recent = l; occurs = x .occurs; inside = q }))
+          let q = conflict-slot ap hv hu (x .acting) (x .conflict) in
+          h .held (latestSlot (kind p) v u) m (latest-below p hv hu) .1 (record { j = j; e = x .e; after = x .after; recent = l; occurs = x .occurs; inside = q })
 
   -- no conflicting access stands after the one that the number tells
   none-later : {i j : ℕ} {e : Event} {after : List Event} → latestNumber last (kind p) v u ≡ suc i → i ≤ j → Occurs es j e after → ¬ Again u (act p t v) after
@@ -196,12 +133,3 @@ module _ {es : List Event} {last : List ℕ} {p : Op} {t v u : ℕ} (h : ExactHi
           let (j, m, x) = number-conflicts (suc i) .0 l in
           absurd (f .none (some-after (f .occurs) (x .occurs) m (x .acting, x .conflict)))
       decided (wrong l) a = omega arith
-
--- the latest slot is one of the conflicting ones
-pub latest-conflicting : (p : Op) → T (isAccess p) → (v u : ℕ) (last : List ℕ) → Conflicting p v u (latestSlot last (kind p) v u)
-latest-conflicting read a v u last = writes
-latest-conflicting write a v u last = decided (ltb (lastOf last (slot 1 v u)) (lastOf last (slot 0 v u)))
-  where
-    decided : (b : Bool) → Conflicting write v u (cond b (slot 0 v u) (slot 1 v u))
-    decided true = reads tt
-    decided false = writes

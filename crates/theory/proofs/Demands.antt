@@ -28,7 +28,7 @@ both-act a h = apply (a .from) (a .to) (a .conflict) h
   where
     apply : {es : List Event} {i k : ℕ} {e f : Event} {A : Type 0} → At es i e → At es k f → Conflict e f →
         ((o p : Op) (v u w : ℕ) → At es i (act o v w) → At es k (act p u w) → A) → A
-    apply x y (conflict _ _ _ _) h = h _ _ _ _ _ x y
+    apply x y (conflict _ _) h = h _ _ _ _ _ x y
 
 pub racy-arrived : {es fs : List Event} {k : ℕ} (c : Completion es fs) → Racy c k → Unordered es k
 racy-arrived c (t, i, a, n) = (t, i, a, λ q. n (both-act a (λ o p v u w x y. path-survives c x y q)))

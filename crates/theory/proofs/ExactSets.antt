@@ -1,20 +1,20 @@
 -- The sets are exact: a slot's bit is set just where order from the access that the slot keeps has come to the row's node. Assumes nothing.
 use mathlib.Core.Path.{_≡_, refl, sym, _∙_, ap, subst}
-use mathlib.Core.Bool.{Bool, cond}
-use mathlib.Core.Logic.{_↔_, _⊎_, inl, inr}
+use mathlib.Core.Bool.{Bool, true, false, cond}
+use mathlib.Core.Logic.{_↔_, _⊎_, inl, inr, _≢_}
 use mathlib.Core.List.{List, [], _∷_, _++_}
 use Prim.Native.Nat.{ℕ, _/_, _%_, _<_, zero-le}
 use native.Mathlib.Omega.{arith}
 use lib.Bits.{bitOr}
 use lib.Dec.{T, eqb}
-use lib.ListN.{replicate}
-use Rattle.theory.specs.Recording.{Op, Event, act, lost, series, kind, accesses, isAccess}
+use lib.ListN.{length, replicate}
+use Rattle.theory.specs.Recording.{Op, Event, act, lost, series, kind, kindAt}
 
 use Rattle.theory.specs.Completion.{bit, Named, Filling, arrived, full}
 use Rattle.theory.specs.Tables.{cell, noteActed, mark}
-use Rattle.theory.specs.History.{slot}
+use Rattle.theory.specs.History.{askers, asker, clashBy, slot, slots, underEach}
 use Rattle.theory.specs.Reckonings.{hasSlot, clearSlot, addSlot, setOwn, setAct}
-use Rattle.theory.proofs.Reflects.{Reflects, right, wrong, equal, by-test}
+use Rattle.theory.proofs.Reflects.{Reflects, right, wrong, equal}
 use Rattle.theory.proofs.Carry.{Node, due, Tells}
 
 use Rattle.theory.proofs.Tables.{Sized, Knows, knows-same, sized-fresh}
@@ -26,8 +26,7 @@ use Rattle.theory.proofs.Tests.{Some, some-snoc, snoc-some, snoc-last}
 use Rattle.theory.proofs.Came.{Came, Newly}
 use Rattle.theory.proofs.Acted.{Acted}
 use Rattle.theory.proofs.Exact.{Filled-in, Exact, Owned, ExactActed, exact-act, exact-mark, fresh-exact, acted-same, acted-act, acted-mark, fresh-acted}
-use Rattle.theory.proofs.Slots.{InSlot, in-slot, access-kind, slot-below, in-access, in-one, no-slot-mark}
-use Rattle.theory.proofs.Ops.{access-on, access-tests, other-tests}
+use Rattle.theory.proofs.Slots.{InSlot, slot-below, kept-on, Under, WroteTo, under-each, in-under, under-in, no-slot-mark}
 
 -- Definition
 
@@ -41,10 +40,10 @@ HasBit s x = T (bit x (s % 32))
 
 pub record ExactSets (w : Filling) (es : List Event) (b : List ℕ) : Type 0 where
   pub sized : Sized 64 b
-  pub column : (s : ℕ) → s < 2048 → Exact (HasBit s) w (KeptIn s) es 64 b 0 (s / 32)
+  pub column : (s : ℕ) → s < slots → Exact (HasBit s) w (KeptIn s) es 64 b 0 (s / 32)
   pub acting : ExactActed w es 64 b
 
-word-below : {s : ℕ} → s < 2048 → s / 32 < 64
+word-below : {s : ℕ} → s < slots → s / 32 < 64
 word-below h = omega arith
 
 -- Acts
@@ -59,7 +58,7 @@ keeps s x e after = (λ k. (λ q. k .1 (snoc-last after x q), (k .0, λ q. k .1 
 
 module _ {w : Filling} {es : List Event} {b : List ℕ} {t n : ℕ} (o : Op) (x : ExactSets w es b) (ht : t < 16) (hn : n < series o) where
   -- a slot that the act is not in
-  unowned : {b′ : List ℕ} (s : ℕ) → s < 2048 → ¬ InSlot s (act o t n) → ((r : ℕ) → r < 81 → hasSlot b′ r s ≡ hasSlot b r s) →
+  unowned : {b′ : List ℕ} (s : ℕ) → s < slots → ¬ InSlot s (act o t n) → ((r : ℕ) → r < 81 → hasSlot b′ r s ≡ hasSlot b r s) →
       Owned (HasBit s) w (KeptIn s) (¬ InSlot s (act o t n)) es (act o t n) t 64 b′ 0 (s / 32)
   unowned {b′} s l out same =
       record {
@@ -77,65 +76,84 @@ module _ {w : Filling} {es : List Event} {b : List ℕ} {t n : ℕ} (o : Op) (x 
       before m r (inl (_, d)) = x .column s l .cells m r .1 d
       before m r (inr ((_, (q, _)), e)) = absurd (out q)
 
-  module _ (a : T (isAccess o)) where
-    place-below : slot (kind o) n t < 2048
-    place-below = slot-below (access-kind o a) (access-on o a hn) ht
+  -- a slot that the act is in starts anew: its own row has it, and no other
+  own-slot : {b′ : List ℕ} (s : ℕ) → s < slots → InSlot s (act o t n) → hasSlot b′ t s ≡ true → ((r : ℕ) → r < 81 → r ≢ t → hasSlot b′ r s ≡ false) →
+      Owned (HasBit s) w (KeptIn s) (¬ InSlot s (act o t n)) es (act o t n) t 64 b′ 0 (s / 32)
+  own-slot {b′} s l inside here elsewhere =
+      record { cells = λ m r. decided m r (equal (row m) t); hub = (λ y. absurd (cleared 80 (omega arith) (λ e. omega arith) y), λ y. absurd (y .0 inside)) }
+    where
+      newly : Newly (KeptIn s) es (act o t n) 0
+      newly = (zero-le, (inside, λ q. elim q [ ]))
 
-    abbrev afresh : List ℕ
-    afresh = addSlot t (slot (kind o) n t) (clearSlot (slot (kind o) n t) b)
+      cleared : (r : ℕ) → r < 81 → ¬ (r ≡ t) → ¬ Knows (HasBit s) 64 b′ r (s / 32)
+      cleared r h apart y = subst T (elsewhere r h apart) (y .knows)
 
-    -- its own slot starts anew
-    own-slot : Owned (HasBit (slot (kind o) n t)) w (KeptIn (slot (kind o) n t)) (¬ InSlot (slot (kind o) n t) (act o t n)) es (act o t n) t 64 afresh 0 (slot (kind o) n t / 32)
-    own-slot = record { cells = λ m r. decided m r (equal (row m) t); hub = (λ y. absurd (cleared 80 (omega arith) (λ e. omega arith) y), λ y. absurd (y .0 inside)) }
-      where
-        inside : InSlot (slot (kind o) n t) (act o t n)
-        inside = in-slot a ht (access-on o a hn) refl
-
-        newly : Newly (KeptIn (slot (kind o) n t)) es (act o t n) 0
-        newly = (zero-le, (inside, λ q. elim q [ ]))
-
-        cleared : (r : ℕ) → r < 81 → ¬ (r ≡ t) → ¬ Knows (HasBit (slot (kind o) n t)) 64 afresh r (slot (kind o) n t / 32)
-        cleared r h apart y = subst T (afresh-cleared (x .sized) t (slot (kind o) n t) ht place-below r h apart) (y .knows)
-
-        decided : {c : Bool} (m : Node) → InRange m → Reflects (row m ≡ t) c →
-            Knows (HasBit (slot (kind o) n t)) 64 afresh (row m) (slot (kind o) n t / 32)
-            ↔ (((¬ InSlot (slot (kind o) n t) (act o t n)) × Came w (KeptIn (slot (kind o) n t)) es 0 m) ⊎ (Newly (KeptIn (slot (kind o) n t)) es (act o t n) 0 × (m ≡ due t)))
-        decided m r (right q) =
-            (λ y. inr (newly, row-one r (due-in ht) q), λ y. record { knows = rw q (subst T (sym (afresh-own (x .sized) t (slot (kind o) n t) ht place-below)) tt) })
-        decided m r (wrong apart) = (λ y. let h = row-below r in absurd (cleared (row m) (omega arith) apart y), λ y. absurd (none y))
-          where
-            none : ((¬ InSlot (slot (kind o) n t) (act o t n)) × Came w (KeptIn (slot (kind o) n t)) es 0 m) ⊎ (Newly (KeptIn (slot (kind o) n t)) es (act o t n) 0 × (m ≡ due t)) → ⊥
-            none (inl (out, _)) = out inside
-            none (inr (_, q)) = apart (ap row q)
-
-    owned-access : (s : ℕ) → s < 2048 → Owned (HasBit s) w (KeptIn s) (¬ InSlot s (act o t n)) es (act o t n) t 64 afresh 0 (s / 32)
-    owned-access s l = decided (equal s (slot (kind o) n t))
-      where
-        decided : {c : Bool} → Reflects (s ≡ slot (kind o) n t) c → Owned (HasBit s) w (KeptIn s) (¬ InSlot s (act o t n)) es (act o t n) t 64 afresh 0 (s / 32)
-        decided (right e) = subst (λ (k : ℕ). Owned (HasBit k) w (KeptIn k) (¬ InSlot k (act o t n)) es (act o t n) t 64 afresh 0 (k / 32)) (sym e) own-slot
-        decided (wrong apart) = unowned s l (λ q. apart (in-one q)) (λ r h. afresh-other (x .sized) t (slot (kind o) n t) ht place-below r s h l apart)
+      decided : {c : Bool} (m : Node) → InRange m → Reflects (row m ≡ t) c →
+          Knows (HasBit s) 64 b′ (row m) (s / 32) ↔ (((¬ InSlot s (act o t n)) × Came w (KeptIn s) es 0 m) ⊎ (Newly (KeptIn s) es (act o t n) 0 × (m ≡ due t)))
+      decided m r (right q) = (λ y. inr (newly, row-one r (due-in ht) q), λ y. record { knows = rw q (subst T (sym here) tt) })
+      decided m r (wrong apart) = (λ y. let h = row-below r in absurd (cleared (row m) (omega arith) apart y), λ y. absurd (none y))
+        where
+          none : ((¬ InSlot s (act o t n)) × Came w (KeptIn s) es 0 m) ⊎ (Newly (KeptIn s) es (act o t n) 0 × (m ≡ due t)) → ⊥
+          none (inl (out, _)) = out inside
+          none (inr (_, q)) = apart (ap row q)
 
   -- the table before it is noted that the task has acted
-  record Own (b′ : List ℕ) : Type 0 where
+  abbrev afresh : ℕ → List ℕ → List ℕ
+  afresh s b = addSlot t s (clearSlot s b)
+
+  abbrev own-table : List ℕ
+  own-table = underEach afresh (kind o) n t b
+
+  -- a table of its size, in which those who had acted have
+  record Whole (b′ : List ℕ) : Type 0 where
     sized : Sized 64 b′
-    column : (s : ℕ) → s < 2048 → Owned (HasBit s) w (KeptIn s) (¬ InSlot s (act o t n)) es (act o t n) t 64 b′ 0 (s / 32)
     acted : (u : ℕ) → u < 16 → cell 64 b′ 81 u ≡ cell 64 b 81 u
 
-  own-part : Own (cond (accesses (kind o)) (addSlot t (slot (kind o) n t) (clearSlot (slot (kind o) n t) b)) b)
-  own-part = decided (by-test (isAccess o))
+  record Begun (s : ℕ) (b′ : List ℕ) : Type 0 where
+    here : hasSlot b′ t s ≡ true
+    elsewhere : (r : ℕ) → r < 81 → r ≢ t → hasSlot b′ r s ≡ false
+
+  record Kept (s : ℕ) (b′ : List ℕ) : Type 0 where
+    same : (r : ℕ) → r < 81 → hasSlot b′ r s ≡ hasSlot b r s
+
+  wrote : (s : ℕ) → s < slots → WroteTo afresh (kind o) n t Whole (Begun s) (Kept s) s (length askers) own-table
+  wrote s l =
+      under-each afresh (kind o) n t Whole (Begun s) (Kept s) s
+      (λ a b′ ha c y.
+          let q = below a ha c in
+          record { sized = sized-afresh (y .sized) t (slot a n t) ht q; acted = λ u h. afresh-acted (y .sized) t (slot a n t) ht q u (omega arith) ∙ y .acted u h })
+      (λ a b′ ha c e y.
+          let q = below a ha c in
+          rw e (record { here = afresh-own (y .sized) t (slot a n t) ht q; elsewhere = λ r h d. afresh-cleared (y .sized) t (slot a n t) ht q r h d }))
+      (λ a b′ ha c d y.
+          let other : (r : ℕ) → r < 81 → hasSlot (afresh (slot a n t) b′) r s ≡ hasSlot b′ r s = λ r h. afresh-other (y .sized) t (slot a n t) ht (below a ha c) r s h l d in
+          (
+            λ z. record { here = other t (omega arith) ∙ z .here; elsewhere = λ r h q. other r h ∙ z .elsewhere r h q },
+            λ z. record { same = λ r h. other r h ∙ z .same r h },
+          ))
+      b
+      (record { sized = x .sized; acted = λ u h. refl })
+      (record { same = λ r h. refl })
     where
-      decided : {c : Bool} → Reflects (T (isAccess o)) c → Own (cond (accesses (kind o)) (addSlot t (slot (kind o) n t) (clearSlot (slot (kind o) n t) b)) b)
-      decided (right a) =
-          rw (access-tests o a)
-          (record {
-            sized = sized-afresh (x .sized) t (slot (kind o) n t) ht (place-below a);
-            column = owned-access a;
-            acted = λ u h. afresh-acted (x .sized) t (slot (kind o) n t) ht (place-below a) u (omega arith);
-          })
-      decided (wrong q) = rw (other-tests o q) (record { sized = x .sized; column = λ s l. unowned s l (λ i. q (in-access i)) (λ r h. refl); acted = λ u h. refl })
+      below : (a : ℕ) → a < length askers → T (clashBy (kindAt (kind o)) (asker a)) → slot a n t < slots
+      below a ha c = slot-below ha (kept-on o a hn c) ht
+
+  record Own (b′ : List ℕ) : Type 0 where
+    sized : Sized 64 b′
+    column : (s : ℕ) → s < slots → Owned (HasBit s) w (KeptIn s) (¬ InSlot s (act o t n)) es (act o t n) t 64 b′ 0 (s / 32)
+    acted : (u : ℕ) → u < 16 → cell 64 b′ 81 u ≡ cell 64 b 81 u
+
+  own-part : Own own-table
+  own-part = record { sized = wrote 0 (omega arith) .0 .sized; column = λ s l. of s l (wrote s l .1); acted = wrote 0 (omega arith) .0 .acted }
+    where
+      of : (s : ℕ) → s < slots →
+          (Under afresh (kind o) n t (length askers) s × Begun s own-table) ⊎ ((¬ Under afresh (kind o) n t (length askers) s) × Kept s own-table) →
+          Owned (HasBit s) w (KeptIn s) (¬ InSlot s (act o t n)) es (act o t n) t 64 own-table 0 (s / 32)
+      of s l (inl (y, z)) = own-slot s l (under-in o ht hn y) (z .here) (z .elsewhere)
+      of s l (inr (y, z)) = unowned s l (λ q. y (in-under q)) (z .same)
 
   -- noting it changes no other row
-  noted : {b′ : List ℕ} → Own b′ → (s : ℕ) → s < 2048 → Owned (HasBit s) w (KeptIn s) (¬ InSlot s (act o t n)) es (act o t n) t 64 (noteActed 64 t b′) 0 (s / 32)
+  noted : {b′ : List ℕ} → Own b′ → (s : ℕ) → s < slots → Owned (HasBit s) w (KeptIn s) (¬ InSlot s (act o t n)) es (act o t n) t 64 (noteActed 64 t b′) 0 (s / 32)
   noted {b′} y s l =
       record {
         cells = λ m r. (λ a. y .column s l .cells m r .0 (same (row m) (near r) .0 a), λ d. same (row m) (near r) .1 (y .column s l .cells m r .1 d));

@@ -9,6 +9,7 @@ use lib.Dec.{T}
 use lib.ListN.{length, getD, length-append}
 use Rattle.theory.specs.Recording.{Event, act, lost, isAccess}
 
+use Rattle.theory.specs.Order.{rule}
 use Rattle.theory.specs.Completion.{part, round, rounds, onEach}
 use Rattle.theory.specs.Decide.{Answer, answer, answersAfter, answers, judge}
 use Rattle.theory.specs.Examples.{Example, Answered, nothing-left, to-access, to-other, to-mark, AllRight, no-rows, and-row, table}
@@ -54,5 +55,5 @@ rows-right (x ∷ xs) e =
     first-of l = getD l 0 []
 
 pub table-right : AllRight table
-unfolding part round rounds onEach judge
+unfolding part round rounds onEach judge rule
 table-right = rows-right table refl

@@ -20,6 +20,7 @@ use Rattle.theory.specs.declared.masks.Masks.{Masks}
 use Rattle.theory.specs.Reckonings.{clockMasks, setMasks}
 use Rattle.theory.specs.Step.{nextNumber, answeredBy, stepOf, setStepOf}
 use Rattle.theory.specs.Turns.{turns}
+use Rattle.theory.specs.Order.{rule}
 use Rattle.theory.specs.Completion.{rounds, round, part, onEach}
 use Rattle.theory.specs.Examples.{Example, table}
 use Rattle.theory.specs.Feeding.{recordOf, verdictsOf, FedExamples, Says, says-clear, says-race, says-doubt, isRefusal, acceptedOf, Got, got-now, got-later, got-refused, EachAccess, FedDemand2, FedDemand3, FedPartner, FedAcceptance, refusalNumber, refusalNumbers, refusalsAfter, verdictAnswer, acceptedAnswer, answerBy, answerTo, answersFrom, AnswersByTable, Checker, fedBy, fed, setFed, Demanded, Judged, GetsVerdict, Demand1, Handled, refused, access-taken, other-taken}
@@ -181,7 +182,7 @@ same-rows answers right (x ∷ xs) = rw (right (map recordOf (x .events)), same-
 
 -- the table by computation, from the table of refusals and the search
 table-fed : map (λ (x : Example). verdictsOf (answersFrom [] (map recordOf (x .events)))) table ≡ map (λ (x : Example). x .answered) table
-unfolding turns refusalBy judge rounds round part onEach
+unfolding turns refusalBy judge rule rounds round part onEach
 table-fed = refl
 
 -- All of it, of whatever simulates

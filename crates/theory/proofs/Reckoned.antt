@@ -12,7 +12,7 @@ use Rattle.theory.specs.Recording.{Op, read, write, Event, act, lost, ki
 use Rattle.theory.specs.Order.{Conflict, conflict}
 use Rattle.theory.specs.Completion.{bit, fillWith, Filling, filling}
 use Rattle.theory.specs.Tables.{cell}
-use Rattle.theory.specs.History.{slot, otherKind, otherLater, latestSlot, latestNumber}
+use Rattle.theory.specs.History.{askAt, slots, latestSlot, latestNumber}
 use Rattle.theory.specs.Reckonings.{hasSlot, knownSlots, clockApart, setApart, maskOf, setMask}
 use Rattle.theory.proofs.Reflects.{Reflects, right, wrong, by-test, equal, at-most, fails, both, passed, passes}
 use Rattle.theory.proofs.Leads.{Leads}
@@ -21,13 +21,15 @@ use Rattle.theory.proofs.Reach.{Reach, leads-reach}
 use Rattle.theory.proofs.Places.{Occurs, first, next}
 use Rattle.theory.proofs.Latest.{Final, some-after, some-occurs, occurs-after}
 use Rattle.theory.proofs.Decide.{Candidate}
-use Rattle.theory.proofs.Nodes.{due-in, heardNode, hears-cases}
+use Rattle.theory.proofs.Nodes.{due-in, heardNode, hears-cases, plain-heard}
 use Rattle.theory.proofs.Came.{Came}
 use Rattle.theory.proofs.ExactClocks.{ExactClocks, OfTask}
 use Rattle.theory.proofs.ExactSets.{ExactSets, KeptIn}
-use Rattle.theory.proofs.Slots.{InSlot, in-slot, access-kind, slot-one, ExactHistory}
-use Rattle.theory.proofs.Conflicts.{Conflicting, writes, reads, conflicting-below, occurs-same, number-final, final-number}
-use Rattle.theory.proofs.Conflicts.{latest-conflicting, latest-later}
+use Rattle.theory.proofs.Slots.{InSlot, in-slot, ExactHistory, slot-one}
+use Rattle.theory.proofs.Conflicts.{latest-below, occurs-same, number-final, final-number}
+use Rattle.theory.proofs.Ops.{Role, a-take, a-give, a-look, a-set, a-start, a-join, plain, role}
+use Rattle.theory.proofs.Conflicts.{latest-below, occurs-same, number-final, final-number}
+use Rattle.theory.proofs.Ops.{Role, a-take, a-give, a-look, a-set, a-start, a-join, plain, role}
 use Rattle.theory.proofs.Words.{slot-known}
 use Rattle.theory.proofs.Bits.{mask-ext}
 
@@ -35,13 +37,17 @@ use Rattle.theory.proofs.Bits.{mask-ext}
 
 -- an access hears its own task's next act and nothing else
 access-hears : {p : Op} {t v : ℕ} {m : Node} → T (isAccess p) → Hears m (act p t v) → m ≡ due t
-access-hears {p} {t} {v} {m} a h = cases p a (hears-cases h)
+access-hears {p} {t} {v} {m} a h = cases (role p) a (hears-cases h)
   where
-    cases : (p : Op) → T (isAccess p) → (m ≡ due t) ⊎ (m ≡ heardNode p t v) → m ≡ due t
-    cases read a (inl e) = e
-    cases read a (inr e) = e
-    cases write a (inl e) = e
-    cases write a (inr e) = e
+    cases : {p : Op} → Role p → T (isAccess p) → (m ≡ due t) ⊎ (m ≡ heardNode p t v) → m ≡ due t
+    cases r a (inl e) = e
+    cases (plain x) a (inr e) = e ∙ plain-heard x t v
+    cases a-take a (inr e) = absurd a
+    cases a-give a (inr e) = absurd a
+    cases a-look a (inr e) = absurd a
+    cases a-set a (inr e) = absurd a
+    cases a-start a (inr e) = absurd a
+    cases a-join a (inr e) = absurd a
 
 module _ {w : Filling} {p : Op} {t v : ℕ} (ap : T (isAccess p)) where
   leads-due : {e : Event} {after : List Event} → Leads e (fillWith (filling w) after) (act p t v) → Reach w e after (due t)
@@ -69,13 +75,9 @@ occurs-there {es} {after} {e = e} q o = subst (λ (k : ℕ). Occurs es k e after
 -- What a slot keeps
 
 -- a slot of a task keeps accesses of the task
-kept-task : (k v u : ℕ) {e : Event} → k < 2 → v < 64 → u < 16 → InSlot (slot k v u) e → ActsIn u e
-kept-task k v u hk hv hu (in-slot {o = o} {u = t} {v = n} a ht hn e) =
-    subst (λ (y : ℕ). ActsIn u (act o y n)) (slot-one hk (access-kind o a) hv hn hu ht e .2) acts
-
-slot-task : {p : Op} {v u s : ℕ} {e : Event} → v < 64 → u < 16 → Conflicting p v u s → InSlot s e → ActsIn u e
-slot-task {v = v} {u} hv hu writes q = kept-task 1 v u (omega arith) hv hu q
-slot-task {v = v} {u} hv hu (reads _) q = kept-task 0 v u (omega arith) hv hu q
+slot-task : (p : Op) {v u : ℕ} {e : Event} → v < 64 → u < 16 → InSlot (latestSlot (kind p) v u) e → ActsIn u e
+slot-task p {u = u} hv hu (in-slot {o = o} {u = t} {v = n} a h c ht hn e) =
+    subst (λ (y : ℕ). ActsIn u (act o y n)) (slot-one {a = askAt (kind p)} {a′ = a} hv hn hu ht e .2) acts
 
 -- order from an act of a task has come to the task's next act
 acts-reach : {w : Filling} {u : ℕ} {e : Event} {after : List Event} → ActsIn u e → Reach w e after (due u)
@@ -102,7 +104,7 @@ candidate-apart : {g : ℕ → List Event} {p : Op} {t v : ℕ} {es : List Event
 candidate-apart c = of (c .apart .acting) (c .apart .conflict)
   where
     of : {u t v : ℕ} {p : Op} {e : Event} → ActsIn u e → Conflict e (act p t v) → u ≢ t
-    of acts (conflict a b n w) = n
+    of acts (conflict n w) = n
 
 -- Clocks
 
@@ -121,9 +123,8 @@ module _ {w : Filling} {es : List Event} {b last : List ℕ} (p : Op) (t v : ℕ
     where
       own-came : Came w (OfTask u) es i (due u)
       own-came =
-          let c = latest-conflicting p ap v u last in
-          let d = h .held (latestSlot last (kind p) v u) i (conflicting-below hv hu c) .0 (omega arith) in
-          let a = slot-task hv hu c (d .inside) in
+          let d = h .held (latestSlot (kind p) v u) i (latest-below p hv hu) .0 (omega arith) in
+          let a = slot-task p hv hu (d .inside) in
           record { j = d .j; e = d .e; after = d .after; recent = d .recent; occurs = d .occurs; chosen = a; reach = acts-reach a }
 
   pub clock-sound : (u : ℕ) → u < 16 → T (clockApart b last (kind p) t v u) →
@@ -167,47 +168,47 @@ module _ {w : Filling} {es : List Event} {b last : List ℕ} (p : Op) (t v : ℕ
 
 module _ {w : Filling} {es : List Event} {b last : List ℕ} (p : Op) (t v : ℕ) (x : ExactSets w es b) (h : ExactHistory es last) (ap : T (isAccess p)) (ht : t < 16)
     (hv : v < 64) where
-  set-cell : (s : ℕ) → s < 2048 → T (hasSlot b t s) ↔ Came w (KeptIn s) es 0 (due t)
+  set-cell : (s : ℕ) → s < slots → T (hasSlot b t s) ↔ Came w (KeptIn s) es 0 (due t)
   set-cell s l = (λ k. x .column s l .cells (due t) (due-in ht) .0 (record { knows = k }), λ c. x .column s l .cells (due t) (due-in ht) .1 c .knows)
 
-  set-test : (u : ℕ) → Reflects ((0 < latestNumber last (kind p) v u) × (¬ T (hasSlot b t (latestSlot last (kind p) v u)))) (setApart b last (kind p) t v u)
-  set-test u = both (at-most 1 (latestNumber last (kind p) v u)) (fails (by-test (hasSlot b t (latestSlot last (kind p) v u))))
+  set-test : (u : ℕ) → Reflects ((0 < latestNumber last (kind p) v u) × (¬ T (hasSlot b t (latestSlot (kind p) v u)))) (setApart b last (kind p) t v u)
+  set-test u = both (at-most 1 (latestNumber last (kind p) v u)) (fails (by-test (hasSlot b t (latestSlot (kind p) v u))))
 
-  slot-in : (u : ℕ) → u < 16 → latestSlot last (kind p) v u < 2048
-  slot-in u hu = conflicting-below hv hu (latest-conflicting p ap v u last)
+  slot-in : (u : ℕ) → u < 16 → latestSlot (kind p) v u < slots
+  slot-in u hu = latest-below p hv hu
 
   -- the access at the place that the slot's number tells is the one that the slot keeps
-  kept-at : (u i : ℕ) → u < 16 → latestNumber last (kind p) v u ≡ suc i → {e : Event} {after : List Event} → Occurs es i e after → KeptIn (latestSlot last (kind p) v u) e after
+  kept-at : (u i : ℕ) → u < 16 → latestNumber last (kind p) v u ≡ suc i → {e : Event} {after : List Event} → Occurs es i e after → KeptIn (latestSlot (kind p) v u) e after
   kept-at u i hu n {after = rest} o =
-      let d = h .held (latestSlot last (kind p) v u) i (slot-in u hu) .0 (omega arith) in
-      let k = h .held (latestSlot last (kind p) v u) (d .j) (slot-in u hu) .1 (record { j = d .j; e = d .e; after = d .after; recent = le-refl _; occurs = d .occurs; inside = d .inside }) in
+      let d = h .held (latestSlot (kind p) v u) i (slot-in u hu) .0 (omega arith) in
+      let k = h .held (latestSlot (kind p) v u) (d .j) (slot-in u hu) .1 (record { j = d .j; e = d .e; after = d .after; recent = le-refl _; occurs = d .occurs; inside = d .inside }) in
       let l = d .recent in
       let q : i ≡ d .j = omega arith in
-      (occurs-same (λ e after. InSlot (latestSlot last (kind p) v u) e) o (occurs-there q (d .occurs)) (d .inside), λ s. later (some-occurs s))
+      (occurs-same (λ e after. InSlot (latestSlot (kind p) v u) e) o (occurs-there q (d .occurs)) (d .inside), λ s. later (some-occurs s))
     where
-      later : (j : ℕ) × (e : Event) × (after′ : List Event) × Occurs rest j e after′ × InSlot (latestSlot last (kind p) v u) e → ⊥
+      later : (j : ℕ) × (e : Event) × (after′ : List Event) × Occurs rest j e after′ × InSlot (latestSlot (kind p) v u) e → ⊥
       later (j, e, after′, q, a) =
           let (j′, m, r) = occurs-after o q in
-          let k = h .held (latestSlot last (kind p) v u) j′ (slot-in u hu) .1 (record { j = j′; e = e; after = after′; recent = le-refl _; occurs = r; inside = a }) in
+          let k = h .held (latestSlot (kind p) v u) j′ (slot-in u hu) .1 (record { j = j′; e = e; after = after′; recent = le-refl _; occurs = r; inside = a }) in
           omega arith
 
-  set-other : (u i : ℕ) → u < 16 → latestNumber last (kind p) v u ≡ suc i → ¬ T (hasSlot b t (latestSlot last (kind p) v u)) → u ≢ t
-  set-other u i hu n f e = f (set-cell (latestSlot last (kind p) v u) (slot-in u hu) .1 (subst (λ (y : ℕ). Came w (KeptIn (latestSlot last (kind p) v u)) es 0 (due y)) e own-came))
+  set-other : (u i : ℕ) → u < 16 → latestNumber last (kind p) v u ≡ suc i → ¬ T (hasSlot b t (latestSlot (kind p) v u)) → u ≢ t
+  set-other u i hu n f e = f (set-cell (latestSlot (kind p) v u) (slot-in u hu) .1 (subst (λ (y : ℕ). Came w (KeptIn (latestSlot (kind p) v u)) es 0 (due y)) e own-came))
     where
-      own-came : Came w (KeptIn (latestSlot last (kind p) v u)) es 0 (due u)
+      own-came : Came w (KeptIn (latestSlot (kind p) v u)) es 0 (due u)
       own-came =
-          let d = h .held (latestSlot last (kind p) v u) i (slot-in u hu) .0 (omega arith) in
-          let k = h .held (latestSlot last (kind p) v u) (d .j) (slot-in u hu) .1 (record { j = d .j; e = d .e; after = d .after; recent = le-refl _; occurs = d .occurs; inside = d .inside }) in
+          let d = h .held (latestSlot (kind p) v u) i (slot-in u hu) .0 (omega arith) in
+          let k = h .held (latestSlot (kind p) v u) (d .j) (slot-in u hu) .1 (record { j = d .j; e = d .e; after = d .after; recent = le-refl _; occurs = d .occurs; inside = d .inside }) in
           let l = d .recent in
           let q : i ≡ d .j = omega arith in
           let o = occurs-there q (d .occurs) in
-          record { j = i; e = d .e; after = d .after; recent = zero-le; occurs = o; chosen = kept-at u i hu n o; reach = acts-reach (slot-task hv hu (latest-conflicting p ap v u last) (d .inside)) }
+          record { j = i; e = d .e; after = d .after; recent = zero-le; occurs = o; chosen = kept-at u i hu n o; reach = acts-reach (slot-task p hv hu (d .inside)) }
 
   pub set-sound : (u : ℕ) → u < 16 → T (setApart b last (kind p) t v u) →
       (i : ℕ) × Candidate (filling w) (act p t v) es u i × (latestNumber last (kind p) v u ≡ suc i)
   set-sound u hu a = found (latestNumber last (kind p) v u) refl
     where
-      test : (0 < latestNumber last (kind p) v u) × (¬ T (hasSlot b t (latestSlot last (kind p) v u)))
+      test : (0 < latestNumber last (kind p) v u) × (¬ T (hasSlot b t (latestSlot (kind p) v u)))
       test = passed (set-test u) a
 
       found : (l : ℕ) → latestNumber last (kind p) v u ≡ l → (i : ℕ) × Candidate (filling w) (act p t v) es u i × (latestNumber last (kind p) v u ≡ suc i)
@@ -219,21 +220,21 @@ module _ {w : Filling} {es : List Event} {b last : List ℕ} (p : Op) (t v : ℕ
         where
           over : (f : Final u (act p t v) es i) → Reach w (f .x) (f .after) (due t) → ⊥
           over f r =
-              test .1 (set-cell (latestSlot last (kind p) v u) (slot-in u hu) .1
+              test .1 (set-cell (latestSlot (kind p) v u) (slot-in u hu) .1
               (record { j = i; e = f .x; after = f .after; recent = zero-le; occurs = f .occurs; chosen = kept-at u i hu e (f .occurs); reach = r }))
 
   pub set-complete : (u i : ℕ) → u < 16 → Candidate (filling w) (act p t v) es u i → T (setApart b last (kind p) t v u)
-  set-complete u i hu c = passes (set-test u) (omega (arith, number), λ a. c .apart .unordered (due-leads ap (ordered (set-cell (latestSlot last (kind p) v u) (slot-in u hu) .0 a))))
+  set-complete u i hu c = passes (set-test u) (omega (arith, number), λ a. c .apart .unordered (due-leads ap (ordered (set-cell (latestSlot (kind p) v u) (slot-in u hu) .0 a))))
     where
       number : latestNumber last (kind p) v u ≡ suc i
       number = final-number h ap hv hu (candidate-apart c) (final-of c)
 
       -- the slot keeps one access, the candidate
-      ordered : Came w (KeptIn (latestSlot last (kind p) v u)) es 0 (due t) → Reach w (c .e) (c .after) (due t)
+      ordered : Came w (KeptIn (latestSlot (kind p) v u)) es 0 (due t) → Reach w (c .e) (c .after) (due t)
       ordered d = by-place (equal i (d .j))
         where
           held-number : d .j < latestNumber last (kind p) v u
-          held-number = h .held (latestSlot last (kind p) v u) (d .j) (slot-in u hu) .1 (record { j = d .j; e = d .e; after = d .after; recent = le-refl _; occurs = d .occurs; inside = d .chosen .0 })
+          held-number = h .held (latestSlot (kind p) v u) (d .j) (slot-in u hu) .1 (record { j = d .j; e = d .e; after = d .after; recent = le-refl _; occurs = d .occurs; inside = d .chosen .0 })
 
           by-place : {q : Bool} → Reflects (i ≡ d .j) q → Reach w (c .e) (c .after) (due t)
           by-place (right e) = occurs-same (λ e after. Reach w e after (due t)) (c .occurs) (occurs-there e (d .occurs)) (d .reach)
@@ -241,20 +242,11 @@ module _ {w : Filling} {es : List Event} {b last : List ℕ} (p : Op) (t v : ℕ
 
 -- By words
 
--- whether order from task u's latest conflicting access has not come, by a word with a bit for each task's write and one for the other kind
-abbrev pub apartBy : List ℕ → ℕ → ℕ → ℕ → ℕ → ℕ → Bool
-apartBy last k v x y u = ltb 0 (latestNumber last k v u) && not (bit (cond (otherLater last k v u) y x) u)
+-- whether order from task u's latest conflicting access has not come, by a word with a bit for each task
+abbrev pub apartBy : List ℕ → ℕ → ℕ → ℕ → ℕ → Bool
+apartBy last k v x u = ltb 0 (latestNumber last k v u) && not (bit x u)
 
--- with what a row knows of the writes and of the other kind it is the test of the sets
-apart-by : (b last : List ℕ) (k t v u : ℕ) → u < 16 → apartBy last k v (knownSlots b t 1 v) (knownSlots b t (otherKind k) v) u ≡ setApart b last k t v u
-apart-by b last k t v u h =
-    ap (λ (c : Bool). ltb 0 (latestNumber last k v u) && not c) (sym (ap (hasSlot b t) (latest-later last k v u) ∙ of (otherLater last k v u)))
-  where
-    of : (c : Bool) → hasSlot b t (cond c (slot (otherKind k) v u) (slot 1 v u)) ≡ bit (cond c (knownSlots b t (otherKind k) v) (knownSlots b t 1 v)) u
-    of true = slot-known b t (otherKind k) v u h
-    of false = slot-known b t 1 v u h
-
--- so that the tasks that pass are the mask of the sets
-pub mask-by : (b last : List ℕ) (k t v : ℕ) {o x y : ℕ} → o ≡ otherKind k → x ≡ knownSlots b t 1 v → y ≡ knownSlots b t o v →
-    maskOf (apartBy last k v x y) ≡ setMask b last k t v
-mask-by b last k t v e p q = rw (p, q, e) (mask-ext _ (setApart b last k t v) (apart-by b last k t v))
+-- with what a row knows of what the kind asks it is the test of the sets, so that the tasks that pass are the mask of the sets
+pub mask-by : (b last : List ℕ) (k t v : ℕ) {x : ℕ} → x ≡ knownSlots b t (askAt k) v → maskOf (apartBy last k v x) ≡ setMask b last k t v
+mask-by b last k t v e =
+    rw e (mask-ext _ (setApart b last k t v) (λ u h. ap (λ (c : Bool). ltb 0 (latestNumber last k v u) && not c) (sym (slot-known b t (askAt k) v u h))))

@@ -1,12 +1,12 @@
 -- The tests of specs/Decide.antt tell of what specs/Order.antt means: steps, paths and conflicts. Assumes nothing.
 use mathlib.Core.Path.{_≡_, refl}
-use mathlib.Core.Bool.{Bool, true, false, _||_}
+use mathlib.Core.Bool.{Bool, true, false}
 use mathlib.Core.Logic.{_⊎_, inl, inr, _≢_}
 use mathlib.Core.List.{List, [], _∷_, _++_}
 use Prim.Native.Nat.{ℕ}
 use lib.Dec.{T}
-use Rattle.theory.specs.Recording.{Op, write, take, give, look, set, start, join, Event, act, lost, _is_, ActsIn, acts, isAccess}
-use Rattle.theory.specs.Order.{Step, same-task, gives-takes, sets-looks, starts, joins, Conflict, conflict}
+use Rattle.theory.specs.Recording.{Op, take, give, look, set, start, join, Event, act, lost, _is_, ActsIn, acts}
+use Rattle.theory.specs.Order.{Step, same-task, gives-takes, sets-looks, starts, joins, clashes, Conflict, conflict}
 use Rattle.theory.specs.Decide.{steps, any, reaches, conflicts, actsIn, again}
 use Rattle.theory.proofs.Reflects.{Reflects, right, wrong, by-test, both, either, fails, same-as, equal}
 use Rattle.theory.proofs.Ops.{same-op}
@@ -140,12 +140,11 @@ lead-test e mid f = same-as only this (reach-test (e ∷ []) mid f)
 
 pub conflict-test : (e f : Event) → Reflects (Conflict e f) (conflicts e f)
 conflict-test (act o t v) (act p u w) =
-    same-as (λ c. rw (← c .1) (conflict (c .0 .0 .0 .0) (c .0 .0 .0 .1) (c .0 .0 .1) (c .0 .1))) parts
-    (both (both (both (both (by-test (isAccess o)) (by-test (isAccess p))) (fails (equal t u))) (by-test (o is write || p is write))) (equal v w))
+    same-as (λ c. rw (← c .1) (conflict (c .0 .0) (c .0 .1))) parts
+    (both (both (fails (equal t u)) (by-test (clashes o p))) (equal v w))
   where
-    parts : {o p : Op} {t u v w : ℕ} → Conflict (act o t v) (act p u w) →
-        (((T (isAccess o) × T (isAccess p)) × (t ≢ u)) × T (o is write || p is write)) × (v ≡ w)
-    parts (conflict a b n c) = ((((a, b), n), c), refl)
+    parts : {o p : Op} {t u v w : ℕ} → Conflict (act o t v) (act p u w) → ((t ≢ u) × T (clashes o p)) × (v ≡ w)
+    parts (conflict n c) = ((n, c), refl)
 conflict-test (act o t n) (lost mask) = wrong (λ s. elim s [ ])
 conflict-test (lost mask) (act p u m) = wrong (λ s. elim s [ ])
 conflict-test (lost mask) (lost mask′) = wrong (λ s. elim s [ ])

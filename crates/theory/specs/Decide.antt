@@ -7,8 +7,9 @@ use mathlib.Core.Option.{Option, none, some}
 use lib.Dec.{leb, eqb}
 use lib.ListN.{getD, length}
 use lib.ListN as ListN
-use Rattle.theory.specs.Recording.{write, take, give, look, set, start, join, Event, act, lost, _is_, isAccess}
+use Rattle.theory.specs.Recording.{take, give, look, set, start, join, Event, act, lost, _is_, isAccess}
 
+use Rattle.theory.specs.Order.{clashes}
 use Rattle.theory.specs.Completion.{fillWith, nothing, rounds}
 use Rattle.theory.specs.Verdict.{Verdict, Race, Clear, Doubt}
 
@@ -35,7 +36,7 @@ reaches reached [] f = any (λ e. steps e f) reached
 reaches reached (x ∷ mid) f = elim (any (λ e. steps e x) reached) [ true ↦ reaches (x ∷ reached) mid f | false ↦ reaches reached mid f ]
 
 abbrev pub conflicts : Event → Event → Bool
-conflicts (act o t v) (act p u w) = isAccess o && isAccess p && not (eqb t u) && (o is write || p is write) && eqb v w
+conflicts (act o t v) (act p u w) = (not (eqb t u) && clashes o p) && eqb v w
 conflicts (act o t v) (lost mask) = false
 conflicts (lost mask) (act p u w) = false
 conflicts (lost mask) (lost mask′) = false

@@ -2,7 +2,7 @@
 use Prim.Native.Nat.{ℕ, _<_}
 use mathlib.Core.List.{List}
 use mathlib.Core.Logic.{_≢_}
-use mathlib.Core.Bool.{_||_}
+use mathlib.Core.Bool.{Bool, _&&_, _||_}
 use lib.Dec.{T}
 use Rattle.theory.specs.Recording.{Op, write, take, give, look, set, start, join, Event, act, At, isAccess, _is_}
 
@@ -28,6 +28,13 @@ pub data HappensBefore (es : List Event) : ℕ → ℕ → Type 0 where
   one : {i j : ℕ} → StepAt es i j → HappensBefore es i j
   more : {i j k : ℕ} → StepAt es i j → HappensBefore es j k → HappensBefore es i k
 
+-- which two accesses clash: "at least one writes"
+unfoldable pub rule : Op → Op → Bool
+rule o p = o is write || p is write
+
+abbrev pub clashes : Op → Op → Bool
+clashes o p = isAccess o && (isAccess p && rule o p)
+
 -- "two accesses conflict": the variable is the same, the tasks differ and at least one writes
 pub data Conflict : Event → Event → Type 0 where
-  conflict : {o p : Op} {t u v : ℕ} → T (isAccess o) → T (isAccess p) → t ≢ u → T (o is write || p is write) → Conflict (act o t v) (act p u v)
+  conflict : {o p : Op} {t u v : ℕ} → t ≢ u → T (clashes o p) → Conflict (act o t v) (act p u v)

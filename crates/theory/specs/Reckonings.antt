@@ -12,7 +12,7 @@ use Rattle.theory.specs.Limits.{tasks}
 use Rattle.theory.specs.Recording.{lossMark, accesses}
 use Rattle.theory.specs.Completion.{bit, Filling}
 use Rattle.theory.specs.Tables.{rowCount, dueRow, cell, noteActed, onward, mark}
-use Rattle.theory.specs.History.{slot, latestSlot, latestNumber}
+use Rattle.theory.specs.History.{slot, latestSlot, latestNumber, underEach}
 
 -- Clocks: at row n and column u the number of the last record of task u from which order has come to node n
 
@@ -43,9 +43,9 @@ slotPlace s = s % 32
 abbrev pub hasSlot : List ℕ → ℕ → ℕ → Bool
 hasSlot b r s = bit (cell slotWords b r (slotWord s)) (slotPlace s)
 
--- what row r knows of the tasks' accesses of a kind to variable v: from bit 0 on a bit for each task
+-- what row r knows of what the kind with number a asks of the tasks, for variable v: from bit 0 on a bit for each task
 abbrev pub knownSlots : List ℕ → ℕ → ℕ → ℕ → ℕ
-knownSlots b r k v = cell slotWords b r (slotWord (slot k v 0)) / 2 ^ slotPlace (slot k v 0)
+knownSlots b r a v = cell slotWords b r (slotWord (slot a v 0)) / 2 ^ slotPlace (slot a v 0)
 
 -- a word with the bit of weight 2 ^ k, and without it
 abbrev pub withBit : ℕ → ℕ → ℕ
@@ -62,8 +62,9 @@ clearSlot s b = turns rowCount (λ r b. set b (r * slotWords + slotWord s) (with
 abbrev pub addSlot : ℕ → ℕ → List ℕ → List ℕ
 addSlot r s b = set b (r * slotWords + slotWord s) (withBit (slotPlace s) (cell slotWords b r (slotWord s)))
 
+-- an access is kept anew: order from it has come to its own task's next act, and to nothing else
 abbrev pub setOwn : ℕ → ℕ → ℕ → List ℕ → List ℕ
-setOwn k task on b = noteActed slotWords task (cond (accesses k) (addSlot (dueRow task) (slot k on task) (clearSlot (slot k on task) b)) b)
+setOwn k task on b = noteActed slotWords task (underEach (λ s b. addSlot (dueRow task) s (clearSlot s b)) k on task b)
 
 abbrev pub setAct : ℕ → ℕ → ℕ → List ℕ → List ℕ
 setAct k task on b = onward bitOr slotWords k task on (setOwn k task on b)
@@ -77,7 +78,7 @@ abbrev pub clockApart : List ℕ → List ℕ → ℕ → ℕ → ℕ → ℕ �
 clockApart cells last k task on u = ltb (cell tasks cells (dueRow task) u) (latestNumber last k on u)
 
 abbrev pub setApart : List ℕ → List ℕ → ℕ → ℕ → ℕ → ℕ → Bool
-setApart cells last k task on u = ltb 0 (latestNumber last k on u) && not (hasSlot cells (dueRow task) (latestSlot last k on u))
+setApart cells last k task on u = ltb 0 (latestNumber last k on u) && not (hasSlot cells (dueRow task) (latestSlot k on u))
 
 abbrev pub bitOf : Bool → ℕ
 bitOf true = 1

@@ -22,32 +22,44 @@ pub data Event : Type 0 where
 pub data Effect : Type 0 where
   keeps begins ends : Effect
 
--- What differs from op to op, but for the steps that it makes (Order.antt)
+-- "access": a read or a write. The kinds of access are numbered, for their histories (History.antt)
+pub data Access : Type 0 where
+  no-access : Access
+  access : ℕ → Access
+
+abbrev pub accessing : Access → Bool
+accessing no-access = false
+accessing (access n) = true
+
+abbrev pub accessNumber : Access → ℕ
+accessNumber no-access = 0
+accessNumber (access n) = n
+
+-- What differs from op to op, but for the steps that it makes and the conflicts that it has (Order.antt)
 pub record Features : Type 0 where
   -- its kind number, in a record that is fed; numbers are added and never reused
   pub kind : ℕ
   -- the series that its number is of, by size: `on` is one of the numbers below it
   pub series : ℕ
-  -- "access": a read or a write
-  pub access : Bool
+  pub access : Access
   -- a completion may put it: takes, gives, looks and sets. Starts and joins are resent until they arrive, and lost accesses lie outside: a
   -- verdict is about accesses that arrived
   pub losable : Bool
   pub effect : Effect
 
-abbrev pub features : ℕ → ℕ → Bool → Bool → Effect → Features
+abbrev pub features : ℕ → ℕ → Access → Bool → Effect → Features
 features k s a l e = record { kind = k; series = s; access = a; losable = l; effect = e }
 
 -- the table of ops: kind, series, access, can be lost, effect
 abbrev pub about : Op → Features
-about read = features 0 variables true false keeps
-about write = features 1 variables true false keeps
-about take = features 2 semaphores false true keeps
-about give = features 3 semaphores false true keeps
-about look = features 4 flags false true keeps
-about set = features 5 flags false true keeps
-about start = features 6 tasks false false begins
-about join = features 7 tasks false false ends
+about read = features 0 variables (access 0) false keeps
+about write = features 1 variables (access 1) false keeps
+about take = features 2 semaphores no-access true keeps
+about give = features 3 semaphores no-access true keeps
+about look = features 4 flags no-access true keeps
+about set = features 5 flags no-access true keeps
+about start = features 6 tasks no-access false begins
+about join = features 7 tasks no-access false ends
 
 abbrev pub kind : Op → ℕ
 kind o = (about o) .kind
@@ -56,7 +68,7 @@ abbrev pub series : Op → ℕ
 series o = (about o) .series
 
 abbrev pub isAccess : Op → Bool
-isAccess o = (about o) .access
+isAccess o = accessing ((about o) .access)
 
 abbrev pub losable : Op → Bool
 losable o = (about o) .losable
