@@ -23,18 +23,23 @@ put-lines-requires c κs =
     let f = c .before .before .before .before .before .before .before in
     let b = f .before .before .before .before .before .before .before .before .before .before .before in
     let l = lines-at (b .args .piece .now) 0 _ (omega (arith, b .pre .5)) (b .pre .4) in
-    let w = f .put-first .ensures .0 in
-    (omega (arith, b .pre .5), omega (arith, l, b .pre .0, w .0, as-long (w .1)), omega (arith, b .pre .3, b .pre .5))
+    let w = f .put-first .ensures in
+    (omega (arith, b .pre .5), omega (arith, l, b .pre .0, w .room, as-long (w .wrote)), omega (arith, b .pre .3, b .pre .5))
 
 returns : tie.Need-returns
 returns c =
     let p = c .before .before in
     let f = p .before .before .before .before .before .before .before .before in
     let b = f .before .before .before .before .before .before .before .before .before .before .before in
-    let h = short-held _ (b .pre .1) in (
-      piece-said _ _ _ _ _ h (b .pre .4) (b .pre .5) (f .put-first .ensures .0 .1) (f .put-first .ensures .1) (p .put-lines .ensures .0),
-      (p .put-lines .ensures .1 .0, p .put-lines .ensures .1 .1, piece-kept _ _ _ _ _ h (b .pre .4) (b .pre .5) (f .put-first .ensures .1) (p .put-lines .ensures .1 .2)),
-    )
+    let h = short-held _ (b .pre .1) in
+    let first = f .put-first .ensures in
+    let others = p .put-lines .ensures in
+    record {
+      wrote = piece-said _ _ _ _ _ h (b .pre .4) (b .pre .5) (first .wrote) (first .fed) (others .wrote);
+      within = others .within;
+      room = others .room;
+      keeps = piece-kept _ _ _ _ _ h (b .pre .4) (b .pre .5) (first .fed) (others .keeps);
+    }
 
 pub put-ended-spec : {M : Type 1} → statement M
 put-ended-spec =
