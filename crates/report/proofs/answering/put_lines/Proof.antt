@@ -58,7 +58,7 @@ loop-again c =
       m .1,
       omega (arith, m .0, m .1, at-loop .loop .inv .1),
       as-long (p .wrote) ∙ at-loop .loop .inv .2,
-      left-taken (at-loop .loop .inv .3) e (at-next-parsed .next-parsed .ensures .0) (at-next-parsed .next-parsed .ensures .1) (p .wrote) (p .room) (p .fed),
+      left-taken (at-loop .loop .inv .3) e (at-next-parsed .next-parsed .ensures .0) (at-next-parsed .next-parsed .ensures .1) p,
     )
 
 returns : tie.Need-returns Inv-loop μ-loop

@@ -2,7 +2,7 @@
 use native.Mathlib.Omega.{arith}
 use Rattle.text.proofs.Wrote.{as-long}
 use Rattle.text.proofs.Lines.{lines-at}
-use Rattle.text.proofs.Held.{counted, some-lines, piece-said, piece-kept, short-held}
+use Rattle.text.proofs.Held.{counted, some-lines, lines-answered, short-held}
 use borrow.Author.Needs.{needs}
 use Rattle.report.proofs.streaming.put_ended.Statement.{statement}
 use Rattle.report.proofs.streaming.put_ended.Tie as tie
@@ -31,15 +31,7 @@ returns c =
     let p = c .before .before in
     let f = p .before .before .before .before .before .before .before .before in
     let b = f .before .before .before .before .before .before .before .before .before .before .before in
-    let h = short-held _ (b .pre .1) in
-    let first = f .put-first .ensures in
-    let others = p .put-lines .ensures in
-    record {
-      wrote = piece-said _ _ _ _ _ h (b .pre .4) (b .pre .5) (first .wrote) (first .fed) (others .wrote);
-      within = others .within;
-      room = others .room;
-      keeps = piece-kept _ _ _ _ _ h (b .pre .4) (b .pre .5) (first .fed) (others .keeps);
-    }
+    lines-answered _ _ _ _ _ (short-held _ (b .pre .1)) (b .pre .4) (b .pre .5) (f .put-first .ensures) (p .put-lines .ensures)
 
 pub put-ended-spec : {M : Type 1} → statement M
 put-ended-spec =

@@ -8,7 +8,7 @@ use Rattle.report.proofs.streaming.put_rest.Tie as tie
 returns : tie.Need-returns
 returns c =
     let at-start = c .before .before .before in
-    let (w, f) = nothing-held _ (at-start .args .begun) (at-start .args .held .now) _ (c .if1 .taken) in record { wrote = w; fed = f }
+    nothing-held _ (at-start .args .begun) (at-start .args .held .now) _ (c .if1 .taken)
 
 slice-aggregate-put-line : tie.Need-slice-aggregate-put-line
 slice-aggregate-put-line c = counted _ _ (c .before .before .before .before .before .before .pre .0)
@@ -23,8 +23,7 @@ returns-2 : tie.Need-returns-2
 returns-2 c =
     let at-if1 = c .before .before .before .before .before .before .before .before .before .before in
     let at-start = at-if1 .before .before .before in
-    let p = c .before .before .put-line .ensures in
-    let (w, f) = line-held _ (at-start .args .begun) (at-start .args .held .now) _ (at-start .pre .0) (at-if1 .if1 .left) (p .wrote) (p .fed) in record { wrote = w; fed = f }
+    line-held _ (at-start .args .begun) (at-start .args .held .now) _ (at-start .pre .0) (at-if1 .if1 .left) (c .before .before .put-line .ensures)
 
 pub put-rest-spec : {M : Type 1} → statement M
 put-rest-spec =
