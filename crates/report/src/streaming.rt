@@ -11,14 +11,14 @@ use theory::History;
 ghost use mathlib.Core.Path.{_≡_};
 ghost use mathlib.Core.Bool.{true};
 ghost use mathlib.Core.List.{_++_};
-ghost use Prim.Native.Nat.{_<_, _≤_, _+_, _*_, _^_, min};
+ghost use Prim.Native.Nat.{_<_, _≤_, _+_, _^_, min};
 ghost use lib.ListN.{length, take, drop};
 ghost use lib.Seq.{sets as written};
 ghost use Rattle.theory.specs.Lent.{seen, tables};
-ghost use Rattle.text.specs.Lines.{linesOf, lineEnd};
+ghost use Rattle.text.specs.Lines.{lineEnd};
 ghost use Rattle.text.specs.LineForm.{parseOf};
 ghost use Rattle.text.specs.Pieces.{heldMost, keptOf, fits};
-ghost use Rattle.text.specs.Answers.{LineAnswered, LinesAnswered, PieceAnswered, EndAnswered};
+ghost use Rattle.text.specs.Answers.{LineAnswered, LinesAnswered, PieceFits, PieceAnswered, EndAnswered};
 
 // So many bytes of a line are held at most: a line of more than 64 is refused, whatever else it says.
 const HELD_MOST: usize = 65;
@@ -82,8 +82,7 @@ fn put_ended(
     clocks: &mut Clocks,
     fullclocks: &mut Clocks,
 ) -> Answered
-    requires { ⌜ (begun .at + 64 * length (linesOf (now piece)) ≤ length (now out)) × (begun .held ≤ heldMost) × (heldMost ≤ length (now held))
-        × (begun .lines + length (now piece) < 2 ^ 64) × (e ≡ 0 + lineEnd (drop 0 (now piece))) × (e < length (now piece)) ⌝ }
+    requires { ⌜ PieceFits (now out) (now piece) (now held) begun × (e ≡ 0 + lineEnd (drop 0 (now piece))) × (e < length (now piece)) ⌝ }
     ensures { λ r. let state = tables control last clocks fullclocks in
         ⌜ LinesAnswered (seen out) (begun .at) (keptOf (state .entry) begun (now (held .entry))) (now (piece .entry)) 0 (state .exit) (r .lines) (r .at) (r .from) ⌝ }
 {
@@ -124,8 +123,7 @@ pub(crate) fn put_piece(
     clocks: &mut Clocks,
     fullclocks: &mut Clocks,
 ) -> Progress
-    requires { ⌜ (begun .at + 64 * length (linesOf (now piece)) ≤ length (now out)) × (begun .held ≤ heldMost) × (heldMost ≤ length (now held))
-        × (begun .lines + length (now piece) < 2 ^ 64) ⌝ }
+    requires { ⌜ PieceFits (now out) (now piece) (now held) begun ⌝ }
     ensures answered { λ r. ⌜ PieceAnswered true (seen out) (seen held) (tables control last clocks fullclocks) begun (now (piece .entry)) r ⌝ }
     ensures room { λ r. ⌜ (begun .held ≡ 0 → 0 < r .held → r .at + 64 ≤ length (now (out .exit))) ⌝ }
 {

@@ -15,7 +15,7 @@ use Rattle.text.specs.declared.progress.Progress.{Progress}
 use Rattle.text.specs.Lines.{lf, linesOf, lineEnd}
 use Rattle.text.specs.LineForm.{parseOf}
 use Rattle.text.specs.Wrote.{Wrote}
-use Rattle.text.specs.Answers.{LineAnswered, LinesAnswered, EndAnswered}
+use Rattle.text.specs.Answers.{LineAnswered, LinesAnswered, PieceFits, EndAnswered}
 use Rattle.text.specs.Report.{saidFor, stateAfter, reportOf}
 use Rattle.text.specs.Pieces.{Kept, kept, freshKept, heldMost, saidAt, afterByte, saidIn, afterPiece, saidAtEnd, saidInAll, joined, keptOf, progressAfter, fits}
 use Rattle.text.proofs.Bytes.{Without, and-true}
@@ -246,7 +246,7 @@ in-64 lines more b h = omega arith
 
 -- where a piece fits, its lines do, and so does what is held
 pub room-enough : (out piece held : List ℕ) (begun : Progress) → begun .lines < 2 ^ 64 → fits (length out) (length piece) (length held) begun ≡ true
-    → (begun .at + 64 * length (linesOf piece) ≤ length out) × (begun .held ≤ heldMost) × (heldMost ≤ length held) × (begun .lines + length piece < 2 ^ 64)
+    → PieceFits out piece held begun
 room-enough out piece held begun w e =
     let (a, r) = and-true (leb (begun .at) (length out)) _ e in
     let (b, r₁) = and-true (leb (length piece) ((length out - begun .at) / 64)) _ r in
@@ -255,4 +255,9 @@ room-enough out piece held begun w e =
     let h = leb-true (begun .at) (length out) a in
     let k = leb-true (length piece) ((length out - begun .at) / 64) b in
     let l = leb-true (length piece) (2 ^ 64 - 1 - begun .lines) f in
-    (omega (arith, lines-fit piece, h, k), leb-true (begun .held) heldMost d, leb-true heldMost (length held) c, in-64 (begun .lines) (length piece) w l)
+    record {
+      room = omega (arith, lines-fit piece, h, k);
+      short = leb-true (begun .held) heldMost d;
+      holds = leb-true heldMost (length held) c;
+      counted = in-64 (begun .lines) (length piece) w l;
+    }

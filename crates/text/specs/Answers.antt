@@ -1,7 +1,7 @@
--- What a function promises that answers a line, a piece or the end of a text into lent memory: each promise has a name. `out` is the report
+-- What a function asks and promises that answers a line, a piece or the end of a text into lent memory: each part has a name. `out` is the report
 -- memory and `held` the memory that holds the line that has begun, with `state` each at entry and at exit.
 use mathlib.Core.Path.{_≡_}
-use Prim.Native.Nat.{ℕ, _+_, _*_, _≤_}
+use Prim.Native.Nat.{ℕ, _+_, _*_, _^_, _≤_, _<_}
 use mathlib.Core.Bool.{Bool, cond}
 use mathlib.Core.List.{List}
 use lib.ListN.{length, take, drop}
@@ -28,6 +28,14 @@ pub record LinesAnswered (out : Twice (List ℕ)) (at : ℕ) (k : Kept) (piece :
   pub within : rest ≤ length piece
   pub room : to + 64 * length (linesOf (drop rest piece)) ≤ length (out .exit)
   pub keeps : kept s lines (take heldMost (drop rest piece)) ≡ afterPiece k (drop from piece)
+
+-- what answering a piece asks of the memory: 64 bytes of the report for each line, 65 to hold a line, of which no more are held; and that the
+-- lines can be counted in 64 bits
+pub record PieceFits (out piece held : List ℕ) (begun : Progress) : Type 0 where
+  pub room : begun .at + 64 * length (linesOf piece) ≤ length out
+  pub short : begun .held ≤ heldMost
+  pub holds : heldMost ≤ length held
+  pub counted : begun .lines + length piece < 2 ^ 64
 
 -- a piece was answered where it was taken in, and else nothing was changed
 pub record PieceAnswered (taken : Bool) (out held : Twice (List ℕ)) (state : Twice State) (begun : Progress) (piece : List ℕ) (ended : Progress) : Type 0 where

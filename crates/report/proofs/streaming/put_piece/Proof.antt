@@ -14,9 +14,9 @@ returns c =
     let h = c .before .before in
     let i = h .before .before in
     let b = i .before .before .before .before .before in
-    let (p, q) = piece-held _ _ _ _ (short-held _ (b .pre .1)) (rest-without _ 0 _ (i .before .line-end .ensures .0) (i .if1 .taken)) in (
+    let (p, q) = piece-held _ _ _ _ (short-held _ (b .pre .short)) (rest-without _ 0 _ (i .before .line-end .ensures .0) (i .if1 .taken)) in (
       record { progress = progress-said _ _ _ q (h .hold .ensures .0) (rw p (omega arith)); wrote = rw p; fed = rw q; holds = rw q (h .hold .ensures .1) },
-      λ z g. room-held _ _ _ z (h .hold .ensures .0) g (b .pre .0),
+      λ z g. room-held _ _ _ z (h .hold .ensures .0) g (b .pre .room),
     )
 
 returns-2 : tie.Need-returns-2
