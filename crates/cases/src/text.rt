@@ -38,14 +38,14 @@ fn digit(b: u8) -> u32 {
 }
 
 // How many records a text has: the last one has no byte after it.
-pub fn count(text: &[u8]) -> usize
+pub(crate) fn count(text: &[u8]) -> usize
     ensures { λ r. do ⌜ r * 4 ≤ (← ⟦text.len()⟧ .entry) + 1 ⌝ }
 {
     text.len() / 4 + text.len() % 4 / 3
 }
 
 // The n-th record, from 0, and one of no kind where there is none.
-pub fn nth(text: &[u8], n: usize) -> Record {
+pub(crate) fn nth(text: &[u8], n: usize) -> Record {
     if n < count(text) {
         let i = n * 4;
         return record(kind_of(text[i + 1]), digit(text[i]), digit(text[i + 2]));

@@ -10,7 +10,8 @@ use theory::Masks;
 use theory::Record;
 use theory::Sets;
 ghost use mathlib.Core.Path.{_≡_};
-ghost use Rattle.theory.specs.Step.{stateOf, setsOf, apartByClocks, apartBySets};
+ghost use Rattle.theory.specs.Step.{apartByClocks, apartBySets};
+ghost use Rattle.theory.specs.Lent.{tables, setTables};
 
 // By the clocks.
 pub fn apart_by_clocks(
@@ -20,7 +21,7 @@ pub fn apart_by_clocks(
     fullclocks: &Clocks,
     r: Record,
 ) -> Masks
-    ensures { λ m. ⌜ m ≡ apartByClocks (stateOf (now (control .entry)) (now (last .entry)) (now (clocks .entry)) (now (fullclocks .entry))) r ⌝ }
+    ensures { λ m. ⌜ m ≡ apartByClocks ((tables control last clocks fullclocks) .entry) r ⌝ }
 {
     let refused = refusal(control, r);
     if refused != 0 {
@@ -40,7 +41,7 @@ pub fn apart_by_sets(
     fullsets: &Sets,
     r: Record,
 ) -> Masks
-    ensures { λ m. ⌜ m ≡ apartBySets (setsOf (now (control .entry)) (now (last .entry)) (now (sets .entry)) (now (fullsets .entry))) r ⌝ }
+    ensures { λ m. ⌜ m ≡ apartBySets ((setTables control last sets fullsets) .entry) r ⌝ }
 {
     let refused = refusal(control, r);
     if refused != 0 {

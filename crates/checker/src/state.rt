@@ -10,7 +10,8 @@ use theory::SetState;
 use theory::Sets;
 use theory::State;
 ghost use mathlib.Core.Path.{_≡_};
-ghost use Rattle.theory.specs.Step.{freshControl, stateOf, setsOf, freshState, freshSets};
+ghost use Rattle.theory.specs.Step.{freshControl, freshState, freshSets};
+ghost use Rattle.theory.specs.Lent.{tables, setTables};
 
 // Task 0 is live, the others are unseen, and no record is accepted yet.
 fn fresh_control() -> Control
@@ -52,7 +53,7 @@ pub fn begin(
     clocks: &mut Clocks,
     fullclocks: &mut Clocks,
 )
-    ensures { λ _. ⌜ stateOf (now (control .exit)) (now (last .exit)) (now (clocks .exit)) (now (fullclocks .exit)) ≡ freshState ⌝ }
+    ensures { λ _. ⌜ (tables control last clocks fullclocks) .exit ≡ freshState ⌝ }
 {
     *control = fresh_control();
     *last = [0; HISTORY_CELLS];
@@ -62,7 +63,7 @@ pub fn begin(
 
 // Makes the lent tables those of a fresh state of the sets.
 pub fn begin_sets(control: &mut Control, last: &mut History, sets: &mut Sets, fullsets: &mut Sets)
-    ensures { λ _. ⌜ setsOf (now (control .exit)) (now (last .exit)) (now (sets .exit)) (now (fullsets .exit)) ≡ freshSets ⌝ }
+    ensures { λ _. ⌜ (setTables control last sets fullsets) .exit ≡ freshSets ⌝ }
 {
     *control = fresh_control();
     *last = [0; HISTORY_CELLS];

@@ -19,7 +19,8 @@ use theory::Sets;
 use theory::State;
 use theory::Stepped;
 ghost use mathlib.Core.Path.{_≡_};
-ghost use Rattle.theory.specs.Step.{stepOf, setStepOf, stateOf, setsOf, stateWith, setsWith};
+ghost use Rattle.theory.specs.Step.{stepOf, setStepOf};
+ghost use Rattle.theory.specs.Lent.{tables, setTables};
 
 // Feeds a record. A refused record leaves every table as it was.
 pub fn step_in_place(
@@ -29,8 +30,7 @@ pub fn step_in_place(
     fullclocks: &mut Clocks,
     r: Record,
 ) -> Answer
-    ensures { λ a. ⌜ stateWith (now (control .exit)) (now (last .exit)) (now (clocks .exit)) (now (fullclocks .exit)) a
-        ≡ stepOf (stateOf (now (control .entry)) (now (last .entry)) (now (clocks .entry)) (now (fullclocks .entry))) r ⌝ }
+    ensures { λ a. let state = tables control last clocks fullclocks in ⌜ record { state = state .exit; answer = a } ≡ stepOf (state .entry) r ⌝ }
 {
     let refused = refusal(control, r);
     if refused != 0 {
@@ -53,8 +53,7 @@ pub fn set_step_in_place(
     fullsets: &mut Sets,
     r: Record,
 ) -> Answer
-    ensures { λ a. ⌜ setsWith (now (control .exit)) (now (last .exit)) (now (sets .exit)) (now (fullsets .exit)) a
-        ≡ setStepOf (setsOf (now (control .entry)) (now (last .entry)) (now (sets .entry)) (now (fullsets .entry))) r ⌝ }
+    ensures { λ a. let state = setTables control last sets fullsets in ⌜ record { state = state .exit; answer = a } ≡ setStepOf (state .entry) r ⌝ }
 {
     let refused = refusal(control, r);
     if refused != 0 {

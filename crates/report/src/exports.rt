@@ -10,7 +10,8 @@ use theory::History;
 use theory::Record;
 use theory::Sets;
 ghost use mathlib.Core.Path.{_≡_};
-ghost use Rattle.theory.specs.Step.{answerNumbers, recordOf, stateOf, setsOf, stepOf, setStepOf, freshState, freshSets};
+ghost use Rattle.theory.specs.Step.{answerNumbers, recordOf, stepOf, setStepOf, freshState, freshSets};
+ghost use Rattle.theory.specs.Lent.{tables, setTables};
 
 // What an answer is, as the first of its numbers.
 const REFUSED: u32 = 0;
@@ -44,7 +45,7 @@ pub extern "C" fn order_begin(
     clocks: &mut Clocks,
     fullclocks: &mut Clocks,
 )
-    ensures { λ _. ⌜ stateOf (now (control .exit)) (now (last .exit)) (now (clocks .exit)) (now (fullclocks .exit)) ≡ freshState ⌝ }
+    ensures { λ _. ⌜ (tables control last clocks fullclocks) .exit ≡ freshState ⌝ }
 {
     begin(control, last, clocks, fullclocks);
 }
@@ -61,10 +62,8 @@ pub extern "C" fn order_feed(
     on: u32,
     answer: &mut [u32; 3],
 )
-    ensures state { λ _. ⌜ stateOf (now (control .exit)) (now (last .exit)) (now (clocks .exit)) (now (fullclocks .exit))
-        ≡ (stepOf (stateOf (now (control .entry)) (now (last .entry)) (now (clocks .entry)) (now (fullclocks .entry))) (recordOf kind task on)) .state ⌝ }
-    ensures answer { λ _. ⌜ now (answer .exit)
-        ≡ answerNumbers ((stepOf (stateOf (now (control .entry)) (now (last .entry)) (now (clocks .entry)) (now (fullclocks .entry))) (recordOf kind task on)) .answer) ⌝ }
+    ensures { λ _. let state = tables control last clocks fullclocks in let stepped = stepOf (state .entry) (recordOf kind task on) in
+        ⌜ (state .exit ≡ stepped .state) × (now (answer .exit) ≡ answerNumbers (stepped .answer)) ⌝ }
 {
     let a = step_in_place(control, last, clocks, fullclocks, Record { kind, task, on });
     *answer = answer_numbers(a);
@@ -78,7 +77,7 @@ pub extern "C" fn order_sets_begin(
     sets: &mut Sets,
     fullsets: &mut Sets,
 )
-    ensures { λ _. ⌜ setsOf (now (control .exit)) (now (last .exit)) (now (sets .exit)) (now (fullsets .exit)) ≡ freshSets ⌝ }
+    ensures { λ _. ⌜ (setTables control last sets fullsets) .exit ≡ freshSets ⌝ }
 {
     begin_sets(control, last, sets, fullsets);
 }
@@ -95,10 +94,8 @@ pub extern "C" fn order_sets_feed(
     on: u32,
     answer: &mut [u32; 3],
 )
-    ensures state { λ _. ⌜ setsOf (now (control .exit)) (now (last .exit)) (now (sets .exit)) (now (fullsets .exit))
-        ≡ (setStepOf (setsOf (now (control .entry)) (now (last .entry)) (now (sets .entry)) (now (fullsets .entry))) (recordOf kind task on)) .state ⌝ }
-    ensures answer { λ _. ⌜ now (answer .exit)
-        ≡ answerNumbers ((setStepOf (setsOf (now (control .entry)) (now (last .entry)) (now (sets .entry)) (now (fullsets .entry))) (recordOf kind task on)) .answer) ⌝ }
+    ensures { λ _. let state = setTables control last sets fullsets in let stepped = setStepOf (state .entry) (recordOf kind task on) in
+        ⌜ (state .exit ≡ stepped .state) × (now (answer .exit) ≡ answerNumbers (stepped .answer)) ⌝ }
 {
     let a = set_step_in_place(control, last, sets, fullsets, Record { kind, task, on });
     *answer = answer_numbers(a);

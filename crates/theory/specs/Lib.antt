@@ -14,6 +14,8 @@ pub mod History
 pub mod Reckonings
 pub mod Control
 pub mod Step
+-- How the code's contracts name the memory that it is lent
+pub mod Lent
 -- The demands on what feeding answers, and document 01's examples
 pub mod Examples
 pub mod Feeding

@@ -122,17 +122,3 @@ freshState = record { control = freshControl; last = replicate 2048 0; clocks = 
 
 unfoldable pub freshSets : SetState
 freshSets = record { control = freshControl; last = replicate 2048 0; sets = replicate 5248 0; fullsets = replicate 5248 0 }
-
--- Tables, and tables with an answer, as one value, for the contracts of the steps in place
-
-abbrev pub stateOf : List ℕ → List ℕ → List ℕ → List ℕ → State
-stateOf control last clocks fullclocks = record { control = control; last = last; clocks = clocks; fullclocks = fullclocks }
-
-abbrev pub stateWith : List ℕ → List ℕ → List ℕ → List ℕ → Answer → Stepped
-stateWith control last clocks fullclocks a = record { state = stateOf control last clocks fullclocks; answer = a }
-
-abbrev pub setsOf : List ℕ → List ℕ → List ℕ → List ℕ → SetState
-setsOf control last sets fullsets = record { control = control; last = last; sets = sets; fullsets = fullsets }
-
-abbrev pub setsWith : List ℕ → List ℕ → List ℕ → List ℕ → Answer → SetStepped
-setsWith control last sets fullsets a = record { state = setsOf control last sets fullsets; answer = a }
