@@ -2,8 +2,6 @@
 // task's last record from which order has come to the row's node. One table is for the recording as it arrived, one for the fullest filling.
 use crate::history::is_access;
 use crate::history::latest_number;
-use crate::kinds::JOIN;
-use crate::kinds::LOST;
 use crate::masks::weight_of;
 use crate::rows::HUB;
 use crate::rows::acted_after;
@@ -14,6 +12,8 @@ use crate::rows::told_by;
 use crate::rows::told_row;
 use theory::Clocks;
 use theory::History;
+use theory::JOIN;
+use theory::LOST;
 use theory::Masks;
 use theory::Task;
 ghost use mathlib.Core.Path.{_≡_};

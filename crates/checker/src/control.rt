@@ -1,7 +1,7 @@
 // The control table: each task's phase, then the count of accepted records. crates/theory/specs/Control.antt says the same of the table as a list.
-use crate::kinds::JOIN;
-use crate::kinds::START;
 use theory::Control;
+use theory::JOIN;
+use theory::START;
 ghost use mathlib.Core.Path.{_≡_};
 ghost use Prim.Native.Nat.{_<_};
 ghost use Rattle.theory.specs.Control.{liveIn, unseenIn, countIn, counted, controlAfter};

@@ -1,10 +1,10 @@
 // The kept accesses: the latest of each variable, task and kind, by its record number.
-use crate::kinds::ACCESSES;
-use crate::kinds::READ;
-use crate::kinds::WRITE;
+use theory::ACCESSES;
 use theory::History;
+use theory::READ;
 use theory::Task;
 use theory::Variable;
+use theory::WRITE;
 ghost use mathlib.Core.Path.{_≡_};
 ghost use mathlib.Core.Bool.{false};
 ghost use lib.Dec.{eqb};

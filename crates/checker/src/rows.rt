@@ -1,11 +1,11 @@
 // Rows of the clocks' and the sets' tables: which row an act hears and tells, and how a row's knowledge goes to another.
-use crate::kinds::GIVE;
-use crate::kinds::LOOK;
-use crate::kinds::SET;
-use crate::kinds::START;
-use crate::kinds::TAKE;
 use theory::Flag;
+use theory::GIVE;
+use theory::LOOK;
+use theory::SET;
+use theory::START;
 use theory::Semaphore;
+use theory::TAKE;
 use theory::Task;
 ghost use mathlib.Core.Path.{_≡_};
 ghost use mathlib.Core.Bool.{cond};

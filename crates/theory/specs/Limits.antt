@@ -1,4 +1,4 @@
--- The limits of document 01, each in one place. crates/checker/src/limits.rt has them for the code.
+-- The limits of document 01, each in one place. crates/theory/src/limits.rt has them for the code.
 use Prim.Native.Nat.{ℕ}
 
 -- the tasks are 0 to 15

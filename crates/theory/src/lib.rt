@@ -1,12 +1,34 @@
 // What the checker is judged by: specs/ says what order, completions and verdicts are and which demands follow, proofs/ what is known of them.
-// No code stands here, only the types that the definitions speak of.
+// No code stands here, only the types that the definitions speak of, and the numbers of kinds and limits for the code.
 mod answer;
+mod kinds;
+mod limits;
 mod masks;
 mod numbers;
 mod record;
 mod state;
 
 pub use answer::Answer;
+pub use kinds::ACCESSES;
+pub use kinds::GIVE;
+pub use kinds::JOIN;
+pub use kinds::KINDS;
+pub use kinds::LOOK;
+pub use kinds::LOST;
+pub use kinds::READ;
+pub use kinds::SET;
+pub use kinds::START;
+pub use kinds::TAKE;
+pub use kinds::WRITE;
+pub use limits::FLAGS;
+pub use limits::LAST_FLAG;
+pub use limits::LAST_SEMAPHORE;
+pub use limits::LAST_TASK;
+pub use limits::LAST_VARIABLE;
+pub use limits::RECORDS;
+pub use limits::SEMAPHORES;
+pub use limits::TASKS;
+pub use limits::VARIABLES;
 pub use masks::Masks;
 pub use numbers::Flag;
 pub use numbers::RecordNumber;

@@ -1,4 +1,4 @@
-// The number of each kind of record, as `kind` and `lossMark` of crates/theory/specs/Recording.antt have it.
+// The number of each kind of record, as `kind` and `lossMark` of specs/Recording.antt have it.
 pub const READ: u8 = 0;
 
 pub const WRITE: u8 = 1;
@@ -19,3 +19,6 @@ pub const LOST: u8 = 8;
 
 // The kinds below this one are accesses.
 pub const ACCESSES: u8 = 2;
+
+// How many kinds there are.
+pub const KINDS: u8 = LOST + 1;
