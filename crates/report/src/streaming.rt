@@ -22,7 +22,7 @@ ghost use Rattle.text.specs.Report.{saidFor, stateAfter};
 ghost use Rattle.text.specs.Pieces.{heldMost, kept, keptOf, fits, refused, progressAfter, saidIn, afterPiece, saidAtEnd, stateAtEnd};
 
 // So many bytes of a line are held at most: a line of more than 64 is refused, whatever else it says.
-const HELD_MOST: usize = 65;
+pub(crate) const HELD_MOST: usize = 65;
 
 fn least(a: usize, b: usize) -> usize
     ensures { λ r. ⌜ (r ≡ min a b) × (r ≤ b) ⌝ }

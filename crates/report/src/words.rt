@@ -15,7 +15,8 @@ ghost use Rattle.text.specs.Places.{OpAt, openingOf, opBytes};
 
 pub(crate) const SPACE: u8 = 32;
 
-// The ops by their kinds, each with what follows it in the first eight bytes of a line: its space, and `task=` as far as there is room.
+// The ops by their kinds, each with what follows it in the first eight bytes of an act: its space, and `task=` as far as there is room.
+// This is the one table of words: a new word is a line here, and one of `words` in crates/text/specs/LineForm.antt.
 const OPENINGS: [[u8; 8]; KINDS as usize] = [
     *b"op=read ",
     *b"op=write",
@@ -146,12 +147,13 @@ fn opened(kind: u8, o: &[u8; 8]) -> Opening
     }
 }
 
-// A number below 16 that differs from op to op, by the letters of the word.
+// A number below 16 that differs from op to op, by the letters of the word. Of two words with one number the later would be read the slow way.
 fn slot(bytes: u64) -> u64 {
     bytes / 16_777_216 * 2665 / 4_294_967_296 % 16
 }
 
-// The one op that a line's first eight bytes can name. That it is so is not relied on. The compiler makes a table of it, by slots.
+// The one op that a line's first eight bytes can name. That it is so is not relied on. The compiler makes tables of it, by slots, since the
+// entry is looked for by its slot and not by its place.
 fn guess(bytes: u64) -> Opening
     ensures { λ r. ⌜ (r .kind < length words) × (r .bytes ≡ little (openingOf (r .kind))) × (r .len ≡ opBytes (openingOf (r .kind))) ⌝ }
 {

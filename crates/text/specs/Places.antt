@@ -22,6 +22,7 @@ pub record FieldAt (s : List ℕ) (at : ℕ) (name : List ℕ) (n len : ℕ) : T
 abbrev pub opening : List ℕ → List ℕ
 opening w = take 8 (opName ++ (w ++ (space ∷ taskName)))
 
+-- those of an act of kind k
 abbrev pub openingOf : ℕ → List ℕ
 openingOf k = opening (wordOf k)
 
