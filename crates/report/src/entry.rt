@@ -1,6 +1,7 @@
 // The C entry: a text and report memory in, the count of bytes written out.
 
 use crate::scan::line_count;
+use crate::streaming::HELD_MOST;
 use crate::streaming::put_piece;
 use crate::streaming::put_rest;
 use checker::begin;
@@ -25,7 +26,7 @@ fn write_report(text: &[u8], report: &mut [u8]) -> usize
     let mut clocks = [0u32; CLOCK_CELLS];
     let mut fullclocks = [0u32; CLOCK_CELLS];
     begin(&mut control, &mut last, &mut clocks, &mut fullclocks);
-    let mut held = [0u8; 65];
+    let mut held = [0u8; HELD_MOST];
     let none = Progress {
         lines: 0,
         held: 0,

@@ -21,7 +21,7 @@ ghost use Rattle.text.specs.Pieces.{heldMost, keptOf, fits};
 ghost use Rattle.text.specs.Answers.{LineAnswered, LinesAnswered, PieceFits, PieceAnswered, EndAnswered};
 
 // So many bytes of a line are held at most: a line of more than 64 is refused, whatever else it says.
-const HELD_MOST: usize = 65;
+pub(crate) const HELD_MOST: usize = 65;
 
 fn least(a: usize, b: usize) -> usize
     ensures { λ r. ⌜ (r ≡ min a b) × (r ≤ b) ⌝ }
