@@ -2,6 +2,7 @@
 // task's last record from which order has come to the row's node. One table is for the recording as it arrived, one for the fullest filling.
 use crate::history::is_access;
 use crate::history::latest_number;
+use crate::masks::lower_half;
 use crate::masks::weight_of;
 use crate::rows::HUB;
 use crate::rows::acted_after;
@@ -15,14 +16,16 @@ use theory::History;
 use theory::JOIN;
 use theory::LOST;
 use theory::Masks;
+use theory::TASKS;
 use theory::Task;
 ghost use mathlib.Core.Path.{_≡_};
-ghost use mathlib.Core.Bool.{false};
-ghost use lib.Dec.{eqb};
 ghost use Prim.Native.Nat.{_<_, max};
 ghost use Rattle.theory.specs.Tables.{joinRow, rowOf, joinWith, heardWith, putRow, flow, joinsActed, onward, gather, spread, noteNamed, mix};
-ghost use Rattle.theory.specs.Reckonings.{clockOwn, clocksArrived, clocksFull, clockApart, clockMask, clockMasks, masksBy};
-ghost use Rattle.theory.specs.Acceptance.{Fitting};
+ghost use Rattle.theory.specs.Completion.{arrived, full};
+ghost use Rattle.theory.specs.Reckonings.{clockOwn, clocksBy, clockApart, clockMask, clockMasks};
+ghost use Rattle.theory.specs.Limits.{tasks, variables};
+ghost use Rattle.theory.specs.Recording.{Op, kind as number};
+ghost use Rattle.theory.specs.Acceptance.{Fitting, Proper};
 
 // Where the row of what has acted begins.
 const ACTED: usize = 1296;
@@ -36,7 +39,7 @@ fn greater(a: u32, b: u32) -> u32
 // What row `from` knows is known to row `to` as well.
 fn join_row(cells: &mut Clocks, to: usize, from: usize)
     requires { ⌜ (to < 82) × (from < 82) ⌝ }
-    ensures { λ _. ⌜ now (cells .exit) ≡ joinRow max 16 to from (now (cells .entry)) ⌝ }
+    ensures { λ _. ⌜ now (cells .exit) ≡ joinRow max tasks to from (now (cells .entry)) ⌝ }
 {
     if to == from {
         return;
@@ -51,7 +54,7 @@ fn join_row(cells: &mut Clocks, to: usize, from: usize)
 // A row by itself.
 fn row_of(cells: &Clocks, from: usize) -> [u32; 16]
     requires { ⌜ from < 82 ⌝ }
-    ensures { λ r. ⌜ r ≡ rowOf 16 from (now (cells .entry)) ⌝ }
+    ensures { λ r. ⌜ r ≡ rowOf tasks from (now (cells .entry)) ⌝ }
 {
     let mut row = [0u32; 16];
     let mut c = 0;
@@ -65,7 +68,7 @@ fn row_of(cells: &Clocks, from: usize) -> [u32; 16]
 // What a row that stands by itself knows is known to row `to` as well.
 fn join_with(cells: &mut Clocks, to: usize, row: &[u32; 16])
     requires { ⌜ to < 82 ⌝ }
-    ensures { λ _. ⌜ now (cells .exit) ≡ joinWith max 16 to (now (row .entry)) (now (cells .entry)) ⌝ }
+    ensures { λ _. ⌜ now (cells .exit) ≡ joinWith max tasks to (now (row .entry)) (now (cells .entry)) ⌝ }
 {
     let mut c = 0;
     while c < 16 {
@@ -77,7 +80,7 @@ fn join_with(cells: &mut Clocks, to: usize, row: &[u32; 16])
 // Row `to` with the cells of a row that stands by itself.
 fn put_row(cells: &mut Clocks, to: usize, row: &[u32; 16])
     requires { ⌜ to < 82 ⌝ }
-    ensures { λ _. ⌜ now (cells .exit) ≡ putRow 16 to (now (row .entry)) (now (cells .entry)) ⌝ }
+    ensures { λ _. ⌜ now (cells .exit) ≡ putRow tasks to (now (row .entry)) (now (cells .entry)) ⌝ }
 {
     let mut c = 0;
     while c < 16 {
@@ -89,8 +92,8 @@ fn put_row(cells: &mut Clocks, to: usize, row: &[u32; 16])
 // Order over an act: the task's next act knows what the heard row knows; from a copy that stays in registers it is passed on, to an object
 // and to the hub alike.
 fn flow(cells: &mut Clocks, heard: usize, told: usize, task: usize)
-    requires { ⌜ (heard < 82) × (told < 82) × (task < 16) ⌝ }
-    ensures { λ _. ⌜ now (cells .exit) ≡ flow max 16 heard told task (now (cells .entry)) ⌝ }
+    requires { ⌜ (heard < 82) × (told < 82) × (task < tasks) ⌝ }
+    ensures { λ _. ⌜ now (cells .exit) ≡ flow max tasks heard told task (now (cells .entry)) ⌝ }
 {
     join_row(cells, task, heard);
     if told == task {
@@ -107,7 +110,7 @@ fn flow(cells: &mut Clocks, heard: usize, told: usize, task: usize)
 // A row by itself with what row `from` knows, too.
 fn heard_with(cells: &Clocks, from: usize, row: &[u32; 16]) -> [u32; 16]
     requires { ⌜ from < 82 ⌝ }
-    ensures { λ r. ⌜ r ≡ heardWith max 16 from (now (row .entry)) (now (cells .entry)) ⌝ }
+    ensures { λ r. ⌜ r ≡ heardWith max tasks from (now (row .entry)) (now (cells .entry)) ⌝ }
 {
     let mut next = [0u32; 16];
     let mut c = 0;
@@ -120,7 +123,7 @@ fn heard_with(cells: &Clocks, from: usize, row: &[u32; 16]) -> [u32; 16]
 
 // What a mark's lost records can hear comes to the hub, by way of a row that stays in registers.
 fn gather(cells: &mut Clocks, mask: u32)
-    ensures { λ _. ⌜ now (cells .exit) ≡ gather max 16 mask (now (cells .entry)) ⌝ }
+    ensures { λ _. ⌜ now (cells .exit) ≡ gather max tasks mask (now (cells .entry)) ⌝ }
 {
     let mut known = [0u32; 16];
     let mut t = 0;
@@ -135,7 +138,7 @@ fn gather(cells: &mut Clocks, mask: u32)
 // What the hub knows, all that they can tell knows, from a copy that stays in the processor's registers. Every object is told, so that
 // nothing is asked of the rows after the tasks'.
 fn spread(cells: &mut Clocks, mask: u32)
-    ensures { λ _. ⌜ now (cells .exit) ≡ spread 16 mask (now (cells .entry)) ⌝ }
+    ensures { λ _. ⌜ now (cells .exit) ≡ spread tasks mask (now (cells .entry)) ⌝ }
 {
     let hub = row_of(cells, HUB);
     let mut r = 0;
@@ -151,7 +154,7 @@ fn spread(cells: &mut Clocks, mask: u32)
 
 // The tasks that the mask names have acted.
 fn note_named(cells: &mut Clocks, mask: u32)
-    ensures { λ _. ⌜ now (cells .exit) ≡ noteNamed 16 mask (now (cells .entry)) ⌝ }
+    ensures { λ _. ⌜ now (cells .exit) ≡ noteNamed tasks mask (now (cells .entry)) ⌝ }
 {
     let mut t = 0;
     while t < 16 {
@@ -162,7 +165,7 @@ fn note_named(cells: &mut Clocks, mask: u32)
 
 // The fullest filling of a mark.
 fn mix(cells: &mut Clocks, mask: u32)
-    ensures { λ _. ⌜ now (cells .exit) ≡ mix max 16 mask (now (cells .entry)) ⌝ }
+    ensures { λ _. ⌜ now (cells .exit) ≡ mix max tasks mask (now (cells .entry)) ⌝ }
 {
     gather(cells, mask);
     spread(cells, mask);
@@ -171,8 +174,8 @@ fn mix(cells: &mut Clocks, mask: u32)
 
 // An act joins a task that has acted.
 fn joins_acted(cells: &Clocks, kind: u8, on: u32) -> bool
-    requires { ⌜ (kind ≡ 7 → on < 16) ⌝ }
-    ensures { λ r. ⌜ r ≡ joinsActed 16 (now (cells .entry)) kind on ⌝ }
+    requires { ⌜ (kind ≡ number Op.join → on < tasks) ⌝ }
+    ensures { λ r. ⌜ r ≡ joinsActed tasks (now (cells .entry)) kind on ⌝ }
 {
     if kind == JOIN {
         0 < cells[ACTED + on as usize]
@@ -184,7 +187,7 @@ fn joins_acted(cells: &Clocks, kind: u8, on: u32) -> bool
 // Order over an act of a kind.
 fn pass_on(cells: &mut Clocks, kind: u8, task: u32, on: u32)
     requires { ⌜ Fitting kind task on ⌝ }
-    ensures { λ _. ⌜ now (cells .exit) ≡ onward max 16 kind task on (now (cells .entry)) ⌝ }
+    ensures { λ _. ⌜ now (cells .exit) ≡ onward max tasks kind task on (now (cells .entry)) ⌝ }
 {
     let joins = joins_acted(cells, kind, on);
     flow(
@@ -197,7 +200,7 @@ fn pass_on(cells: &mut Clocks, kind: u8, task: u32, on: u32)
 
 // An act's own part: the task's own cell is the act's number, and the task has acted.
 fn own(cells: &mut Clocks, task: u32, number: u32)
-    requires { ⌜ task < 16 ⌝ }
+    requires { ⌜ task < tasks ⌝ }
     ensures { λ _. ⌜ now (cells .exit) ≡ clockOwn task number (now (cells .entry)) ⌝ }
 {
     let t = task as usize;
@@ -214,9 +217,9 @@ pub(crate) fn advance_clocks(
     on: u32,
     number: u32,
 )
-    requires { ⌜ (eqb kind 8 ≡ false → Fitting kind task on) ⌝ }
-    ensures { λ _. ⌜ (now (clocks .exit) ≡ clocksArrived kind task on number (now (clocks .entry)))
-        × (now (fullclocks .exit) ≡ clocksFull kind task on number (now (fullclocks .entry))) ⌝ }
+    requires { ⌜ Proper kind task on ⌝ }
+    ensures { λ _. ⌜ (now (clocks .exit) ≡ clocksBy arrived kind task on number (now (clocks .entry)))
+        × (now (fullclocks .exit) ≡ clocksBy full kind task on number (now (fullclocks .entry))) ⌝ }
 {
     if kind == LOST {
         mix(fullclocks, on);
@@ -233,36 +236,24 @@ pub(crate) fn advance_clocks(
 
 // Whether task u's latest conflicting access is not known to the acting task. Of its own the task knows.
 fn apart(cells: &Clocks, last: &History, kind: u8, task: u32, on: u32, u: u32) -> bool
-    requires { ⌜ (task < 16) × (on < 64) × (u < 16) ⌝ }
+    requires { ⌜ (task < tasks) × (on < variables) × (u < tasks) ⌝ }
     ensures { λ r. ⌜ r ≡ clockApart (now (cells .entry)) (now (last .entry)) kind task on u ⌝ }
 {
     cells[task as usize * 16 + u as usize] < latest_number(last, kind, on, u)
 }
 
-// Both masks of an access. Sums of weights that grow upward, of both tables in one loop, are what the compiler makes vector code of.
-fn masks(
-    clocks: &Clocks,
-    fullclocks: &Clocks,
-    last: &History,
-    kind: u8,
-    task: u32,
-    on: u32,
-) -> Masks
-    requires { ⌜ (task < 16) × (on < 64) ⌝ }
-    ensures { λ r. ⌜ r ≡ masksBy (clockMask (now (fullclocks .entry)) (now (last .entry)) kind task on) (clockMask (now (clocks .entry)) (now (last .entry)) kind task on) ⌝ }
+// The mask of an access in one filling.
+fn mask(cells: &Clocks, last: &History, kind: u8, task: u32, on: u32) -> u16
+    requires { ⌜ (task < tasks) × (on < variables) ⌝ }
+    ensures { λ r. ⌜ r ≡ clockMask (now (cells .entry)) (now (last .entry)) kind task on ⌝ }
 {
-    let mut full: u32 = 0;
-    let mut arrived: u32 = 0;
+    let mut x: u32 = 0;
     let mut u: u32 = 0;
-    while u < 16 {
-        full = full + weight_of(apart(fullclocks, last, kind, task, on, u), u);
-        arrived = arrived + weight_of(apart(clocks, last, kind, task, on, u), u);
+    while u < TASKS {
+        x = x | weight_of(apart(cells, last, kind, task, on, u), u);
         u += 1;
     }
-    Masks {
-        full: full as u16,
-        arrived: arrived as u16,
-    }
+    lower_half(x)
 }
 
 // The masks of the tasks whose latest conflicting access has no path to this access; empty for any other record.
@@ -274,11 +265,14 @@ pub(crate) fn clock_masks(
     task: u32,
     on: u32,
 ) -> Masks
-    requires { ⌜ (eqb kind 8 ≡ false → Fitting kind task on) ⌝ }
+    requires { ⌜ Proper kind task on ⌝ }
     ensures { λ r. ⌜ r ≡ clockMasks (now (clocks .entry)) (now (fullclocks .entry)) (now (last .entry)) kind task on ⌝ }
 {
     if is_access(kind) {
-        return masks(clocks, fullclocks, last, kind, task, on);
+        return Masks {
+            full: mask(fullclocks, last, kind, task, on),
+            arrived: mask(clocks, last, kind, task, on),
+        };
     }
     Masks {
         full: 0,

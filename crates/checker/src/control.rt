@@ -4,6 +4,8 @@ use theory::JOIN;
 use theory::START;
 ghost use mathlib.Core.Path.{_≡_};
 ghost use Prim.Native.Nat.{_<_};
+ghost use Rattle.theory.specs.Limits.{tasks, records};
+ghost use Rattle.theory.specs.Acceptance.{NamesTask};
 ghost use Rattle.theory.specs.Control.{liveIn, unseenIn, countIn, counted, controlAfter};
 
 const UNSEEN: u32 = 0;
@@ -16,14 +18,14 @@ const ENDED: u32 = 2;
 pub(crate) const COUNT: usize = 16;
 
 pub(crate) fn is_live(control: &Control, t: usize) -> bool
-    requires { ⌜ t < 17 ⌝ }
+    requires { ⌜ t < tasks ⌝ }
     ensures { λ r. ⌜ r ≡ liveIn (now (control .entry)) t ⌝ }
 {
     control[t] == LIVE
 }
 
 pub(crate) fn is_unseen(control: &Control, t: usize) -> bool
-    requires { ⌜ t < 17 ⌝ }
+    requires { ⌜ t < tasks ⌝ }
     ensures { λ r. ⌜ r ≡ unseenIn (now (control .entry)) t ⌝ }
 {
     control[t] == UNSEEN
@@ -31,7 +33,7 @@ pub(crate) fn is_unseen(control: &Control, t: usize) -> bool
 
 // One more accepted record. The bound keeps the sum within its type.
 fn count(control: &mut Control)
-    requires { ⌜ countIn (now control) < 60_000 ⌝ }
+    requires { ⌜ countIn (now control) < records ⌝ }
     ensures { λ _. ⌜ now (control .exit) ≡ counted (now (control .entry)) ⌝ }
 {
     control[COUNT] = control[COUNT] + 1;
@@ -39,8 +41,8 @@ fn count(control: &mut Control)
 
 // Notes an accepted record. Each arm counts and returns by itself, so that the proof has one table at each return and no join of arms.
 pub(crate) fn note(control: &mut Control, kind: u8, on: usize)
-    requires { ⌜ (kind ≡ 6 → on < 16) × (kind ≡ 7 → on < 16) ⌝ }
-    requires { ⌜ countIn (now control) < 60_000 ⌝ }
+    requires { ⌜ NamesTask kind on ⌝ }
+    requires { ⌜ countIn (now control) < records ⌝ }
     ensures { λ _. ⌜ now (control .exit) ≡ controlAfter kind on (now (control .entry)) ⌝ }
 {
     match kind {

@@ -6,12 +6,11 @@ use theory::History;
 use theory::Masks;
 use theory::RecordNumber;
 ghost use mathlib.Core.Path.{_≡_};
-ghost use Prim.Native.Nat.{_<_, _*_, _^_};
+ghost use Prim.Native.Nat.{_<_, _+_, _*_, _%_, _^_};
 ghost use Rattle.theory.specs.Reckonings.{bitOf, lowestTask};
 ghost use Rattle.theory.specs.Step.{judgedBy, answeredBy};
-ghost use mathlib.Core.Bool.{false};
-ghost use lib.Dec.{eqb};
-ghost use Rattle.theory.specs.Acceptance.{Fitting};
+ghost use Rattle.theory.specs.Limits.{tasks, variables};
+ghost use Rattle.theory.specs.Acceptance.{Proper};
 
 // The bit of weight 2 to the power k.
 pub(crate) fn weight(k: u32) -> u32
@@ -21,25 +20,33 @@ pub(crate) fn weight(k: u32) -> u32
     1 << k
 }
 
-// What task u adds to a mask that it is in or not.
+// What task u adds to a mask that it is in or not: its bit, and again in the upper half of the word. A loop that gathers such weights by `|` is
+// made vector code of; one of single bits, or of sums, is not.
 pub(crate) fn weight_of(b: bool, u: u32) -> u32
-    requires { ⌜ u < 16 ⌝ }
-    ensures { λ r. ⌜ r ≡ bitOf b * 2 ^ u ⌝ }
+    requires { ⌜ u < tasks ⌝ }
+    ensures { λ r. ⌜ r ≡ bitOf b * (2 ^ u * 2 ^ 16 + 2 ^ u) ⌝ }
 {
-    if b { weight(u) } else { 0 }
+    if b { weight(u) * 65_537 } else { 0 }
+}
+
+// The lower half of the word: each task's bit once.
+pub(crate) fn lower_half(x: u32) -> u16
+    ensures { λ r. ⌜ r ≡ x % 2 ^ 16 ⌝ }
+{
+    (x % 65_536) as u16
 }
 
 // The lowest-numbered task of a mask that is not empty.
 fn lowest(mask: u16) -> u32
     requires { ⌜ (mask ≡ 0 → ⊥) ⌝ }
-    ensures { λ r. ⌜ (r ≡ lowestTask mask) × (r < 16) ⌝ }
+    ensures { λ r. ⌜ (r ≡ lowestTask mask) × (r < tasks) ⌝ }
 {
     u16::trailing_zeros(mask)
 }
 
 // The answer to an accepted access.
 pub(crate) fn judged(last: &History, kind: u8, on: u32, number: u32, masks: Masks) -> Answer
-    requires { ⌜ on < 64 ⌝ }
+    requires { ⌜ on < variables ⌝ }
     ensures { λ r. ⌜ r ≡ judgedBy (now (last .entry)) kind on number (masks .full) (masks .arrived) ⌝ }
 {
     let full = masks.full;
@@ -68,7 +75,7 @@ pub(crate) fn answered(
     number: u32,
     masks: Masks,
 ) -> Answer
-    requires { ⌜ (eqb kind 8 ≡ false → Fitting kind task on) ⌝ }
+    requires { ⌜ Proper kind task on ⌝ }
     ensures { λ r. ⌜ r ≡ answeredBy (now (last .entry)) kind on number masks ⌝ }
 {
     if is_access(kind) {

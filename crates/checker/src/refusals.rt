@@ -24,7 +24,8 @@ ghost use mathlib.Core.Bool.{not, _&&_, _||_};
 ghost use Prim.Native.Nat.{_<_, _^_};
 ghost use lib.Dec.{leb, eqb};
 ghost use Rattle.theory.specs.Limits.{tasks, records};
-ghost use Rattle.theory.specs.Recording.{lossMark, seriesOf};
+ghost use Rattle.theory.specs.Recording.{Op, kind as number, lossMark, seriesOf};
+ghost use Rattle.theory.proofs.Acceptance.{OfAct};
 ghost use Rattle.theory.specs.Completion.{names};
 ghost use Rattle.theory.specs.Acceptance.{anyBelow};
 ghost use Rattle.theory.specs.Control.{liveIn, unseenIn, countIn, refusalIn};
@@ -78,8 +79,8 @@ fn full(control: &Control) -> bool
 
 // Row 7: a start of a task that is not unseen.
 fn starts_seen(control: &Control, kind: u8, on: u32) -> bool
-    requires { ⌜ (kind ≡ 6 → on < tasks) ⌝ }
-    ensures { λ r. ⌜ r ≡ (eqb kind 6 && not (unseenIn (now (control .entry)) on)) ⌝ }
+    requires { ⌜ (kind ≡ number Op.start → on < tasks) ⌝ }
+    ensures { λ r. ⌜ r ≡ (eqb kind (number Op.start) && not (unseenIn (now (control .entry)) on)) ⌝ }
 {
     if kind == START {
         !is_unseen(control, on as usize)
@@ -90,15 +91,15 @@ fn starts_seen(control: &Control, kind: u8, on: u32) -> bool
 
 // Row 8: a join of the acting task itself.
 fn joins_itself(kind: u8, task: u32, on: u32) -> bool
-    ensures { λ r. ⌜ r ≡ (eqb kind 7 && eqb on task) ⌝ }
+    ensures { λ r. ⌜ r ≡ (eqb kind (number Op.join) && eqb on task) ⌝ }
 {
     both(kind == JOIN, on == task)
 }
 
 // Row 9: a join of a task that is not live.
 fn joins_dead(control: &Control, kind: u8, on: u32) -> bool
-    requires { ⌜ (kind ≡ 7 → on < tasks) ⌝ }
-    ensures { λ r. ⌜ r ≡ (eqb kind 7 && not (liveIn (now (control .entry)) on)) ⌝ }
+    requires { ⌜ (kind ≡ number Op.join → on < tasks) ⌝ }
+    ensures { λ r. ⌜ r ≡ (eqb kind (number Op.join) && not (liveIn (now (control .entry)) on)) ⌝ }
 {
     if kind == JOIN {
         !is_live(control, on as usize)
@@ -154,7 +155,7 @@ fn mark_refusal(control: &Control, r: Record) -> u32
 
 // The rows that can apply to an act. Rows 2 and 3 come first, so that those after them find the tasks in the table.
 fn act_refusal(control: &Control, r: Record) -> u32
-    requires { ⌜ r .kind < lossMark ⌝ }
+    requires { ⌜ OfAct r ⌝ }
     ensures { λ n. ⌜ n ≡ refusalIn (now (control .entry)) r ⌝ }
 {
     if TASKS <= r.task {

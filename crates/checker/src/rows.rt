@@ -10,6 +10,7 @@ use theory::Task;
 ghost use mathlib.Core.Path.{_≡_};
 ghost use mathlib.Core.Bool.{cond};
 ghost use Prim.Native.Nat.{_<_};
+ghost use Rattle.theory.specs.Limits.{tasks};
 ghost use Rattle.theory.specs.Completion.{bit};
 ghost use Rattle.theory.specs.Tables.{dueRow, semaphoreRow, flagRow, heardRow, toldRow, isTold, rowOrHub};
 
@@ -74,7 +75,7 @@ pub(crate) fn has_bit(mask: u32, t: u32) -> bool
 
 // The row of task t's next act where the mask names it, and the hub where not.
 pub(crate) fn named_row(mask: u32, t: usize) -> usize
-    requires { ⌜ t < 16 ⌝ }
+    requires { ⌜ t < tasks ⌝ }
     ensures { λ q. ⌜ (q ≡ rowOrHub (bit mask t) t) × (q < 82) ⌝ }
 {
     if has_bit(mask, t as u32) { t } else { HUB }

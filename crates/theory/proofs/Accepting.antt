@@ -1,38 +1,37 @@
 -- What a step may count on once no row applies, and what its definition comes to in either case. Assumes nothing.
-use mathlib.Core.Path.{_≡_, refl, sym, _∙_}
-use mathlib.Core.Bool.{true, false}
+use mathlib.Core.Path.{_≡_, refl, sym, _∙_, ap, subst}
 use mathlib.Core.List.{List}
 use Prim.Native.Nat.{ℕ, zero, suc, _<_}
 use native.Mathlib.Omega.{arith}
-use borrow.Author.Tests.{eqb-false}
-use lib.Dec.{eqb}
 use Rattle.theory.specs.declared.record.Record.{Record}
 use Rattle.theory.specs.declared.answer.Answer.the-variants.{Refused}
 use Rattle.theory.specs.declared.state.SetState.{SetState}
 use Rattle.theory.specs.declared.state.State.{State}
 use Rattle.theory.specs.Limits.{tasks, records}
-use Rattle.theory.specs.Recording.{start, join, kind, lossMark}
-use Rattle.theory.specs.Acceptance.{Fitting}
+use Rattle.theory.specs.Recording.{Op, start, join, kind, lossMark, seriesOf}
+use Rattle.theory.specs.Acceptance.{Proper, NamesTask}
 use Rattle.theory.specs.Control.{countIn, standingIn, refusalIn}
 use Rattle.theory.specs.declared.masks.Masks.{Masks}
 use Rattle.theory.specs.Reckonings.{masksBy}
 use Rattle.theory.specs.Step.{masksUnless, setStepBy, stepBy}
 use Rattle.theory.proofs.Acceptance.{allowed}
 
--- an accepted record's numbers are in their ranges, and there is room for it
+-- an accepted record is proper, and there is room for it
 pub record Accepts (control : List ℕ) (r : Record) : Type 0 where
   pub room : countIn control < records
-  pub fits : eqb (r .kind) lossMark ≡ false → Fitting (r .kind) (r .task) (r .on)
-  pub on-task : (r .kind ≡ kind start → r .on < tasks) × (r .kind ≡ kind join → r .on < tasks)
+  pub proper : Proper (r .kind) (r .task) (r .on)
 
 pub accepts : (control : List ℕ) (r : Record) (n : ℕ) → n ≡ refusalIn control r → n ≡ 0 → Accepts control r
 accepts control r n e z =
     let p = allowed (standingIn control) r (sym e ∙ z) in
-    record {
-      room = p .room;
-      fits = λ q. p .act (eqb-false (r .kind) lossMark q) .fits;
-      on-task = (λ q. rw q at (p .act (λ w. omega arith) .fits .on-fits), λ q. rw q at (p .act (λ w. omega arith) .fits .on-fits));
-    }
+    record { room = p .room; proper = record { act-fits = λ q. p .act q .fits; mark-names = λ q. p .mark q .some } }
+
+-- a proper start or join names a task
+pub names-task : {k task on : ℕ} → Proper k task on → NamesTask k on
+names-task {k} {task} {on} p = record { started = λ q. of start refl (λ w. omega arith) q; joined = λ q. of join refl (λ w. omega arith) q }
+  where
+    of : (o : Op) → seriesOf (kind o) ≡ tasks → (k ≡ lossMark → ⊥) → k ≡ kind o → on < tasks
+    of o e n q = subst (λ (i : ℕ). on < i) (ap seriesOf q ∙ e) (p .act-fits n .on-fits)
 
 -- a refused record leaves the state as it was
 

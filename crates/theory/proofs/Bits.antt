@@ -6,7 +6,8 @@ use native.Mathlib.Nat.{pow-suc, add-mul, mul-assoc, zero-mul}
 use native.Mathlib.Numerals.{add-one}
 use native.Mathlib.Omega.{arith}
 use lib.Count.{trailingZeros, under, trailing-of-zero}
-use lib.Pow.{pow-mono}
+use lib.Bits.{bitOr, or-block, or-shifted-r, or-zero-r}
+use lib.Pow.{pow-mono, pow-lt}
 use Rattle.theory.specs.Turns.{turns}
 use Rattle.theory.specs.Reckonings.{bitOf, maskOf, lowestTask}
 
@@ -156,3 +157,43 @@ sums-all p n e = let z : upper p 0 * 2 ^ n ≡ 0 = rw (upper-none p) (zero-mul (
 pub all-sums : {p : ℕ → Bool} {u m : ℕ} → Summed p u m → u ≤ 16 → 16 ≤ u → m ≡ maskOf p
 unfolding maskOf
 all-sums {p} {u} s h l = s .is ∙ sums-all p u (omega arith)
+
+-- The mask as an "or" of weights that stand twice in a word, which the compiler makes vector code of: as a sum, or with single bits, it
+-- does not
+
+pub record Gathered (p : ℕ → Bool) (u x : ℕ) : Type 0 where
+  pub m : ℕ
+  pub summed : Summed p u m
+  pub twice : x ≡ m * 2 ^ 16 + m
+
+module _ {p : ℕ → Bool} where
+  pub no-weights : Gathered p 0 0
+  no-weights = record { m = 0; summed = no-sum; twice = refl }
+
+  pub one-weight : {u x r : ℕ} {b : Bool} → u < 16 → Gathered p u x → r ≡ bitOf b * (2 ^ u * 2 ^ 16 + 2 ^ u) → b ≡ p u → Gathered p (u + 1) (bitOr x r)
+  one-weight {u} {x} {r} {b} h g e t = record { m = g .m + bitOf b * 2 ^ u; summed = one-sum (g .summed) refl t; twice = rw (g .twice, e) (of b) }
+    where
+      room : g .m < 2 ^ 16
+      room = sum-fits (g .summed) (omega arith)
+
+      weight : 2 ^ u < 2 ^ 16
+      weight = pow-lt h
+
+      of : (b : Bool) → bitOr (g .m * 2 ^ 16 + g .m) (bitOf b * (2 ^ u * 2 ^ 16 + 2 ^ u)) ≡ (g .m + bitOf b * 2 ^ u) * 2 ^ 16 + (g .m + bitOf b * 2 ^ u)
+      of true =
+          let one : 1 * (2 ^ u * 2 ^ 16 + 2 ^ u) ≡ 2 ^ u * 2 ^ 16 + 2 ^ u = omega arith in
+          let joined : bitOr (g .m) (2 ^ u) ≡ g .m + 1 * 2 ^ u = single in
+          rw (one, or-block 16 (g .m) (2 ^ u) (g .m) (2 ^ u) room weight, joined)
+        where
+          single : bitOr (g .m) (2 ^ u) ≡ g .m + 1 * 2 ^ u
+          single = let q : bitOr (g .m) (1 * 2 ^ u) ≡ 1 * 2 ^ u + g .m = or-shifted-r 1 u (g .m) (g .summed .room) in let z : 1 * 2 ^ u ≡ 2 ^ u = omega arith in rw (← z) (q ∙ omega arith)
+      of false =
+          let none : 0 * (2 ^ u * 2 ^ 16 + 2 ^ u) ≡ 0 = zero-mul (2 ^ u * 2 ^ 16 + 2 ^ u) in
+          let same : g .m + 0 * 2 ^ u ≡ g .m = omega (arith, zero-mul (2 ^ u)) in
+          rw (none, same) (or-zero-r (g .m * 2 ^ 16 + g .m))
+
+  pub all-weights : {u x : ℕ} → Gathered p u x → u ≤ 16 → 16 ≤ u → x % 2 ^ 16 ≡ maskOf p
+  all-weights {u} {x} g h l =
+      let room = sum-fits (g .summed) h in
+      let low : x % 2 ^ 16 ≡ g .m = omega (arith, g .twice) in
+      low ∙ all-sums (g .summed) h l

@@ -13,7 +13,6 @@ use Rattle.theory.specs.Tables.{mark, cell}
 use Rattle.theory.specs.Reckonings.{clockOwn, clockAct}
 use Rattle.theory.proofs.Reflects.{Reflects, right, wrong, equal, at-most, both}
 use Rattle.theory.proofs.Carry.{Node, due, Tells}
-
 use Rattle.theory.proofs.Tables.{Sized, Joins, Knows, knows-same, same-max, sized-fresh}
 use Rattle.theory.proofs.Acting.{sized-flow, flow-acted, sized-clock-own, clock-own-same, clock-own-other, clock-own-acted}
 use Rattle.theory.proofs.Mixing.{sized-mark}

@@ -147,8 +147,11 @@ module _ (s s′ : Standing) (r : Record) (same-count : s .count ≡ s′ .count
 
   mark-same : firstRow (markRows s r) ≡ firstRow (markRows s′ r)
   mark-same =
-      rw (same-count, any-same tasks (λ t. names (r .on) t && not (s .live t)) (λ t. names (r .on) t && not (s′ .live t))
-      (λ t h. rw (same-live t h)))
+      rw (
+        same-count,
+        any-same tasks (λ t. names (r .on) t && not (s .live t)) (λ t. names (r .on) t && not (s′ .live t))
+            (λ t h. rw (same-live t h)),
+      )
 
   -- standings that agree on the tasks refuse the same records
   refusal-same : refusalBy s r ≡ refusalBy s′ r

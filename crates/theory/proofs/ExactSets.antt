@@ -9,14 +9,12 @@ use lib.Bits.{bitOr}
 use lib.Dec.{T, eqb}
 use lib.ListN.{length, replicate}
 use Rattle.theory.specs.Recording.{Op, Event, act, lost, series, kind, kindAt}
-
 use Rattle.theory.specs.Completion.{bit, Named, Filling, arrived, full}
 use Rattle.theory.specs.Tables.{cell, noteActed, mark}
 use Rattle.theory.specs.History.{askers, asker, clashBy, slot, slots, underEach}
 use Rattle.theory.specs.Reckonings.{hasSlot, clearSlot, addSlot, setOwn, setAct}
 use Rattle.theory.proofs.Reflects.{Reflects, right, wrong, equal}
 use Rattle.theory.proofs.Carry.{Node, due, Tells}
-
 use Rattle.theory.proofs.Tables.{Sized, Knows, knows-same, sized-fresh}
 use Rattle.theory.proofs.Words.{joins-or}
 use Rattle.theory.proofs.Acting.{sized-flow, flow-acted, sized-note, note-other, note-cell, sized-afresh, afresh-own, afresh-cleared, afresh-other, afresh-acted}
@@ -120,17 +118,16 @@ module _ {w : Filling} {es : List Event} {b : List ℕ} {t n : ℕ} (o : Op) (x 
   wrote s l =
       under-each afresh (kind o) n t Whole (Begun s) (Kept s) s
       (λ a b′ ha c y.
-          let q = below a ha c in
-          record { sized = sized-afresh (y .sized) t (slot a n t) ht q; acted = λ u h. afresh-acted (y .sized) t (slot a n t) ht q u (omega arith) ∙ y .acted u h })
+      let q = below a ha c in
+      record { sized = sized-afresh (y .sized) t (slot a n t) ht q; acted = λ u h. afresh-acted (y .sized) t (slot a n t) ht q u (omega arith) ∙ y .acted u h })
       (λ a b′ ha c e y.
-          let q = below a ha c in
-          rw e (record { here = afresh-own (y .sized) t (slot a n t) ht q; elsewhere = λ r h d. afresh-cleared (y .sized) t (slot a n t) ht q r h d }))
+      let q = below a ha c in
+      rw e (record { here = afresh-own (y .sized) t (slot a n t) ht q; elsewhere = λ r h d. afresh-cleared (y .sized) t (slot a n t) ht q r h d }))
       (λ a b′ ha c d y.
-          let other : (r : ℕ) → r < 81 → hasSlot (afresh (slot a n t) b′) r s ≡ hasSlot b′ r s = λ r h. afresh-other (y .sized) t (slot a n t) ht (below a ha c) r s h l d in
-          (
-            λ z. record { here = other t (omega arith) ∙ z .here; elsewhere = λ r h q. other r h ∙ z .elsewhere r h q },
-            λ z. record { same = λ r h. other r h ∙ z .same r h },
-          ))
+      let other : (r : ℕ) → r < 81 → hasSlot (afresh (slot a n t) b′) r s ≡ hasSlot b′ r s = λ r h. afresh-other (y .sized) t (slot a n t) ht (below a ha c) r s h l d in (
+        λ z. record { here = other t (omega arith) ∙ z .here; elsewhere = λ r h q. other r h ∙ z .elsewhere r h q },
+        λ z. record { same = λ r h. other r h ∙ z .same r h },
+      ))
       b
       (record { sized = x .sized; acted = λ u h. refl })
       (record { same = λ r h. refl })

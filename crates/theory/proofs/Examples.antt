@@ -8,7 +8,6 @@ use native.Mathlib.Numerals.{add-one}
 use lib.Dec.{T}
 use lib.ListN.{length, getD, length-append}
 use Rattle.theory.specs.Recording.{Event, act, lost, isAccess}
-
 use Rattle.theory.specs.Order.{rule}
 use Rattle.theory.specs.Completion.{part, round, rounds, onEach}
 use Rattle.theory.specs.Decide.{Answer, answer, answersAfter, answers, judge}

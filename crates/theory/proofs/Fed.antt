@@ -16,7 +16,6 @@ use Rattle.theory.specs.Demands.{Firm}
 use Rattle.theory.specs.Decide.{judge, isAccessEvent}
 use Rattle.theory.specs.Control.{refusalIn}
 use Rattle.theory.specs.declared.masks.Masks.{Masks}
-
 use Rattle.theory.specs.Reckonings.{clockMasks, setMasks}
 use Rattle.theory.specs.Step.{nextNumber, answeredBy, stepOf, setStepOf}
 use Rattle.theory.specs.Turns.{turns}
@@ -24,7 +23,6 @@ use Rattle.theory.specs.Order.{rule}
 use Rattle.theory.specs.Completion.{rounds, round, part, onEach}
 use Rattle.theory.specs.Examples.{Example, table}
 use Rattle.theory.specs.Feeding.{recordOf, verdictsOf, FedExamples, Says, says-clear, says-race, says-doubt, isRefusal, acceptedOf, Got, got-now, got-later, got-refused, EachAccess, FedDemand2, FedDemand3, FedPartner, FedAcceptance, refusalNumber, refusalNumbers, refusalsAfter, verdictAnswer, acceptedAnswer, answerBy, answerTo, answersFrom, AnswersByTable, Checker, fedBy, fed, setFed, Demanded, Judged, GetsVerdict, Demand1, Handled, refused, access-taken, other-taken}
-
 use Rattle.theory.proofs.Reflects.{by-test, is-true}
 use Rattle.theory.proofs.Places.{Ends, ends, onward, at-ends}
 use Rattle.theory.proofs.Demands.{Ruling, judge-ruling, ruling-firm, ruling-with, firm-unmarked}

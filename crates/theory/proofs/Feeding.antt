@@ -13,7 +13,6 @@ use Rattle.theory.specs.declared.record.Record.{Record}
 use Rattle.theory.specs.declared.state.State.{State}
 use Rattle.theory.specs.declared.state.SetState.{SetState}
 use Rattle.theory.specs.Recording.{Op, Event, act, lost, kind, lossMark, eventOf, isAccess}
-
 use Rattle.theory.specs.Completion.{names, Named, arrived, full, Filling}
 use Rattle.theory.specs.Acceptance.{isLive, phase, Standing, standing, refusal, joined, fedAfter}
 use Rattle.theory.specs.Control.{controlAfter}
@@ -25,7 +24,6 @@ use Rattle.theory.specs.Feeding.{Checker, fedTo, afterAll, byClocks, byS
 use Rattle.theory.proofs.Reflects.{Reflects, right, wrong, by-test, equal, is-true}
 use Rattle.theory.proofs.Acceptance.{ActAllowed, MarkAllowed, Allowed, allowed}
 use Rattle.theory.proofs.Ops.{op-of, no-mark, event-act, on-series, access-on, access-tests, other-tests}
-
 use Rattle.theory.proofs.Marks.{bit-named}
 use Rattle.theory.proofs.Exact.{Filled-in, nobody, somebody}
 use Rattle.theory.proofs.Reach.{arrived-nothing}

@@ -31,6 +31,7 @@ pub mod Acted
 pub mod Exact
 pub mod ExactClocks
 pub mod Slots
+pub mod Numbered
 pub mod ExactSets
 -- The step finds what the search finds: masks, the running state, feeding, and the demands for it
 pub mod Bits

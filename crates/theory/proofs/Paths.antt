@@ -13,14 +13,11 @@ use Rattle.theory.specs.declared.state.State.{State}
 use Rattle.theory.specs.declared.state.SetState.{SetState}
 use Rattle.theory.specs.Limits.{tasks}
 use Rattle.theory.specs.Recording.{Op, Event, act, kind, eventOf, accesses, isAccess}
-
 use Rattle.theory.specs.Acceptance.{refusal, recording}
 use Rattle.theory.specs.Verdict.{Latest, ApartAsArrived, ApartInAll}
-
 use Rattle.theory.specs.Reckonings.{clockApart, setApart, maskOf, masksBy, clockMasks, setMasks}
 use Rattle.theory.specs.Step.{masksUnless, apartByClocks, apartBySets, freshState, freshSets}
 use Rattle.theory.specs.Feeding.{afterAll, byClocks, bySets, SaysPaths, ClockPaths, SetPaths, ReckoningsMatch}
-
 use Rattle.theory.proofs.Places.{Ends, Occurs}
 use Rattle.theory.proofs.Leads.{Leads}
 use Rattle.theory.specs.Completion.{fillWith, arrived, full, filling}

@@ -6,7 +6,6 @@ use mathlib.Core.Option.{none, some}
 use Prim.Native.Nat.{ℕ, _<_}
 use lib.Dec.{T, eqb}
 use Rattle.theory.specs.Recording.{Op, Event, act, kind, ActsIn, acts, isAccess}
-
 use Rattle.theory.specs.Completion.{rounds, nothing, Filling, filling}
 use Rattle.theory.specs.History.{latestNumber}
 use Rattle.theory.specs.Reckonings.{clockApart, setApart, clockMask, setMask, lowestTask}
@@ -14,7 +13,6 @@ use Rattle.theory.specs.Decide.{judged, judge, partner}
 use Rattle.theory.specs.Step.{verdictBy, judgedBy}
 use Rattle.theory.specs.Feeding.{verdictAnswer}
 use Rattle.theory.proofs.Reflects.{Reflects, right, wrong, by-test}
-
 use Rattle.theory.proofs.Bits.{mask-ext}
 use Rattle.theory.proofs.Places.{Occurs}
 use Rattle.theory.proofs.Decide.{Candidate}

@@ -67,7 +67,7 @@ module _ {A : Type 0} (f : ℕ → A → A) (k v u : ℕ) where
       (ok : (a : ℕ) (b : A) → a < length askers → T (clashBy (kindAt k) (asker a)) → Ok b → Ok (f (slot a v u) b))
       (on : (a : ℕ) (b : A) → a < length askers → T (clashBy (kindAt k) (asker a)) → s ≡ slot a v u → Ok b → On (f (slot a v u) b))
       (apart : (a : ℕ) (b : A) → a < length askers → T (clashBy (kindAt k) (asker a)) → s ≢ slot a v u → Ok b →
-          (On b → On (f (slot a v u) b)) × (Off b → Off (f (slot a v u) b))) where
+      (On b → On (f (slot a v u) b)) × (Off b → Off (f (slot a v u) b))) where
     abbrev Wrote : ℕ → A → Type 0
     Wrote = WroteTo Ok On Off s
 

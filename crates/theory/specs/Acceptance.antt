@@ -1,6 +1,8 @@
 -- Which records are accepted: rows 1 to 9 of the refusal table, over the recording so far.
 use Prim.Native.Nat.{ℕ, zero, suc, _^_, _<_}
 use mathlib.Core.Bool.{Bool, true, false, cond, not, _&&_, _||_}
+use mathlib.Core.Path.{_≡_}
+use mathlib.Core.Logic.{_≢_}
 use mathlib.Core.List.{List, [], _∷_, _++_}
 use lib.Dec.{leb, eqb}
 use lib.ListN.{length}
@@ -48,6 +50,16 @@ phase es t = phaseFrom (cond (eqb t zero) live unseen) es t
 pub record Fitting (k task on : ℕ) : Type 0 where
   pub task-fits : task < tasks
   pub on-fits : on < seriesOf k
+
+-- what the code for an accepted record may rely on: an act's numbers are in their ranges, and a mark names somebody
+pub record Proper (k task on : ℕ) : Type 0 where
+  pub act-fits : k ≢ lossMark → Fitting k task on
+  pub mark-names : k ≡ lossMark → 0 < on
+
+-- a start and a join name a task
+pub record NamesTask (k on : ℕ) : Type 0 where
+  pub started : k ≡ kind start → on < tasks
+  pub joined : k ≡ kind join → on < tasks
 
 -- the record is a loss mark
 abbrev pub isMark : Record → Bool

@@ -8,7 +8,6 @@ use lib.Dec.{leb, eqb}
 use lib.ListN.{getD, length}
 use lib.ListN as ListN
 use Rattle.theory.specs.Recording.{take, give, look, set, start, join, Event, act, lost, _is_, isAccess}
-
 use Rattle.theory.specs.Order.{clashes}
 use Rattle.theory.specs.Completion.{fillWith, nothing, rounds}
 use Rattle.theory.specs.Verdict.{Verdict, Race, Clear, Doubt}

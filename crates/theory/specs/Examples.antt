@@ -5,7 +5,6 @@ use mathlib.Core.Path.{_≡_}
 use mathlib.Core.List.{List, [], _∷_}
 use lib.Dec.{T}
 use Rattle.theory.specs.Recording.{Op, read, write, take, give, look, set, start, join, Event, act, lost, isAccess}
-
 use Rattle.theory.specs.Verdict.{Verdict, Race, Clear, Doubt, With}
 use Rattle.theory.specs.Demands.{Firm}
 use Rattle.theory.specs.Decide.{Answer}

@@ -21,7 +21,6 @@ use Rattle.theory.specs.Demands.{Firm}
 use Rattle.theory.specs.Decide.{judge, isAccessEvent}
 use Rattle.theory.specs.Limits.{tasks}
 use Rattle.theory.specs.Control.{refusalIn}
-
 use Rattle.theory.specs.Reckonings.{clockApart, setApart}
 use Rattle.theory.specs.Decide
 use Rattle.theory.specs.Examples.{Example, table}

@@ -17,8 +17,8 @@ pub const JOIN: u8 = 7;
 
 pub const LOST: u8 = 8;
 
-// The kinds below this one are accesses.
-pub const ACCESSES: u8 = 2;
+// How many of the kinds are accesses: each asks the history.
+pub const ASKERS: usize = 2;
 
 // How many kinds there are.
 pub const KINDS: u8 = LOST + 1;

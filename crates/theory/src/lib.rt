@@ -9,7 +9,7 @@ mod record;
 mod state;
 
 pub use answer::Answer;
-pub use kinds::ACCESSES;
+pub use kinds::ASKERS;
 pub use kinds::GIVE;
 pub use kinds::JOIN;
 pub use kinds::KINDS;
