@@ -11,20 +11,23 @@ ghost use Prim.Native.Nat.{_<_};
 ghost use Rattle.theory.specs.Acceptance.{Proper};
 ghost use Rattle.theory.specs.Recording.{accesses, kindAt};
 ghost use Rattle.theory.specs.Limits.{tasks, variables};
-ghost use Rattle.theory.specs.History.{asker, askAt, clashBy, slot, slots, latestNumber, lastAfter};
+ghost use mathlib.Core.Bool.{cond};
+ghost use lib.ListN.{set, length};
+ghost use Rattle.theory.specs.History.{askers, asker, askAt, clashBy, slot, slots, latestNumber, lastAfter};
 
 pub(crate) fn is_access(kind: u8) -> bool
     ensures { λ r. ⌜ r ≡ accesses kind ⌝ }
 {
     match kind {
-        READ | WRITE => true,
+        READ => true,
+        WRITE => true,
         _ => false,
     }
 }
 
 // The number of a kind of access among those that ask.
 pub(crate) fn ask_at(kind: u8) -> usize
-    ensures { λ r. ⌜ (r ≡ askAt kind) × (r < 2) ⌝ }
+    ensures { λ r. ⌜ (r ≡ askAt kind) × (r < length askers) ⌝ }
 {
     match kind {
         WRITE => 1,
@@ -34,7 +37,7 @@ pub(crate) fn ask_at(kind: u8) -> usize
 
 // Whether a record of this kind clashes with the kind of access that has number a.
 pub(crate) fn clashes(kind: u8, a: usize) -> bool
-    requires { ⌜ a < 2 ⌝ }
+    requires { ⌜ a < length askers ⌝ }
     ensures { λ r. ⌜ r ≡ clashBy (kindAt kind) (asker a) ⌝ }
 {
     match kind {
@@ -46,7 +49,7 @@ pub(crate) fn clashes(kind: u8, a: usize) -> bool
 
 // Where it is kept what the kind of access with number a asks of task u, for variable v.
 pub(crate) fn slot(a: usize, v: Variable, u: Task) -> usize
-    requires { ⌜ (a < 2) × (v .0 < variables) × (u .0 < tasks) ⌝ }
+    requires { ⌜ (a < length askers) × (v .0 < variables) × (u .0 < tasks) ⌝ }
     ensures { λ r. ⌜ (r ≡ slot a (v .0) (u .0)) × (r < slots) ⌝ }
 {
     (a * 64 + v.0 as usize) * 16 + u.0 as usize
@@ -60,6 +63,16 @@ pub(crate) fn latest_number(last: &History, kind: u8, v: u32, u: u32) -> u32
     last[slot(ask_at(kind), Variable(v), Task(u))]
 }
 
+// An access kept under the kind of access with number a, if it clashes with that.
+fn keep_under(last: &mut History, a: usize, kind: u8, task: u32, on: u32, number: u32)
+    requires { ⌜ (a < length askers) × Proper kind task on ⌝ }
+    ensures { λ _. ⌜ now (last .exit) ≡ cond (clashBy (kindAt kind) (asker a)) (set (now (last .entry)) (slot a on task) number) (now (last .entry)) ⌝ }
+{
+    if clashes(kind, a) {
+        last[slot(a, Variable(on), Task(task))] = number;
+    }
+}
+
 // The history after an accepted record: an access is kept under each kind that it clashes with.
 pub(crate) fn keep(last: &mut History, kind: u8, task: u32, on: u32, number: u32)
     requires { ⌜ Proper kind task on ⌝ }
@@ -67,9 +80,7 @@ pub(crate) fn keep(last: &mut History, kind: u8, task: u32, on: u32, number: u32
 {
     let mut a = 0;
     while a < ASKERS {
-        if clashes(kind, a) {
-            last[slot(a, Variable(on), Task(task))] = number;
-        }
+        keep_under(last, a, kind, task, on, number);
         a += 1;
     }
 }

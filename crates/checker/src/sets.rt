@@ -32,7 +32,10 @@ ghost use lib.Bits.{bitOr};
 ghost use Rattle.theory.specs.Tables.{joinRow, rowOf, joinWith, putRow, flow, joinsActed, onward, gather, spread, noteNamed, mix};
 ghost use Rattle.theory.specs.Reckonings.{slotWords, knownSlots, clearSlot, addSlot, setOwn, setsBy, setMask, setMasks};
 ghost use Rattle.theory.specs.Completion.{arrived, full};
-ghost use Rattle.theory.specs.History.{slots, underEach};
+ghost use mathlib.Core.Bool.{cond};
+ghost use lib.ListN.{length};
+ghost use Rattle.theory.specs.Recording.{kindAt};
+ghost use Rattle.theory.specs.History.{askers, asker, clashBy, slot as slotOf, slots, underEach};
 ghost use Rattle.theory.proofs.Reckoned.{apartBy};
 ghost use Rattle.theory.specs.Limits.{tasks, variables};
 ghost use Rattle.theory.specs.Recording.{Op, kind as number};
@@ -206,6 +209,16 @@ fn begin_slot(cells: &mut Sets, r: usize, s: usize)
     add_slot(cells, r, s);
 }
 
+// An access kept anew under the kind of access with number a, if it clashes with that.
+fn keep_under(cells: &mut Sets, a: usize, kind: u8, task: u32, on: u32)
+    requires { ⌜ (a < length askers) × Fitting kind task on ⌝ }
+    ensures { λ _. ⌜ now (cells .exit) ≡ cond (clashBy (kindAt kind) (asker a)) (addSlot task (slotOf a on task) (clearSlot (slotOf a on task) (now (cells .entry)))) (now (cells .entry)) ⌝ }
+{
+    if clashes(kind, a) {
+        begin_slot(cells, task as usize, slot(a, Variable(on), Task(task)));
+    }
+}
+
 // An access is kept anew in each of its slots.
 fn keep_anew(cells: &mut Sets, kind: u8, task: u32, on: u32)
     requires { ⌜ Fitting kind task on ⌝ }
@@ -213,9 +226,7 @@ fn keep_anew(cells: &mut Sets, kind: u8, task: u32, on: u32)
 {
     let mut a = 0;
     while a < ASKERS {
-        if clashes(kind, a) {
-            begin_slot(cells, task as usize, slot(a, Variable(on), Task(task)));
-        }
+        keep_under(cells, a, kind, task, on);
         a += 1;
     }
 }
@@ -276,7 +287,7 @@ pub(crate) fn advance_sets(sets: &mut Sets, fullsets: &mut Sets, kind: u8, task:
 
 // What row r knows of what the kind of access with number a asks of the tasks, for variable v: from bit 0 on a bit for each task.
 fn known_slots(cells: &Sets, r: usize, a: usize, v: u32) -> u32
-    requires { ⌜ (r < 82) × (a < 2) × (v < variables) ⌝ }
+    requires { ⌜ (r < 82) × (a < length askers) × (v < variables) ⌝ }
     ensures { λ q. ⌜ q ≡ knownSlots (now (cells .entry)) r a v ⌝ }
 {
     let s = slot(a, Variable(v), Task(0));

@@ -12,6 +12,7 @@ use theory::Answer;
 use theory::Clocks;
 use theory::Control;
 use theory::History;
+use theory::Masks;
 use theory::Record;
 use theory::SetState;
 use theory::SetStepped;
@@ -19,8 +20,33 @@ use theory::Sets;
 use theory::State;
 use theory::Stepped;
 ghost use mathlib.Core.Path.{_≡_};
-ghost use Rattle.theory.specs.Step.{stepOf, setStepOf};
-ghost use Rattle.theory.specs.Lent.{tables, setTables};
+ghost use Prim.Native.Nat.{_<_};
+ghost use Rattle.theory.specs.Limits.{records};
+ghost use Rattle.theory.specs.Acceptance.{Proper};
+ghost use Rattle.theory.specs.Control.{countIn, controlAfter};
+ghost use Rattle.theory.specs.History.{lastAfter};
+ghost use Rattle.theory.specs.Step.{nextNumber, answeredBy, stepOf, setStepOf};
+ghost use Rattle.theory.specs.Lent.{seen, tables, setTables};
+
+// What both steps do with an accepted record beside their own tables: it is answered, counted and kept.
+fn take_in(
+    control: &mut Control,
+    last: &mut History,
+    kind: u8,
+    task: u32,
+    on: u32,
+    masks: Masks,
+) -> Answer
+    requires { ⌜ Proper kind task on × (countIn (now control) < records) ⌝ }
+    ensures { λ a. let c = seen control in let l = seen last in ⌜ (a ≡ answeredBy (l .entry) kind on (nextNumber (c .entry)) masks)
+        × (c .exit ≡ controlAfter kind on (c .entry)) × (l .exit ≡ lastAfter kind task on (nextNumber (c .entry)) (l .entry)) ⌝ }
+{
+    let number = control[COUNT] + 1;
+    let answer = answered(last, kind, task, on, number, masks);
+    note(control, kind, on as usize);
+    keep(last, kind, task, on, number);
+    answer
+}
 
 // Feeds a record. A refused record leaves every table as it was.
 pub fn step_in_place(
@@ -38,9 +64,7 @@ pub fn step_in_place(
     }
     let number = control[COUNT] + 1;
     let masks = clock_masks(clocks, fullclocks, last, r.kind, r.task, r.on);
-    let answer = answered(last, r.kind, r.task, r.on, number, masks);
-    note(control, r.kind, r.on as usize);
-    keep(last, r.kind, r.task, r.on, number);
+    let answer = take_in(control, last, r.kind, r.task, r.on, masks);
     advance_clocks(clocks, fullclocks, r.kind, r.task, r.on, number);
     answer
 }
@@ -59,11 +83,8 @@ pub fn set_step_in_place(
     if refused != 0 {
         return Answer::Refused(refused);
     }
-    let number = control[COUNT] + 1;
     let masks = set_masks(sets, fullsets, last, r.kind, r.task, r.on);
-    let answer = answered(last, r.kind, r.task, r.on, number, masks);
-    note(control, r.kind, r.on as usize);
-    keep(last, r.kind, r.task, r.on, number);
+    let answer = take_in(control, last, r.kind, r.task, r.on, masks);
     advance_sets(sets, fullsets, r.kind, r.task, r.on);
     answer
 }

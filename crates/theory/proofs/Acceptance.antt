@@ -7,12 +7,12 @@ use mathlib.Core.List.{List, [], _∷_}
 use Prim.Native.Nat.{ℕ, zero, suc, _+_, _^_, _≤_, _<_, zero-le}
 use native.Mathlib.Omega.{arith}
 use lib.Dec.{leb, ltb, eqb}
-use lib.ListN.{length, List·getD-eq-default}
+use lib.ListN.{length}
 use borrow.Author.Tests.{le-leb, lt-leb, ltb-true, leb-true, leb-false, ne-eqb, eqb-false, not-false}
 use Rattle.theory.specs.declared.record.Record.{Record}
-use Rattle.theory.specs.Limits.{tasks, variables, records}
+use Rattle.theory.specs.Limits.{tasks, records}
 use Rattle.theory.specs.Turns.{turns}
-use Rattle.theory.specs.Recording.{start, join, kind, Kind, of-mark, kinds, opBy, lossMark, series, seriesOf}
+use Rattle.theory.specs.Recording.{start, join, kind, kinds, lossMark, seriesOf}
 use Rattle.theory.specs.Completion.{bit, names}
 use Rattle.theory.specs.Acceptance.{hasKind, anyBelow, Standing, Row, _when_, rows, lastRow, firstRow, refusalBy, Fitting}
 use Rattle.theory.proofs.Reflects.{Reflects, right, wrong, equal}
@@ -26,10 +26,6 @@ series-pair a k n p q h l = decided (equal k a)
     decided : {b : Bool} → Reflects (k ≡ a) b → seriesOf k ≡ n
     decided (right e) = rw e p
     decided (wrong f) = let e : k ≡ a + 1 = omega arith in rw e q
-
--- above the kinds the series is that of a read
-pub series-above : (k : ℕ) → length kinds ≤ k → seriesOf k ≡ variables
-series-above k h = ap (λ (x : Kind). series (opBy x)) (List·getD-eq-default kinds of-mark h)
 
 -- row 3 of a kind whose series has n numbers
 pub within : (k n on : ℕ) → seriesOf k ≡ n → on < n → false ≡ leb (seriesOf k) on

@@ -4,11 +4,12 @@ use mathlib.Core.Bool.{Bool, true, false, not, _||_, _&&_}
 use mathlib.Core.Logic.{_≢_}
 use Prim.Native.Nat.{ℕ, zero, suc, _≤_, _<_}
 use native.Mathlib.Omega.{arith}
-use borrow.Author.Tests.{eqb-true, ne-eqb, not-false}
-use lib.Dec.{eqb}
+use borrow.Author.Tests.{eqb-true, ne-eqb, le-ltb, not-false}
+use lib.Dec.{ltb, eqb}
 use lib.ListN.{length, List·getD-eq-default}
+use Rattle.theory.specs.Limits.{variables}
 use Rattle.theory.specs.Turns.{turns}
-use Rattle.theory.specs.Recording.{Op, read, write, kind, Kind, of-op, of-mark, kinds, kindAt, accessBy, accesses, isAccess}
+use Rattle.theory.specs.Recording.{Op, read, write, kind, Kind, of-op, of-mark, kinds, kindAt, accessBy, accesses, isAccess, lossMark, seriesOf}
 use Rattle.theory.specs.Order.{rule, clashes}
 use Rattle.theory.specs.Acceptance.{anyBelow}
 use Rattle.theory.specs.History.{askers, asker, askAt, clashBy}
@@ -85,3 +86,17 @@ unfolding rule
 clash-write zero h = refl
 clash-write (suc zero) h = refl
 clash-write (suc (suc a)) h = absurd (omega arith)
+
+-- Series
+
+series-tried : anyBelow (length kinds) (λ k. not (ltb k lossMark || eqb (seriesOf k) variables)) ≡ false
+unfolding turns
+series-tried = refl
+
+-- from the loss mark on the series is that of a read
+pub series-above : (k : ℕ) → lossMark ≤ k → seriesOf k ≡ variables
+series-above k h =
+    eqb-true (seriesOf k) variables (rw (le-ltb k lossMark h) at (each-number (λ k. ltb k lossMark || eqb (seriesOf k) variables) series-tried beyond k))
+  where
+    beyond : (k : ℕ) → length kinds ≤ k → (ltb k lossMark || eqb (seriesOf k) variables) ≡ true
+    beyond k h = rw (kind-above k h, le-ltb k lossMark (omega arith))

@@ -1,16 +1,22 @@
 -- The ranges that acceptance gives: rows and slots of an act are in their tables. Assumes nothing.
-use mathlib.Core.Path.{_≡_, refl, sym, subst}
+use mathlib.Core.Path.{_≡_, refl, sym, _∙_, ap, subst}
 use mathlib.Core.Bool.{Bool, true, false, cond, _&&_, true≢false}
 use mathlib.Core.List.{List}
-use Prim.Native.Nat.{ℕ, zero, suc, _<_}
-use native.Mathlib.Nat.{not-suc-le-zero, le-of-suc-le-suc}
+use Prim.Native.Nat.{ℕ, _≤_, _<_}
+use mathlib.Core.Logic.{_≢_}
+use mathlib.Mathlib.Data.Bool.Basic.{and-elim-left}
 use native.Mathlib.Omega.{arith}
-use borrow.Author.Tests.{ne-eqb}
-use lib.Dec.{ltb, eqb}
-use Rattle.theory.specs.Recording.{seriesOf}
-use Rattle.theory.specs.Acceptance.{Fitting}
+use lib.Dec.{T, ltb, eqb}
+use lib.ListN.{length}
+use Rattle.theory.specs.Limits.{tasks, variables}
+use Rattle.theory.specs.Recording.{Op, kind, isAccess, lossMark, Kind, of-op, of-mark, kinds, kindAt, accessBy, accesses, seriesOf}
+use Rattle.theory.specs.Order.{rule}
+use Rattle.theory.specs.History.{clashBy}
+use Rattle.theory.specs.Acceptance.{Fitting, Proper}
 use Rattle.theory.specs.Tables.{cell, actedRow, joinsActed, heardRow, toldRow, onward}
-use Rattle.theory.proofs.Reflects.{Reflects, right, wrong, equal}
+use Rattle.theory.proofs.Reflects.{Reflects, right, wrong, equal, at-most}
+use Rattle.theory.proofs.Ops.{Role, a-take, a-give, a-look, a-set, a-start, a-join, plain, role, op-of, access-kind, access-on, series-op}
+use Rattle.theory.proofs.Numbered.{kind-above}
 use Rattle.theory.proofs.Tables.{Same}
 use Rattle.theory.proofs.Acting.{flow-alone}
 
@@ -56,25 +62,57 @@ joins-kind w b k on e = decided (equal k 7) e
     decided (right q) e = q
     decided (wrong n) e = absurd (true≢false (sym e))
 
-access-series : (k : ℕ) → k < 2 → seriesOf k ≡ 64
-access-series zero h = refl
-access-series (suc zero) h = refl
-access-series (suc (suc k)) h = absurd (not-suc-le-zero (le-of-suc-le-suc (le-of-suc-le-suc h)))
+-- the op of an access
+access-of : (k : ℕ) → accesses k ≡ true → (o : Op) × (k ≡ kind o) × T (isAccess o)
+access-of k e = let (o, q) = op-of k known no-mark in (o, q, subst T (sym (sym (access-kind o) ∙ (ap accesses (sym q) ∙ e))) tt)
+  where
+    known : k < length kinds
+    known = decided (at-most (length kinds) k)
+      where
+        decided : {b : Bool} → Reflects (length kinds ≤ k) b → k < length kinds
+        decided (right h) = absurd (true≢false (sym e ∙ ap accessBy (kind-above k h)))
+        decided (wrong n) = omega arith
+
+    no-mark : k ≢ lossMark
+    no-mark q = true≢false (sym e ∙ ap accesses q)
+
+-- an access is no mark
+pub access-acts : (k : ℕ) → accesses k ≡ true → k ≢ lossMark
+access-acts k e q = true≢false (sym e ∙ ap accesses q)
 
 -- an access hears and tells no other row
-access-alone : (w : ℕ) (b : List ℕ) (k t n : ℕ) → k < 2 → (heardRow k t n (joinsActed w b k n) ≡ t) × (toldRow k t n ≡ t)
-access-alone w b zero t n h = (refl, refl)
-access-alone w b (suc zero) t n h = (refl, refl)
-access-alone w b (suc (suc k)) t n h = absurd (not-suc-le-zero (le-of-suc-le-suc (le-of-suc-le-suc h)))
+access-alone : (w : ℕ) (b : List ℕ) (k t n : ℕ) → accesses k ≡ true → (heardRow k t n (joinsActed w b k n) ≡ t) × (toldRow k t n ≡ t)
+access-alone w b k t n e =
+    let (o, q, a) = access-of k e in
+    subst (λ (k : ℕ). (heardRow k t n (joinsActed w b k n) ≡ t) × (toldRow k t n ≡ t)) (sym q) (by-role (role o) a)
+  where
+    by-role : {o : Op} → Role o → T (isAccess o) → (heardRow (kind o) t n (joinsActed w b (kind o) n) ≡ t) × (toldRow (kind o) t n ≡ t)
+    by-role (plain x) a = (rw (x .not-take, x .not-look, x .not-join), rw (x .not-give, x .not-set, x .not-start))
+    by-role a-take a = absurd a
+    by-role a-give a = absurd a
+    by-role a-look a = absurd a
+    by-role a-set a = absurd a
+    by-role a-start a = absurd a
+    by-role a-join a = absurd a
 
 -- so it passes nothing on, in clocks and sets alike
-pub access-onward : {j : ℕ → ℕ → ℕ} → Same j → (w k t n : ℕ) (b : List ℕ) → k < 2 → t < 16 → b ≡ onward j w k t n b
+pub access-onward : {j : ℕ → ℕ → ℕ} → Same j → (w k t n : ℕ) (b : List ℕ) → accesses k ≡ true → t < 16 → b ≡ onward j w k t n b
 access-onward s w k t n b h l = let a = access-alone w b k t n h in rw (a .0, a .1) (flow-alone s w t b l)
 
 -- `on` of an access is a variable
-pub access-fits : {k t n : ℕ} → Fitting k t n → k < 2 → n < 64
-access-fits {k} {n = n} f h = subst (λ (i : ℕ). n < i) (access-series k h) (f .on-fits)
+pub access-fits : {k t n : ℕ} → Fitting k t n → accesses k ≡ true → n < variables
+access-fits {k} {n = n} f e =
+    let (o, q, a) = access-of k e in
+    access-on o a (subst (λ (i : ℕ). n < i) (ap seriesOf q ∙ series-op o) (f .on-fits))
 
--- an access is no mark
-pub access-acts : (k : ℕ) → k < 2 → eqb k 8 ≡ false
-access-acts k h = ne-eqb k 8 (λ e. omega arith)
+-- the ranges of a proper access
+pub access-proper : {k t n : ℕ} → Proper k t n → accesses k ≡ true → (t < tasks) × (n < variables)
+access-proper {k} p e = let f = p .act-fits (access-acts k e) in (f .task-fits, access-fits f e)
+
+-- what clashes with something is an access
+pub clash-access : (k : ℕ) (p : Op) → true ≡ clashBy (kindAt k) p → accesses k ≡ true
+clash-access k p e = of (kindAt k) e
+  where
+    of : (y : Kind) → true ≡ clashBy y p → accessBy y ≡ true
+    of (of-op o) e = and-elim-left (isAccess o) (isAccess p && rule o p) (sym e)
+    of of-mark e = absurd (true≢false e)
