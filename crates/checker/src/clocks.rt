@@ -1,8 +1,9 @@
 // Clocks: a table of 81 rows and a column for each task, and one row more that says which tasks have acted. A cell has the number of the
 // task's last record from which order has come to the row's node. One table is for the recording as it arrived, one for the fullest filling.
+use crate::history::ask_at;
 use crate::history::is_access;
-use crate::history::latest_number;
-use crate::masks::lower_half;
+use crate::history::slot;
+use crate::masks::both_halves;
 use crate::masks::weight_of;
 use crate::rows::HUB;
 use crate::rows::acted_after;
@@ -16,13 +17,16 @@ use theory::History;
 use theory::JOIN;
 use theory::LOST;
 use theory::Masks;
-use theory::TASKS;
 use theory::Task;
+use theory::Variable;
 ghost use mathlib.Core.Path.{_≡_};
-ghost use Prim.Native.Nat.{_<_, max};
+ghost use Prim.Native.Nat.{_<_, _≤_, _+_, max};
+ghost use lib.Dec.{ltb};
+ghost use lib.ListN.{getD};
+ghost use Rattle.theory.specs.History.{slots};
 ghost use Rattle.theory.specs.Tables.{joinRow, rowOf, joinWith, heardWith, putRow, flow, joinsActed, onward, gather, spread, noteNamed, mix};
 ghost use Rattle.theory.specs.Completion.{arrived, full};
-ghost use Rattle.theory.specs.Reckonings.{clockOwn, clocksBy, clockApart, clockMask, clockMasks};
+ghost use Rattle.theory.specs.Reckonings.{clockOwn, clocksBy, maskOf, clockMasks};
 ghost use Rattle.theory.specs.Limits.{tasks, variables};
 ghost use Rattle.theory.specs.Recording.{Op, kind as number};
 ghost use Rattle.theory.specs.Acceptance.{Fitting, Proper};
@@ -234,26 +238,19 @@ pub(crate) fn advance_clocks(
     pass_on(fullclocks, kind, task, on);
 }
 
-// Whether task u's latest conflicting access is not known to the acting task. Of its own the task knows.
-fn apart(cells: &Clocks, last: &History, kind: u8, task: u32, on: u32, u: u32) -> bool
-    requires { ⌜ (task < tasks) × (on < variables) × (u < tasks) ⌝ }
-    ensures { λ r. ⌜ r ≡ clockApart (now (cells .entry)) (now (last .entry)) kind task on u ⌝ }
-{
-    cells[task as usize * 16 + u as usize] < latest_number(last, kind, on, u)
-}
-
-// The mask of an access in one filling.
-fn mask(cells: &Clocks, last: &History, kind: u8, task: u32, on: u32) -> u16
-    requires { ⌜ (task < tasks) × (on < variables) ⌝ }
-    ensures { λ r. ⌜ r ≡ clockMask (now (cells .entry)) (now (last .entry)) kind task on ⌝ }
+// The mask of an access in one filling, from the task's row of clocks and from what the history has for its kind: the tasks whose latest
+// conflicting access the row does not know.
+fn mask(cells: &Clocks, last: &History, row: usize, from: usize) -> u16
+    requires { ⌜ (row + tasks ≤ 1312) × (from + tasks ≤ slots) ⌝ }
+    ensures { λ r. ⌜ r ≡ maskOf (λ u. ltb (getD (now (cells .entry)) (row + u) 0) (getD (now (last .entry)) (from + u) 0)) ⌝ }
 {
     let mut x: u32 = 0;
-    let mut u: u32 = 0;
-    while u < TASKS {
-        x = x | weight_of(apart(cells, last, kind, task, on, u), u);
+    let mut u: usize = 0;
+    while u < 16 {
+        x = x | weight_of(cells[row + u] < last[from + u], u as u32);
         u += 1;
     }
-    lower_half(x)
+    both_halves(x)
 }
 
 // The masks of the tasks whose latest conflicting access has no path to this access; empty for any other record.
@@ -269,9 +266,11 @@ pub(crate) fn clock_masks(
     ensures { λ r. ⌜ r ≡ clockMasks (now (clocks .entry)) (now (fullclocks .entry)) (now (last .entry)) kind task on ⌝ }
 {
     if is_access(kind) {
+        let row = task as usize * 16;
+        let from = slot(ask_at(kind), Variable(on), Task(0));
         return Masks {
-            full: mask(fullclocks, last, kind, task, on),
-            arrived: mask(clocks, last, kind, task, on),
+            full: mask(fullclocks, last, row, from),
+            arrived: mask(clocks, last, row, from),
         };
     }
     Masks {

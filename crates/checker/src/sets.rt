@@ -6,7 +6,7 @@ use crate::history::clashes;
 use crate::history::is_access;
 use crate::history::latest_number;
 use crate::history::slot;
-use crate::masks::lower_half;
+use crate::masks::both_halves;
 use crate::masks::weight;
 use crate::masks::weight_of;
 use crate::refusals::both;
@@ -314,7 +314,7 @@ fn mask(cells: &Sets, last: &History, kind: u8, task: u32, on: u32) -> u16
         x = x | weight_of(apart(known, last, kind, on, u), u);
         u += 1;
     }
-    lower_half(x)
+    both_halves(x)
 }
 
 // The masks of the tasks whose latest conflicting access has no path to this access; empty for any other record.

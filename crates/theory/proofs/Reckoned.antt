@@ -4,16 +4,17 @@ use mathlib.Core.Path.{_≡_, refl, sym, _∙_, ap, subst}
 use mathlib.Core.Bool.{Bool, true, false, cond, _&&_, not}
 use mathlib.Core.Logic.{_↔_, _⊎_, inl, inr, _≢_}
 use mathlib.Core.List.{List}
-use Prim.Native.Nat.{ℕ, zero, suc, _≤_, _<_, zero-le}
+use Prim.Native.Nat.{ℕ, zero, suc, _≤_, _<_, zero-le, _+_, _*_}
 use native.Mathlib.Nat.{le-refl}
 use native.Mathlib.Omega.{arith}
+use lib.ListN.{getD}
 use lib.Dec.{T, ltb}
 use Rattle.theory.specs.Recording.{Op, read, write, Event, act, lost, kind, ActsIn, acts, isAccess}
 use Rattle.theory.specs.Order.{Conflict, conflict}
 use Rattle.theory.specs.Completion.{bit, fillWith, Filling, filling}
 use Rattle.theory.specs.Tables.{cell}
-use Rattle.theory.specs.History.{askAt, slots, latestSlot, latestNumber}
-use Rattle.theory.specs.Reckonings.{hasSlot, knownSlots, clockApart, setApart, maskOf, setMask}
+use Rattle.theory.specs.History.{askAt, slot, slots, latestSlot, latestNumber}
+use Rattle.theory.specs.Reckonings.{hasSlot, knownSlots, clockApart, setApart, maskOf, setMask, clockMask}
 use Rattle.theory.proofs.Reflects.{Reflects, right, wrong, by-test, equal, at-most, fails, both, passed, passes}
 use Rattle.theory.proofs.Leads.{Leads}
 use Rattle.theory.proofs.Carry.{Node, due, Hears, own, own-next, Carry, pass, move, carry-skip, carry-append}
@@ -239,6 +240,14 @@ module _ {w : Filling} {es : List Event} {b last : List ℕ} (p : Op) (t v : ℕ
           by-place : {q : Bool} → Reflects (i ≡ d .j) q → Reach w (c .e) (c .after) (due t)
           by-place (right e) = occurs-same (λ e after. Reach w e after (due t)) (c .occurs) (occurs-there e (d .occurs)) (d .reach)
           by-place (wrong n) = absurd (d .chosen .1 (some-after (d .occurs) (c .occurs) (omega (arith, number, held-number)) (kept-at u i hu number (c .occurs) .0)))
+
+-- By rows
+
+-- the clocks' mask from the task's row and from what the history has for the kind
+pub mask-by-rows : (b last : List ℕ) (k t v : ℕ) {row from : ℕ} → row ≡ t * 16 → from ≡ slot (askAt k) v 0 →
+    maskOf (λ u. ltb (getD b (row + u) 0) (getD last (from + u) 0)) ≡ clockMask b last k t v
+mask-by-rows b last k t v e q =
+    mask-ext _ (clockApart b last k t v) (λ u h. let p : slot (askAt k) v 0 + u ≡ slot (askAt k) v u = omega arith in rw (e, q, p))
 
 -- By words
 

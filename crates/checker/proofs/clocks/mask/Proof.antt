@@ -1,33 +1,32 @@
 -- The mask of an access, gathered from the lowest task up.
-use Prim.Native.Nat.{_≤_, _-_}
+use mathlib.Core.Path.{refl, _∙_}
+use Prim.Native.Nat.{_≤_, _+_, _-_}
 use native.Mathlib.Omega.{arith}
-use mathlib.Core.Path.{_∙_}
+use lib.Dec.{ltb}
+use lib.ListN.{getD}
 use Rattle.theory.specs.Limits.{tasks}
-use Rattle.theory.specs.Reckonings.{clockApart}
 use Rattle.theory.proofs.Bits.{Gathered, no-weights, one-weight, all-weights}
 use borrow.Author.Needs.{needs}
 use Rattle.checker.proofs.clocks.mask.Statement.{statement}
 use Rattle.checker.proofs.clocks.mask.Tie as tie
 
 abbrev Inv-loop : tie.InvT-loop
-Inv-loop cells last kind task on x₀ u₀ x u = (u ≤ tasks) × Gathered (clockApart cells last kind task on) u x
+Inv-loop cells last row from x₀ u₀ x u = (u ≤ tasks) × Gathered (λ u. ltb (getD cells (row + u) 0) (getD last (from + u) 0)) u x
 
 abbrev μ-loop : tie.MeasureT-loop
-μ-loop cells last kind task on x₀ u₀ x u = tasks - u
+μ-loop cells last row from x₀ u₀ x u = tasks - u
 
 loop-holds : tie.Need-loop-holds Inv-loop μ-loop
 loop-holds c = (search needs, no-weights)
 
 loop-again : tie.Need-loop-again Inv-loop μ-loop
-loop-again c =
-    let at-apart = c .before in
-    (search needs, one-weight (omega arith) (at-apart .before .before .loop .inv .1) (c .weight-of .ensures) (at-apart .apart .ensures))
+loop-again c = (search needs, one-weight (omega arith) (c .before .before .before .before .loop .inv .1) (c .weight-of .ensures) refl)
 
 returns : tie.Need-returns Inv-loop μ-loop
-returns c = c .lower-half .ensures ∙ all-weights (c .before .before .loop .inv .1) (omega arith) (omega arith)
+returns c = c .both-halves .ensures ∙ all-weights (c .before .before .loop .inv .1) (omega arith) (omega arith)
 
 pub mask-spec : {M : Type 1} → statement M
 mask-spec =
     tie.close (tie.spec
-    Inv-loop μ-loop loop-holds (λ c κs. search needs) (λ c κs. search needs) (λ c. search needs) (λ c. search needs) loop-again
-    (λ c κs. search needs) returns)
+    Inv-loop μ-loop loop-holds (λ c. search needs) (λ c. search needs) (λ c. search needs) (λ c. search needs) (λ c. search needs)
+    (λ c. search needs) (λ c. search needs) (λ c κs. search needs) (λ c. search needs) (λ c. search needs) loop-again (λ c κs. search needs) returns)
