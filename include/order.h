@@ -1,4 +1,5 @@
-/* The order checker for a host program in C. Link the archive that `rt staticlib report` writes. */
+/* The order checker for a host program in C. Link the archives that `rt staticlib report` (order_report) and `rt staticlib host` (all else)
+ * write. */
 #ifndef ORDER_H
 #define ORDER_H
 
@@ -22,7 +23,7 @@ extern "C" {
  * any line. Each call begins from a fresh state.
  *
  * Both pointers must be valid for their lengths and not null, also where a length is 0, and the two must not overlap.
- * The call needs under 72 kilobytes of stack. */
+ * The call needs under 32 kilobytes of stack. */
 uint64_t order_report(const uint8_t *text, size_t text_len, uint8_t *report, size_t report_len);
 
 /* The kinds of records, for a host that feeds them one by one, without text. A record has a kind, an acting task and a number: of a
