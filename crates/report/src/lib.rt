@@ -2,7 +2,6 @@
 mod answering;
 mod decimal;
 mod entry;
-mod exports;
 mod parsing;
 mod reader;
 mod scan;
@@ -12,10 +11,6 @@ mod words;
 mod writing;
 
 pub use entry::order_report;
-pub use exports::order_begin;
-pub use exports::order_feed;
-pub use exports::order_sets_begin;
-pub use exports::order_sets_feed;
 pub use parsing::parse_line;
 pub use reader::LineReader;
 pub use reader::next_line;

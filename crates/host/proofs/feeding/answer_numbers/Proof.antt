@@ -1,7 +1,7 @@
 -- By the answer's case.
 use borrow.Author.Needs.{needs}
-use Rattle.report.proofs.exports.answer_numbers.Statement.{statement}
-use Rattle.report.proofs.exports.answer_numbers.Tie as tie
+use Rattle.host.proofs.feeding.answer_numbers.Statement.{statement}
+use Rattle.host.proofs.feeding.answer_numbers.Tie as tie
 
 returns : tie.Need-returns
 returns c = rw (c .before .a .given .1)

@@ -3,8 +3,8 @@ use mathlib.Core.Path.{_∙_, ap}
 use Rattle.theory.specs.declared.state.SetStepped.{SetStepped}
 use Rattle.theory.specs.Step.{answerNumbers}
 use borrow.Author.Needs.{needs}
-use Rattle.report.proofs.exports.order_sets_feed.Statement.{statement}
-use Rattle.report.proofs.exports.order_sets_feed.Tie as tie
+use Rattle.host.proofs.feeding.order_sets_feed.Statement.{statement}
+use Rattle.host.proofs.feeding.order_sets_feed.Tie as tie
 
 returns : tie.Need-returns
 returns c =
