@@ -16,7 +16,7 @@ use Rattle.theory.specs.declared.answer.Answer.the-variants.{Refused}
 use Rattle.theory.specs.Verdict.{Verdict, Race, Clear, Doubt}
 use Rattle.theory.specs.Control.{refusalIn}
 use Rattle.theory.specs.Step.{stepOf, freshState}
-use Rattle.theory.specs.Feeding.{Says, says-clear, says-race, says-doubt, fedTo, Handled, access-taken, other-taken}
+use Rattle.theory.specs.Feeding.{Says, says-clear, says-race, says-doubt, fedTo, byClocks, Handled, access-taken, other-taken}
 use Rattle.theory.specs.Feeding
 use Rattle.theory.proofs.Fed.{demand1}
 use Rattle.text.specs.declared.parsed.Parsed.{Parsed}
@@ -151,13 +151,13 @@ one-report text report a = answered-fixed a
 
 -- The answers are those of feeding
 
-told : (n : ℕ) (s : State) (lines : List (List ℕ)) → (rs : List Record) × Tells n lines rs (fedTo s rs) (reportFrom n s lines)
+told : (n : ℕ) (s : State) (lines : List (List ℕ)) → (rs : List Record) × Tells n lines rs (fedTo byClocks s rs) (reportFrom n s lines)
 unfolding reportFrom
 told n s [] = ([], tells-nothing)
 told n s (line ∷ lines) = by-parse (parseOf line) refl (told (suc n) (stateAfter s (parseOf line)) lines)
   where
-    by-parse : (p : Parsed) → parseOf line ≡ p → ((rs : List Record) × Tells (suc n) lines rs (fedTo (stateAfter s p) rs) (reportFrom (suc n) (stateAfter s p) lines))
-        → (rs : List Record) × Tells n (line ∷ lines) rs (fedTo s rs) (saidFor n s p ++ reportFrom (suc n) (stateAfter s p) lines)
+    by-parse : (p : Parsed) → parseOf line ≡ p → ((rs : List Record) × Tells (suc n) lines rs (fedTo byClocks (stateAfter s p) rs) (reportFrom (suc n) (stateAfter s p) lines))
+        → (rs : List Record) × Tells n (line ∷ lines) rs (fedTo byClocks s rs) (saidFor n s p ++ reportFrom (suc n) (stateAfter s p) lines)
     by-parse Parsed.Nothing e (rs, t) = (rs, tells-no-record (parsed-none line e) t)
     by-parse (Parsed.Record r) e (rs, t) = (r ∷ rs, tells-answer (parsed-form line r e) t)
 

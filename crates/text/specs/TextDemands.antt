@@ -10,6 +10,7 @@ use Rattle.theory.specs.declared.state.State.{State}
 use Rattle.theory.specs.declared.answer.Answer.{Answer}
 use Rattle.theory.specs.declared.answer.Answer.the-variants.{Accepted}
 use Rattle.theory.specs.Verdict.{Verdict, Race, Clear, Doubt}
+use Rattle.theory.specs.Acceptance.{lastRow}
 use Rattle.theory.specs.Control.{refusalIn}
 use Rattle.theory.specs.Recording.{accesses}
 use Rattle.theory.specs.Step.{recordNumber, nextNumber, stepOf, freshState}
@@ -37,7 +38,7 @@ pub data LineGot (n : ℕ) (s : State) (line : List ℕ) : State → List ℕ �
   -- "A line that yields no record is refused with 1"
   no-record : ((r : Record) → ¬ TextForm line r) → LineGot n s line s (refusedLine n 1)
   -- its record is refused with the number of the first row that applies, and the state stays
-  refused : {r : Record} {k : ℕ} → TextForm line r → refusalIn (s .control) r ≡ k → 1 ≤ k → k ≤ 9 → LineGot n s line s (refusedLine n k)
+  refused : {r : Record} {k : ℕ} → TextForm line r → refusalIn (s .control) r ≡ k → 1 ≤ k → k ≤ lastRow → LineGot n s line s (refusedLine n k)
   -- "One line for an accepted access", with its record number, its verdict and the partner
   judged : {r : Record} {v : Verdict} {w : ℕ} → TextForm line r → refusalIn (s .control) r ≡ 0 → accesses (r .kind) ≡ true →
       Says ((stepOf s r) .answer) (nextNumber (s .control)) v w →
