@@ -1,9 +1,9 @@
 //! Bad input at scale: random bytes, cut and spoilt texts, every length of report memory, and texts of megabytes.
 
 use crate::generate::{self, Random, Shape};
-use crate::oracle::{self, Fate, Record};
+use crate::oracle::{self, Fate, Judged, Record, Verdict};
 use crate::program::{self, Cuts};
-use crate::{entry, tally::Tally};
+use crate::{entry, feeding, tally::Tally};
 
 const SAMPLE: &str = "op=start task=0 on=1\nop=write task=0 on=5\nop=lost tasks=3\nop=read task=1 on=5\n\nop=join task=0 on=1";
 const MEGABYTE: usize = 1 << 20;
@@ -138,12 +138,31 @@ fn is_verdict(line: &str, rec: usize, act: oracle::Act) -> bool {
     partner && ["clear", "race", "doubt"].contains(&verdict)
 }
 
-/// Recordings past the limit with all kinds of records, marks and damage.
+/// The verdicts of an orderly report, read back.
+fn judged(recording: &[Record], report: &[u8]) -> Vec<Judged> {
+    let report = String::from_utf8_lossy(report);
+    let verdicts = report.lines().filter_map(|line| line.split_once(" verdict=")?.1.split_once(" with="));
+    let judge = |(access, (verdict, with)): (oracle::Access, (&str, &str))| {
+        let verdict = match verdict {
+            "clear" => Verdict::Clear,
+            "race" => Verdict::Race,
+            _ => Verdict::Doubt,
+        };
+        Judged { access, verdict, with: with.parse().unwrap_or(0) }
+    };
+    oracle::accesses(recording).into_iter().zip(verdicts).map(judge).collect()
+}
+
+/// Recordings past the limit with all kinds of records, marks and damage. They are too long for the search, so the running state and
+/// the sets are held against the entry.
 fn past_the_limit(tally: &mut Tally, order: Option<&str>) {
     for (seed, (stray, damage)) in [(0, 0), (10, 10), (30, 40)].into_iter().enumerate() {
         let shape = Shape { length: 90_000, tasks: 16, variables: 64, objects: 32, marks: 5, named: usize::MAX, idle: 30, stray, damage };
         let text = generate::recording(&mut Random::new(seed as u64), &shape);
         large(tally, order, &format!("past the limit, {seed}"), &text, &|got| orderly(&text, got));
+        let reading = oracle::read(&text);
+        let judged = judged(&reading.recording, &entry::report(&text, 0).unwrap_or_default());
+        feeding::expect(tally, &format!("past the limit, {seed}, as the entry"), &feeding::records(&text), &reading, &judged);
     }
     let text = generate::recording(&mut Random::new(9), &Shape { length: 200, ..generate::shape(&mut Random::new(9)) });
     let report = entry::report(&text, 0).unwrap_or_default();

@@ -1,17 +1,20 @@
-//! Tests from outside: the C entry and the program `order` against the plain path search, byte for byte, and bad input at scale.
-//! `outside [PROGRAM]` runs them; without a program only the C entry is tested.
+//! Tests from outside: the C entry and the program `order` against the plain path search, byte for byte, and bad input at scale; the
+//! running state and the sets, fed without text, against the same search, answer for answer.
+//! `outside [PROGRAM]` runs them; without a program only the archive is tested.
 //! `outside --report` prints what the plain path search says of the recording on standard input.
 
 mod bad;
 mod entry;
 mod examples;
+mod feeding;
 mod generate;
+mod numbers;
 mod oracle;
 mod program;
 mod tally;
 
 use generate::{filling, recording, shape, Random, Shape};
-use oracle::{Fate, Verdict};
+use oracle::{Fate, Judged, Verdict};
 use program::{Cuts, WAYS};
 use std::io::Read;
 use tally::Tally;
@@ -27,6 +30,8 @@ fn run_examples(tally: &mut Tally, order: Option<&str>) {
         let name = example.name.escape_debug();
         tally.expect(&format!("oracle, {name}"), &example.text, &example.report, Ok(oracle::report_of(&example.text).into()));
         tally.expect(&format!("entry, {name}"), &example.text, &example.report, entry::report(&example.text, at));
+        let reading = oracle::read(&example.text);
+        feeding::expect(tally, &name.to_string(), &feeding::records(&example.text), &reading, &oracle::judge(&reading.recording));
         if let Some(order) = order {
             let cuts = WAYS[at % WAYS.len()];
             tally.expect(&format!("program, {name}"), &example.text, &example.report, program::report(order, &example.text, cuts));
@@ -42,10 +47,15 @@ fn run_examples(tally: &mut Tally, order: Option<&str>) {
 
 fn run_full(tally: &mut Tally, order: Option<&str>) {
     let example = examples::full();
-    let refused = oracle::read(&example.text).fates.iter().filter(|fate| matches!(fate, Fate::Refused(_))).count();
+    let reading = oracle::read(&example.text);
+    let refused = reading.fates.iter().filter(|fate| matches!(fate, Fate::Refused(_))).count();
     tally.check(refused == 7, || format!("oracle, row 5: {refused} lines refused"));
     let whole = |answer: Result<Vec<u8>, String>| answer.is_ok_and(|got| got == example.report.as_bytes());
     tally.check(whole(entry::report(&example.text, 0)), || "entry, row 5".to_string());
+    // The search would take too long; one task alone has no conflict.
+    let clear = |access| Judged { access, verdict: Verdict::Clear, with: 0 };
+    let judged: Vec<_> = oracle::accesses(&reading.recording).into_iter().map(clear).collect();
+    feeding::expect(tally, "row 5", &feeding::records(&example.text), &reading, &judged);
     if let Some(order) = order {
         tally.check(whole(program::report(order, &example.text, Cuts::Nowhere)), || "program, row 5".to_string());
     }
@@ -85,8 +95,11 @@ fn run_between(tally: &mut Tally) {
         from = upto;
     }
     for middle in middles {
-        let text = format!("op=start task=0 on=1\nop=write task=0 on=5\n{middle}op=write task=1 on=5\n");
-        tally.expect("entry, in between", text.as_bytes(), &oracle::report_of(text.as_bytes()), entry::report(text.as_bytes(), 0));
+        let text = format!("op=start task=0 on=1\nop=write task=0 on=5\n{middle}op=write task=1 on=5\n").into_bytes();
+        let reading = oracle::read(&text);
+        let judged = oracle::judge(&reading.recording);
+        tally.expect("entry, in between", &text, &oracle::report(&reading, &judged), entry::report(&text, 0));
+        feeding::expect(tally, "in between", &feeding::records(&text), &reading, &judged);
     }
 }
 
@@ -134,6 +147,7 @@ fn run_one(tally: &mut Tally, random: &mut Random, name: &str, shape: &Shape, or
     }
     tally.see("recordings with a mark", reading.recording.iter().any(|record| matches!(record, oracle::Record::Lost(_))) as usize);
     tally.expect(&format!("entry, {name}"), &text, &report, entry::report(&text, random.below(70)));
+    feeding::expect(tally, name, &feeding::records(&text), &reading, &judged);
     run_row_11(tally, &text);
     if let Some((order, cuts)) = order {
         tally.see("recordings for the program", 1);
@@ -188,8 +202,11 @@ fn on_threads(tally: &mut Tally, part: impl Fn(u64) -> Tally + Sync) {
 /// A test that never met a verdict or a refusal says nothing about it.
 fn run_coverage(tally: &mut Tally) {
     let rows = [1, 2, 3, 4, 6, 7, 8, 9].map(|row| format!("refused {row}"));
-    let others = ["race", "clear", "doubt", "doubt tipped by a random completion", "recordings with a mark"].map(String::from);
-    for what in rows.into_iter().chain(others) {
+    let unsayable = [1, 2, 3, 4].map(|row| format!("unsayable, refused {row}"));
+    let others =
+        ["race", "clear", "doubt", "doubt tipped by a random completion", "recordings with a mark", "tables of any content, accepted"]
+            .map(String::from);
+    for what in rows.into_iter().chain(unsayable).chain(others) {
         let times = tally.seen.get(&what).copied().unwrap_or(0);
         println!("seen: {what}: {times}");
         tally.check(times >= 50, || format!("seen too seldom: {what}"));
@@ -219,6 +236,7 @@ fn run_all(order: Option<&str>) {
     tally.part("generated recordings");
     on_threads(&mut tally, run_long);
     tally.part("long recordings");
+    numbers::run(&mut tally);
     bad::run(&mut tally, order);
     run_coverage(&mut tally);
     tally.part("coverage");

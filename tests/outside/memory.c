@@ -1,4 +1,5 @@
-/* The C entry in memory allotted to the byte, to be run under valgrind: it must touch nothing beyond it and use nothing unset. */
+/* The C entry, the running state and the sets in memory allotted to the byte, to be run under valgrind: they must touch nothing beyond
+ * it and use nothing unset. */
 #include <stdio.h>
 #include <stdlib.h>
 #include <string.h>
@@ -43,6 +44,50 @@ static void around(const char *text, size_t text_len) {
     if (need) call(text, text_len, need - 1, 0);
 }
 
+static uint32_t *cells(size_t count) {
+    uint32_t *memory = malloc(count * sizeof *memory);
+    if (!memory) abort();
+    return memory;
+}
+
+/* All cells are read, so that an unset one would show: it leaves no bit of the sum known. */
+static uint32_t sum(const uint32_t *memory, size_t count) {
+    uint32_t all = 0;
+    for (size_t i = 0; i < count; i++) all += memory[i];
+    return all;
+}
+
+typedef void begin_call(uint32_t *, uint32_t *, uint32_t *, uint32_t *);
+typedef void feed_call(uint32_t *, uint32_t *, uint32_t *, uint32_t *, uint8_t, uint32_t, uint32_t, uint32_t *);
+
+/* Tables and answers are unset before their calls. Starts come first and joins last, so that there are tasks to act. */
+static void fed(const char *name, begin_call *begin, feed_call *feed, size_t size) {
+    static const uint8_t kinds[] = {ORDER_START, ORDER_WRITE, ORDER_GIVE, ORDER_SET,  ORDER_LOST,
+                                    ORDER_TAKE,  ORDER_LOOK,  ORDER_READ, ORDER_JOIN, 255};
+    static const uint32_t numbers[] = {0, 1, 3, 15, 16, 31, 32, 63, 64, 32768, 65535, 65536, UINT32_MAX};
+    enum { KINDS = sizeof kinds, NUMBERS = sizeof numbers / sizeof numbers[0] };
+    uint32_t *control = cells(17), *last = cells(2048), *arrived = cells(size), *full = cells(size);
+    int right = 1;
+    begin(control, last, arrived, full);
+    for (size_t i = 0; i < KINDS * NUMBERS * NUMBERS; i++) {
+        uint32_t *answer = cells(3);
+        feed(control, last, arrived, full, kinds[i / (NUMBERS * NUMBERS)], numbers[i / NUMBERS % NUMBERS], numbers[i % NUMBERS], answer);
+        right = right && answer[0] <= ORDER_DOUBT && answer[1] > 0 && (answer[2] > 0) == (answer[0] >= ORDER_RACE);
+        free(answer);
+    }
+    right = right && sum(control, 17) > 0 && sum(last, 2048) > 0 && sum(arrived, size) > 0 && sum(full, size) > 0;
+    if (right) {
+        passed++;
+    } else {
+        failed++;
+        printf("FAILED: an answer or a table of the %s\n", name);
+    }
+    free(control);
+    free(last);
+    free(arrived);
+    free(full);
+}
+
 int main(void) {
     static const char sample[] =
         "op=start task=0 on=1\nop=write task=0 on=5\nop=give task=0 on=31\nop=set task=0 on=31\nop=lost tasks=3\nop=take task=1 on=31\n"
@@ -56,6 +101,8 @@ int main(void) {
     for (size_t cut = 1; cut < len; cut += 5) around(sample, cut);
     for (size_t cut = 1; cut < len; cut += 23) around(sample + cut, len - cut);
     for (size_t length = 0; length < 64; length++) call("op=read task=0 on=1", 19, length, 0);
+    fed("clocks", order_begin, order_feed, 1312);
+    fed("sets", order_sets_begin, order_sets_feed, 5248);
     printf("memory: %d passed, %d failed\n", passed, failed);
     return failed != 0;
 }

@@ -22,6 +22,9 @@ use Op::*;
 pub const WORDS: [(&str, Op); 8] =
     [("read", Read), ("write", Write), ("take", Take), ("give", Give), ("look", Look), ("set", Set), ("start", Start), ("join", Join)];
 
+/// The kind number of a loss mark.
+pub const LOST: u8 = 8;
+
 /// What a task does: the op, the acting task and the number.
 #[derive(Clone, Copy, Debug)]
 pub struct Act {
@@ -76,6 +79,14 @@ fn number(digits: &str) -> Option<u32> {
     }
 }
 
+/// A record fed without text: its kind by number, `lost` after the words above. A mark has its mask in `on` and no task.
+pub fn record_of(kind: u8, task: u32, on: u32) -> Option<Record> {
+    match WORDS.get(kind as usize) {
+        Some(&(_, op)) => Some(Record::Act(Act { op, task, on })),
+        None => (kind == LOST).then_some(Record::Lost(on)),
+    }
+}
+
 // ---- Refusals
 
 #[derive(Clone, Copy, PartialEq, Eq)]
@@ -110,7 +121,7 @@ fn highest(op: Op) -> u32 {
     }
 }
 
-/// The first of rows 1 to 9 that applies; row 10 is taken never to apply.
+/// The first of rows 1 to 9 that applies.
 fn refusal(so_far: &Accepted, record: Option<Record>) -> Option<u32> {
     let live = |task: u32| so_far.life[task as usize] == Life::Live;
     let full = so_far.records.len() >= LIMIT;
@@ -160,7 +171,7 @@ fn accept(so_far: &mut Accepted, record: Record) {
     so_far.records.push(record);
 }
 
-/// What became of one line.
+/// What became of one line or record.
 #[derive(Clone, Copy, PartialEq, Eq)]
 pub enum Fate {
     /// Accepted, with its record number.
@@ -176,10 +187,14 @@ pub struct Reading {
 
 /// Feeds each line of a text to a state that starts fresh.
 pub fn read(text: &[u8]) -> Reading {
+    feed(lines(text).into_iter().map(read_line))
+}
+
+/// Feeds records, or what stands for one and is none, to a state that starts fresh.
+pub fn feed(records: impl Iterator<Item = Option<Record>>) -> Reading {
     let mut so_far = fresh();
     let mut fates = Vec::new();
-    for line in lines(text) {
-        let record = read_line(line);
+    for record in records {
         fates.push(match (refusal(&so_far, record), record) {
             (None, Some(record)) => {
                 accept(&mut so_far, record);
@@ -370,6 +385,26 @@ pub fn report(reading: &Reading, judged: &[Judged]) -> String {
         }
     }
     out
+}
+
+/// The same for records fed without text, three numbers for each: what the answer is, the refusal's or the record's number, the partner's.
+pub fn answers(reading: &Reading, judged: &[Judged]) -> Vec<[u32; 3]> {
+    let answer = |fate: &Fate| match *fate {
+        Fate::Refused(row) => [0, row, 0],
+        Fate::Accepted(rec) => match judged.binary_search_by_key(&rec, |one| one.access.rec) {
+            Ok(found) => {
+                let Judged { verdict, with, .. } = judged[found];
+                let said = match verdict {
+                    Verdict::Clear => 2,
+                    Verdict::Race => 3,
+                    Verdict::Doubt => 4,
+                };
+                [said, rec as u32, with as u32]
+            }
+            Err(_) => [1, rec as u32, 0],
+        },
+    };
+    reading.fates.iter().map(answer).collect()
 }
 
 pub fn report_of(text: &[u8]) -> String {

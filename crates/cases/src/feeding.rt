@@ -1,4 +1,4 @@
-// Feeds the records of a source to a fresh state and prints the answers: by both reckonings, by each alone, and by value.
+// Feeds the records of a source to a fresh state and prints the answers: by the clocks, by the sets, by value, and to a state that is lent.
 use crate::records::record;
 use crate::source::Source;
 use crate::source::count;
@@ -8,43 +8,15 @@ use crate::telling::line;
 use crate::telling::tell;
 use crate::text;
 
-fn by_both(source: Source, text: &[u8]) {
-    let s = checker::fresh();
-    let mut control = s.control;
-    let mut last = s.last;
-    let mut clocks = s.clocks;
-    let mut fullclocks = s.fullclocks;
-    let mut sets = s.sets;
-    let mut fullsets = s.fullsets;
-    for n in 0..count(source, text) {
-        let a = checker::step_in_place(
-            &mut control,
-            &mut last,
-            &mut clocks,
-            &mut fullclocks,
-            &mut sets,
-            &mut fullsets,
-            nth(source, text, n),
-        );
-        tell_nth(source, n, a);
-    }
-}
-
 fn by_clocks(source: Source, text: &[u8]) {
-    let s = checker::fresh_clocks();
+    let s = checker::fresh();
     let mut control = s.control;
     let mut last = s.last;
     let mut clocks = s.clocks;
     let mut fullclocks = s.fullclocks;
     for n in 0..count(source, text) {
         let r = nth(source, text, n);
-        let a = checker::clock_step_in_place(
-            &mut control,
-            &mut last,
-            &mut clocks,
-            &mut fullclocks,
-            r,
-        );
+        let a = checker::step_in_place(&mut control, &mut last, &mut clocks, &mut fullclocks, r);
         tell_nth(source, n, a);
     }
 }
@@ -62,13 +34,9 @@ fn by_sets(source: Source, text: &[u8]) {
     }
 }
 
-// Three times over, so that the reckonings are seen to agree.
+// Twice over, so that the reckonings are seen to agree.
 pub fn run_source(name: &[u8], source: Source, text: &[u8]) {
-    line(name);
-    by_both(source, text);
-    io::write_all(1, name);
-    line(b" clocks");
-    by_clocks(source, text);
+    run_clocks(name, source, text);
     io::write_all(1, name);
     line(b" sets");
     by_sets(source, text);
@@ -78,9 +46,9 @@ pub fn run(name: &[u8], text: &[u8]) {
     run_source(name, Source::Text, text);
 }
 
-pub fn run_both(name: &[u8], source: Source, text: &[u8]) {
+pub fn run_clocks(name: &[u8], source: Source, text: &[u8]) {
     line(name);
-    by_both(source, text);
+    by_clocks(source, text);
 }
 
 pub fn run_by_value(name: &[u8], text: &[u8]) {
@@ -96,5 +64,5 @@ pub fn run_by_value(name: &[u8], text: &[u8]) {
 
 // One record, of any numbers, fed to a fresh state.
 pub fn once(kind: u8, task: u32, on: u32) {
-    by_both(Source::One(record(kind, task, on)), b"");
+    by_clocks(Source::One(record(kind, task, on)), b"");
 }

@@ -1,7 +1,7 @@
 // The recordings of document 01, and a few more.
 use crate::feeding::run;
-use crate::feeding::run_both;
 use crate::feeding::run_by_value;
+use crate::feeding::run_clocks;
 use crate::feeding::run_source;
 use crate::source::Source;
 
@@ -44,15 +44,15 @@ pub fn by_value() {
 
 // Refused records between accepted ones.
 pub fn refused() {
-    run_both(
+    run_clocks(
         b"refused records are not counted",
         Source::Numbered,
         b"0+1 2r5 0w5 0+1 _?4 1r5",
     );
-    run_both(b"an ended task", Source::Text, b"0+1 0-1 1r5 0+1 0-1 _?2");
+    run_clocks(b"an ended task", Source::Text, b"0+1 0-1 1r5 0+1 0-1 _?2");
 }
 
 pub fn full() {
-    run_both(b"every task, then a mark of all", Source::Starts, b"");
+    run_clocks(b"every task, then a mark of all", Source::Starts, b"");
     run_source(b"row 5", Source::Row5, b"");
 }

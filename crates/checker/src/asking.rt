@@ -6,9 +6,7 @@ use crate::sets::set_masks;
 use theory::Masks;
 use theory::Record;
 ghost use mathlib.Core.Path.{_≡_};
-ghost use Rattle.theory.specs.Control.{refusalIn};
-ghost use Rattle.theory.specs.Reckonings.{clockMasks, setMasks};
-ghost use Rattle.theory.specs.Step.{masksUnless};
+ghost use Rattle.theory.specs.Step.{stateOf, setsOf, apartByClocks, apartBySets};
 
 // By the clocks.
 pub fn apart_by_clocks(
@@ -18,7 +16,7 @@ pub fn apart_by_clocks(
     fullclocks: &[u32; 1312],
     r: Record,
 ) -> Masks
-    ensures { λ m. ⌜ m ≡ masksUnless (refusalIn (now (control .entry)) r) (clockMasks (now (clocks .entry)) (now (fullclocks .entry)) (now (last .entry)) (r .kind) (r .task) (r .on)) ⌝ }
+    ensures { λ m. ⌜ m ≡ apartByClocks (stateOf (now (control .entry)) (now (last .entry)) (now (clocks .entry)) (now (fullclocks .entry))) r ⌝ }
 {
     let refused = refusal(control, r);
     if refused != 0 {
@@ -38,7 +36,7 @@ pub fn apart_by_sets(
     fullsets: &[u32; 5248],
     r: Record,
 ) -> Masks
-    ensures { λ m. ⌜ m ≡ masksUnless (refusalIn (now (control .entry)) r) (setMasks (now (sets .entry)) (now (fullsets .entry)) (now (last .entry)) (r .kind) (r .task) (r .on)) ⌝ }
+    ensures { λ m. ⌜ m ≡ apartBySets (setsOf (now (control .entry)) (now (last .entry)) (now (sets .entry)) (now (fullsets .entry))) r ⌝ }
 {
     let refused = refusal(control, r);
     if refused != 0 {

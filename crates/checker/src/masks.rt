@@ -7,8 +7,8 @@ use theory::RecordNumber;
 ghost use mathlib.Core.Path.{_≡_};
 ghost use Prim.Native.Nat.{_<_, _*_, _^_};
 ghost use Rattle.theory.specs.Reckonings.{bitOf, lowestTask};
-ghost use Rattle.theory.specs.Step.{judgedBy, answeredBy, sameMasks};
-ghost use mathlib.Core.Bool.{false, not};
+ghost use Rattle.theory.specs.Step.{judgedBy, answeredBy};
+ghost use mathlib.Core.Bool.{false};
 ghost use lib.Dec.{eqb};
 ghost use Rattle.theory.specs.Acceptance.{Fitting};
 
@@ -74,14 +74,4 @@ pub(crate) fn answered(
         return judged(last, kind, on, number, masks);
     }
     Answer::Accepted(RecordNumber(number))
-}
-
-// Row 10: whether the two reckonings differ about some path.
-pub(crate) fn differ(a: Masks, b: Masks) -> bool
-    ensures { λ r. ⌜ r ≡ not (sameMasks a b) ⌝ }
-{
-    if a.full == b.full {
-        return a.arrived != b.arrived;
-    }
-    true
 }

@@ -75,21 +75,8 @@ fn answer_piece(
     last: &mut [u32; 2048],
     clocks: &mut [u32; 1312],
     fullclocks: &mut [u32; 1312],
-    sets: &mut [u32; 5248],
-    fullsets: &mut [u32; 5248],
 ) -> Progress {
-    let now = report_piece(
-        out,
-        piece,
-        held,
-        begun,
-        control,
-        last,
-        clocks,
-        fullclocks,
-        sets,
-        fullsets,
-    );
+    let now = report_piece(out, piece, held, begun, control, last, clocks, fullclocks);
     write_some(out, now)
 }
 
@@ -103,8 +90,6 @@ fn answer_block(
     last: &mut [u32; 2048],
     clocks: &mut [u32; 1312],
     fullclocks: &mut [u32; 1312],
-    sets: &mut [u32; 5248],
-    fullsets: &mut [u32; 5248],
 ) -> Progress {
     let mut now = begun;
     let mut p: usize = 0;
@@ -119,8 +104,6 @@ fn answer_block(
             last,
             clocks,
             fullclocks,
-            sets,
-            fullsets,
         );
         p = e;
     }
@@ -137,8 +120,6 @@ fn answer_read(
     last: &mut [u32; 2048],
     clocks: &mut [u32; 1312],
     fullclocks: &mut [u32; 1312],
-    sets: &mut [u32; 5248],
-    fullsets: &mut [u32; 5248],
 ) -> Turn {
     let got = libc::read(STDIN_FILENO, block);
     if got < 0 {
@@ -154,8 +135,6 @@ fn answer_read(
         last,
         clocks,
         fullclocks,
-        sets,
-        fullsets,
     );
     Turn {
         more: n > 0 && now.at < CLOSED,
@@ -172,8 +151,6 @@ pub(crate) fn answer_input(
     last: &mut [u32; 2048],
     clocks: &mut [u32; 1312],
     fullclocks: &mut [u32; 1312],
-    sets: &mut [u32; 5248],
-    fullsets: &mut [u32; 5248],
 ) -> Progress {
     let mut block = io::large_buffer();
     let mut now = begun;
@@ -189,8 +166,6 @@ pub(crate) fn answer_input(
             last,
             clocks,
             fullclocks,
-            sets,
-            fullsets,
         );
         now = turn.now;
         more = turn.more;
@@ -208,24 +183,11 @@ pub(crate) fn finish(
     last: &mut [u32; 2048],
     clocks: &mut [u32; 1312],
     fullclocks: &mut [u32; 1312],
-    sets: &mut [u32; 5248],
-    fullsets: &mut [u32; 5248],
 ) {
     if begun.held == 0 {
         write_out(out, begun);
         return;
     }
-    let now = report_piece(
-        out,
-        b"\n",
-        held,
-        begun,
-        control,
-        last,
-        clocks,
-        fullclocks,
-        sets,
-        fullsets,
-    );
+    let now = report_piece(out, b"\n", held, begun, control, last, clocks, fullclocks);
     write_out(out, now);
 }

@@ -3,16 +3,15 @@ mod blocks;
 
 use blocks::answer_input;
 use blocks::finish;
+use checker::begin;
 use text::Progress;
 
 fn main() {
     let mut control = [0u32; 17];
-    control[0] = 1;
     let mut last = [0u32; 2048];
     let mut clocks = [0u32; 1312];
     let mut fullclocks = [0u32; 1312];
-    let mut sets = [0u32; 5248];
-    let mut fullsets = [0u32; 5248];
+    begin(&mut control, &mut last, &mut clocks, &mut fullclocks);
     let mut out = [0u8; 131072];
     let mut held = [0u8; 65];
     let none = Progress {
@@ -28,8 +27,6 @@ fn main() {
         &mut last,
         &mut clocks,
         &mut fullclocks,
-        &mut sets,
-        &mut fullsets,
     );
     finish(
         &mut out,
@@ -39,7 +36,5 @@ fn main() {
         &mut last,
         &mut clocks,
         &mut fullclocks,
-        &mut sets,
-        &mut fullsets,
     );
 }

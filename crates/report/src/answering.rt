@@ -28,20 +28,18 @@ pub(crate) fn put_parsed(
     last: &mut [u32; 2048],
     clocks: &mut [u32; 1312],
     fullclocks: &mut [u32; 1312],
-    sets: &mut [u32; 5248],
-    fullsets: &mut [u32; 5248],
 ) -> usize
     requires { ⌜ (at + 64 ≤ length (now out)) × ((r : Record) → parsed ≡ Parsed.Record r → Sayable r) ⌝ }
     ensures wrote { λ to. ⌜ (to ≤ at + 64) × Wrote (now (out .entry)) at
-        (saidFor number (stateOf (now (control .entry)) (now (last .entry)) (now (clocks .entry)) (now (fullclocks .entry)) (now (sets .entry)) (now (fullsets .entry))) parsed)
+        (saidFor number (stateOf (now (control .entry)) (now (last .entry)) (now (clocks .entry)) (now (fullclocks .entry))) parsed)
         (now (out .exit)) to ⌝ }
-    ensures fed { λ _. ⌜ stateOf (now (control .exit)) (now (last .exit)) (now (clocks .exit)) (now (fullclocks .exit)) (now (sets .exit)) (now (fullsets .exit))
-        ≡ stateAfter (stateOf (now (control .entry)) (now (last .entry)) (now (clocks .entry)) (now (fullclocks .entry)) (now (sets .entry)) (now (fullsets .entry))) parsed ⌝ }
+    ensures fed { λ _. ⌜ stateOf (now (control .exit)) (now (last .exit)) (now (clocks .exit)) (now (fullclocks .exit))
+        ≡ stateAfter (stateOf (now (control .entry)) (now (last .entry)) (now (clocks .entry)) (now (fullclocks .entry))) parsed ⌝ }
 {
     let Parsed::Record(r) = parsed else {
         return put_refused(out, at, number, 1);
     };
-    let answer = step_in_place(control, last, clocks, fullclocks, sets, fullsets, r);
+    let answer = step_in_place(control, last, clocks, fullclocks, r);
     put_answer(out, at, number, r, answer)
 }
 
@@ -55,29 +53,16 @@ pub(crate) fn put_line(
     last: &mut [u32; 2048],
     clocks: &mut [u32; 1312],
     fullclocks: &mut [u32; 1312],
-    sets: &mut [u32; 5248],
-    fullsets: &mut [u32; 5248],
 ) -> usize
     requires { ⌜ at + 64 ≤ length (now out) ⌝ }
     ensures wrote { λ to. ⌜ (to ≤ at + 64) × Wrote (now (out .entry)) at
-        (saidFor number (stateOf (now (control .entry)) (now (last .entry)) (now (clocks .entry)) (now (fullclocks .entry)) (now (sets .entry)) (now (fullsets .entry))) (parseOf (now (line .entry))))
+        (saidFor number (stateOf (now (control .entry)) (now (last .entry)) (now (clocks .entry)) (now (fullclocks .entry))) (parseOf (now (line .entry))))
         (now (out .exit)) to ⌝ }
-    ensures fed { λ _. ⌜ stateOf (now (control .exit)) (now (last .exit)) (now (clocks .exit)) (now (fullclocks .exit)) (now (sets .exit)) (now (fullsets .exit))
-        ≡ stateAfter (stateOf (now (control .entry)) (now (last .entry)) (now (clocks .entry)) (now (fullclocks .entry)) (now (sets .entry)) (now (fullsets .entry))) (parseOf (now (line .entry))) ⌝ }
+    ensures fed { λ _. ⌜ stateOf (now (control .exit)) (now (last .exit)) (now (clocks .exit)) (now (fullclocks .exit))
+        ≡ stateAfter (stateOf (now (control .entry)) (now (last .entry)) (now (clocks .entry)) (now (fullclocks .entry))) (parseOf (now (line .entry))) ⌝ }
 {
     let parsed = parse_line(line);
-    put_parsed(
-        out,
-        at,
-        number,
-        parsed,
-        control,
-        last,
-        clocks,
-        fullclocks,
-        sets,
-        fullsets,
-    )
+    put_parsed(out, at, number, parsed, control, last, clocks, fullclocks)
 }
 
 // How far a piece is answered: the lines so far, the next place in the report, and where what is left of the piece begins.
@@ -98,17 +83,15 @@ pub(crate) fn put_lines(
     last: &mut [u32; 2048],
     clocks: &mut [u32; 1312],
     fullclocks: &mut [u32; 1312],
-    sets: &mut [u32; 5248],
-    fullsets: &mut [u32; 5248],
 ) -> Answered
     requires { ⌜ (from ≤ length (now piece)) × (at + 64 * length (linesOf (drop from (now piece))) ≤ length (now out)) × (lines + (length (now piece) - from) < 2 ^ 64) ⌝ }
     ensures wrote { λ r. ⌜ Wrote (now (out .entry)) at
-        (saidIn (kept (stateOf (now (control .entry)) (now (last .entry)) (now (clocks .entry)) (now (fullclocks .entry)) (now (sets .entry)) (now (fullsets .entry))) lines []) (drop from (now (piece .entry))))
+        (saidIn (kept (stateOf (now (control .entry)) (now (last .entry)) (now (clocks .entry)) (now (fullclocks .entry))) lines []) (drop from (now (piece .entry))))
         (now (out .exit)) (r .at) ⌝ }
     ensures left { λ r. ⌜ (r .from ≤ length (now (piece .entry)))
         × (r .at + 64 * length (linesOf (drop (r .from) (now (piece .entry)))) ≤ length (now (out .exit)))
-        × (kept (stateOf (now (control .exit)) (now (last .exit)) (now (clocks .exit)) (now (fullclocks .exit)) (now (sets .exit)) (now (fullsets .exit))) (r .lines) (take heldMost (drop (r .from) (now (piece .entry))))
-        ≡ afterPiece (kept (stateOf (now (control .entry)) (now (last .entry)) (now (clocks .entry)) (now (fullclocks .entry)) (now (sets .entry)) (now (fullsets .entry))) lines []) (drop from (now (piece .entry)))) ⌝ }
+        × (kept (stateOf (now (control .exit)) (now (last .exit)) (now (clocks .exit)) (now (fullclocks .exit))) (r .lines) (take heldMost (drop (r .from) (now (piece .entry))))
+        ≡ afterPiece (kept (stateOf (now (control .entry)) (now (last .entry)) (now (clocks .entry)) (now (fullclocks .entry))) lines []) (drop from (now (piece .entry)))) ⌝ }
 {
     let mut at = at;
     let mut number = lines;
@@ -117,18 +100,7 @@ pub(crate) fn put_lines(
     while p < end {
         number += 1;
         let parsed = next_parsed(piece, &mut p);
-        at = put_parsed(
-            out,
-            at,
-            number,
-            parsed,
-            control,
-            last,
-            clocks,
-            fullclocks,
-            sets,
-            fullsets,
-        );
+        at = put_parsed(out, at, number, parsed, control, last, clocks, fullclocks);
     }
     Answered {
         lines: number,

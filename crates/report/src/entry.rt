@@ -3,6 +3,7 @@
 use crate::scan::line_count;
 use crate::streaming::put_piece;
 use crate::streaming::put_rest;
+use checker::begin;
 use text::Progress;
 ghost use mathlib.Core.Path.{_≡_};
 ghost use Prim.Native.Nat.{_≤_, _*_};
@@ -17,12 +18,10 @@ fn write_report(text: &[u8], report: &mut [u8]) -> usize
     ensures { λ r. ⌜ Wrote (now (report .entry)) 0 (reportOf (now (text .entry))) (now (report .exit)) r ⌝ }
 {
     let mut control = [0u32; 17];
-    control[0] = 1;
     let mut last = [0u32; 2048];
     let mut clocks = [0u32; 1312];
     let mut fullclocks = [0u32; 1312];
-    let mut sets = [0u32; 5248];
-    let mut fullsets = [0u32; 5248];
+    begin(&mut control, &mut last, &mut clocks, &mut fullclocks);
     let mut held = [0u8; 65];
     let none = Progress {
         lines: 0,
@@ -38,8 +37,6 @@ fn write_report(text: &[u8], report: &mut [u8]) -> usize
         &mut last,
         &mut clocks,
         &mut fullclocks,
-        &mut sets,
-        &mut fullsets,
     );
     put_rest(
         report,
@@ -49,8 +46,6 @@ fn write_report(text: &[u8], report: &mut [u8]) -> usize
         &mut last,
         &mut clocks,
         &mut fullclocks,
-        &mut sets,
-        &mut fullsets,
     )
 }
 

@@ -49,15 +49,13 @@ fn put_first(
     last: &mut [u32; 2048],
     clocks: &mut [u32; 1312],
     fullclocks: &mut [u32; 1312],
-    sets: &mut [u32; 5248],
-    fullsets: &mut [u32; 5248],
 ) -> usize
     requires { ⌜ (at + 64 ≤ length (now out)) × (n ≤ heldMost) × (heldMost ≤ length (now held)) ⌝ }
     ensures wrote { λ to. ⌜ (to ≤ at + 64) × Wrote (now (out .entry)) at
-        (saidFor number (stateOf (now (control .entry)) (now (last .entry)) (now (clocks .entry)) (now (fullclocks .entry)) (now (sets .entry)) (now (fullsets .entry))) (parseOf (take n (now (held .entry)) ++ now (s .entry))))
+        (saidFor number (stateOf (now (control .entry)) (now (last .entry)) (now (clocks .entry)) (now (fullclocks .entry))) (parseOf (take n (now (held .entry)) ++ now (s .entry))))
         (now (out .exit)) to ⌝ }
-    ensures fed { λ _. ⌜ stateOf (now (control .exit)) (now (last .exit)) (now (clocks .exit)) (now (fullclocks .exit)) (now (sets .exit)) (now (fullsets .exit))
-        ≡ stateAfter (stateOf (now (control .entry)) (now (last .entry)) (now (clocks .entry)) (now (fullclocks .entry)) (now (sets .entry)) (now (fullsets .entry))) (parseOf (take n (now (held .entry)) ++ now (s .entry))) ⌝ }
+    ensures fed { λ _. ⌜ stateOf (now (control .exit)) (now (last .exit)) (now (clocks .exit)) (now (fullclocks .exit))
+        ≡ stateAfter (stateOf (now (control .entry)) (now (last .entry)) (now (clocks .entry)) (now (fullclocks .entry))) (parseOf (take n (now (held .entry)) ++ now (s .entry))) ⌝ }
 {
     let mut line = [0u8; 65];
     let begun = put_bytes(&mut line, 0, &held[..n]);
@@ -71,8 +69,6 @@ fn put_first(
         last,
         clocks,
         fullclocks,
-        sets,
-        fullsets,
     )
 }
 
@@ -87,18 +83,16 @@ fn put_ended(
     last: &mut [u32; 2048],
     clocks: &mut [u32; 1312],
     fullclocks: &mut [u32; 1312],
-    sets: &mut [u32; 5248],
-    fullsets: &mut [u32; 5248],
 ) -> Answered
     requires { ⌜ (begun .at + 64 * length (linesOf (now piece)) ≤ length (now out)) × (begun .held ≤ heldMost) × (heldMost ≤ length (now held))
         × (begun .lines + length (now piece) < 2 ^ 64) × (e ≡ 0 + lineEnd (drop 0 (now piece))) × (e < length (now piece)) ⌝ }
     ensures wrote { λ r. ⌜ Wrote (now (out .entry)) (begun .at)
-        (saidIn (keptOf (stateOf (now (control .entry)) (now (last .entry)) (now (clocks .entry)) (now (fullclocks .entry)) (now (sets .entry)) (now (fullsets .entry))) begun (now (held .entry))) (now (piece .entry)))
+        (saidIn (keptOf (stateOf (now (control .entry)) (now (last .entry)) (now (clocks .entry)) (now (fullclocks .entry))) begun (now (held .entry))) (now (piece .entry)))
         (now (out .exit)) (r .at) ⌝ }
     ensures left { λ r. ⌜ (r .from ≤ length (now (piece .entry)))
         × (r .at + 64 * length (linesOf (drop (r .from) (now (piece .entry)))) ≤ length (now (out .exit)))
-        × (kept (stateOf (now (control .exit)) (now (last .exit)) (now (clocks .exit)) (now (fullclocks .exit)) (now (sets .exit)) (now (fullsets .exit))) (r .lines) (take heldMost (drop (r .from) (now (piece .entry))))
-        ≡ afterPiece (keptOf (stateOf (now (control .entry)) (now (last .entry)) (now (clocks .entry)) (now (fullclocks .entry)) (now (sets .entry)) (now (fullsets .entry))) begun (now (held .entry))) (now (piece .entry))) ⌝ }
+        × (kept (stateOf (now (control .exit)) (now (last .exit)) (now (clocks .exit)) (now (fullclocks .exit))) (r .lines) (take heldMost (drop (r .from) (now (piece .entry))))
+        ≡ afterPiece (keptOf (stateOf (now (control .entry)) (now (last .entry)) (now (clocks .entry)) (now (fullclocks .entry))) begun (now (held .entry))) (now (piece .entry))) ⌝ }
 {
     let number = begun.lines + 1;
     let at = put_first(
@@ -112,8 +106,6 @@ fn put_ended(
         last,
         clocks,
         fullclocks,
-        sets,
-        fullsets,
     );
     put_lines(
         out,
@@ -125,8 +117,6 @@ fn put_ended(
         last,
         clocks,
         fullclocks,
-        sets,
-        fullsets,
     )
 }
 
@@ -140,15 +130,13 @@ pub(crate) fn put_piece(
     last: &mut [u32; 2048],
     clocks: &mut [u32; 1312],
     fullclocks: &mut [u32; 1312],
-    sets: &mut [u32; 5248],
-    fullsets: &mut [u32; 5248],
 ) -> Progress
     requires { ⌜ (begun .at + 64 * length (linesOf (now piece)) ≤ length (now out)) × (begun .held ≤ heldMost) × (heldMost ≤ length (now held))
         × (begun .lines + length (now piece) < 2 ^ 64) ⌝ }
-    ensures said { λ r. ⌜ (r ≡ progressAfter (keptOf (stateOf (now (control .entry)) (now (last .entry)) (now (clocks .entry)) (now (fullclocks .entry)) (now (sets .entry)) (now (fullsets .entry))) begun (now (held .entry))) (begun .at) (now (piece .entry)))
-        × (now (out .exit) ≡ written (now (out .entry)) (begun .at) (saidIn (keptOf (stateOf (now (control .entry)) (now (last .entry)) (now (clocks .entry)) (now (fullclocks .entry)) (now (sets .entry)) (now (fullsets .entry))) begun (now (held .entry))) (now (piece .entry)))) ⌝ }
-    ensures keeps { λ _. ⌜ (stateOf (now (control .exit)) (now (last .exit)) (now (clocks .exit)) (now (fullclocks .exit)) (now (sets .exit)) (now (fullsets .exit)) ≡ (afterPiece (keptOf (stateOf (now (control .entry)) (now (last .entry)) (now (clocks .entry)) (now (fullclocks .entry)) (now (sets .entry)) (now (fullsets .entry))) begun (now (held .entry))) (now (piece .entry))) .state)
-        × (now (held .exit) ≡ written (now (held .entry)) 0 ((afterPiece (keptOf (stateOf (now (control .entry)) (now (last .entry)) (now (clocks .entry)) (now (fullclocks .entry)) (now (sets .entry)) (now (fullsets .entry))) begun (now (held .entry))) (now (piece .entry))) .held)) ⌝ }
+    ensures said { λ r. ⌜ (r ≡ progressAfter (keptOf (stateOf (now (control .entry)) (now (last .entry)) (now (clocks .entry)) (now (fullclocks .entry))) begun (now (held .entry))) (begun .at) (now (piece .entry)))
+        × (now (out .exit) ≡ written (now (out .entry)) (begun .at) (saidIn (keptOf (stateOf (now (control .entry)) (now (last .entry)) (now (clocks .entry)) (now (fullclocks .entry))) begun (now (held .entry))) (now (piece .entry)))) ⌝ }
+    ensures keeps { λ _. ⌜ (stateOf (now (control .exit)) (now (last .exit)) (now (clocks .exit)) (now (fullclocks .exit)) ≡ (afterPiece (keptOf (stateOf (now (control .entry)) (now (last .entry)) (now (clocks .entry)) (now (fullclocks .entry))) begun (now (held .entry))) (now (piece .entry))) .state)
+        × (now (held .exit) ≡ written (now (held .entry)) 0 ((afterPiece (keptOf (stateOf (now (control .entry)) (now (last .entry)) (now (clocks .entry)) (now (fullclocks .entry))) begun (now (held .entry))) (now (piece .entry))) .held)) ⌝ }
     ensures room { λ r. ⌜ (begun .held ≡ 0 → 0 < r .held → r .at + 64 ≤ length (now (out .exit))) ⌝ }
 {
     let e = line_end(piece, 0);
@@ -170,8 +158,6 @@ pub(crate) fn put_piece(
         last,
         clocks,
         fullclocks,
-        sets,
-        fullsets,
     );
     let from = answered.from;
     let n = hold(held, 0, &piece[from..]);
@@ -191,15 +177,13 @@ pub(crate) fn put_rest(
     last: &mut [u32; 2048],
     clocks: &mut [u32; 1312],
     fullclocks: &mut [u32; 1312],
-    sets: &mut [u32; 5248],
-    fullsets: &mut [u32; 5248],
 ) -> usize
     requires { ⌜ (begun .held ≤ length (now held)) × (0 < begun .held → begun .at + 64 ≤ length (now out)) × (begun .lines + 1 < 2 ^ 64) ⌝ }
     ensures said { λ to. ⌜ Wrote (now (out .entry)) (begun .at)
-        (saidAtEnd (keptOf (stateOf (now (control .entry)) (now (last .entry)) (now (clocks .entry)) (now (fullclocks .entry)) (now (sets .entry)) (now (fullsets .entry))) begun (now (held .entry))))
+        (saidAtEnd (keptOf (stateOf (now (control .entry)) (now (last .entry)) (now (clocks .entry)) (now (fullclocks .entry))) begun (now (held .entry))))
         (now (out .exit)) to ⌝ }
-    ensures fed { λ _. ⌜ stateOf (now (control .exit)) (now (last .exit)) (now (clocks .exit)) (now (fullclocks .exit)) (now (sets .exit)) (now (fullsets .exit))
-        ≡ stateAtEnd (keptOf (stateOf (now (control .entry)) (now (last .entry)) (now (clocks .entry)) (now (fullclocks .entry)) (now (sets .entry)) (now (fullsets .entry))) begun (now (held .entry))) ⌝ }
+    ensures fed { λ _. ⌜ stateOf (now (control .exit)) (now (last .exit)) (now (clocks .exit)) (now (fullclocks .exit))
+        ≡ stateAtEnd (keptOf (stateOf (now (control .entry)) (now (last .entry)) (now (clocks .entry)) (now (fullclocks .entry))) begun (now (held .entry))) ⌝ }
 {
     let n = begun.held;
     if n == 0 {
@@ -214,8 +198,6 @@ pub(crate) fn put_rest(
         last,
         clocks,
         fullclocks,
-        sets,
-        fullsets,
     )
 }
 
@@ -254,13 +236,11 @@ pub fn report_piece(
     last: &mut [u32; 2048],
     clocks: &mut [u32; 1312],
     fullclocks: &mut [u32; 1312],
-    sets: &mut [u32; 5248],
-    fullsets: &mut [u32; 5248],
 ) -> Progress
-    ensures said { λ r. ⌜ (r ≡ cond (fits (length (now (out .entry))) (length (now (piece .entry))) (length (now (held .entry))) begun) (progressAfter (keptOf (stateOf (now (control .entry)) (now (last .entry)) (now (clocks .entry)) (now (fullclocks .entry)) (now (sets .entry)) (now (fullsets .entry))) begun (now (held .entry))) (begun .at) (now (piece .entry))) (refused begun))
-        × (now (out .exit) ≡ cond (fits (length (now (out .entry))) (length (now (piece .entry))) (length (now (held .entry))) begun) (written (now (out .entry)) (begun .at) (saidIn (keptOf (stateOf (now (control .entry)) (now (last .entry)) (now (clocks .entry)) (now (fullclocks .entry)) (now (sets .entry)) (now (fullsets .entry))) begun (now (held .entry))) (now (piece .entry)))) (now (out .entry))) ⌝ }
-    ensures keeps { λ _. ⌜ (stateOf (now (control .exit)) (now (last .exit)) (now (clocks .exit)) (now (fullclocks .exit)) (now (sets .exit)) (now (fullsets .exit)) ≡ cond (fits (length (now (out .entry))) (length (now (piece .entry))) (length (now (held .entry))) begun) ((afterPiece (keptOf (stateOf (now (control .entry)) (now (last .entry)) (now (clocks .entry)) (now (fullclocks .entry)) (now (sets .entry)) (now (fullsets .entry))) begun (now (held .entry))) (now (piece .entry))) .state) (stateOf (now (control .entry)) (now (last .entry)) (now (clocks .entry)) (now (fullclocks .entry)) (now (sets .entry)) (now (fullsets .entry))))
-        × (now (held .exit) ≡ cond (fits (length (now (out .entry))) (length (now (piece .entry))) (length (now (held .entry))) begun) (written (now (held .entry)) 0 ((afterPiece (keptOf (stateOf (now (control .entry)) (now (last .entry)) (now (clocks .entry)) (now (fullclocks .entry)) (now (sets .entry)) (now (fullsets .entry))) begun (now (held .entry))) (now (piece .entry))) .held)) (now (held .entry))) ⌝ }
+    ensures said { λ r. ⌜ (r ≡ cond (fits (length (now (out .entry))) (length (now (piece .entry))) (length (now (held .entry))) begun) (progressAfter (keptOf (stateOf (now (control .entry)) (now (last .entry)) (now (clocks .entry)) (now (fullclocks .entry))) begun (now (held .entry))) (begun .at) (now (piece .entry))) (refused begun))
+        × (now (out .exit) ≡ cond (fits (length (now (out .entry))) (length (now (piece .entry))) (length (now (held .entry))) begun) (written (now (out .entry)) (begun .at) (saidIn (keptOf (stateOf (now (control .entry)) (now (last .entry)) (now (clocks .entry)) (now (fullclocks .entry))) begun (now (held .entry))) (now (piece .entry)))) (now (out .entry))) ⌝ }
+    ensures keeps { λ _. ⌜ (stateOf (now (control .exit)) (now (last .exit)) (now (clocks .exit)) (now (fullclocks .exit)) ≡ cond (fits (length (now (out .entry))) (length (now (piece .entry))) (length (now (held .entry))) begun) ((afterPiece (keptOf (stateOf (now (control .entry)) (now (last .entry)) (now (clocks .entry)) (now (fullclocks .entry))) begun (now (held .entry))) (now (piece .entry))) .state) (stateOf (now (control .entry)) (now (last .entry)) (now (clocks .entry)) (now (fullclocks .entry))))
+        × (now (held .exit) ≡ cond (fits (length (now (out .entry))) (length (now (piece .entry))) (length (now (held .entry))) begun) (written (now (held .entry)) 0 ((afterPiece (keptOf (stateOf (now (control .entry)) (now (last .entry)) (now (clocks .entry)) (now (fullclocks .entry))) begun (now (held .entry))) (now (piece .entry))) .held)) (now (held .entry))) ⌝ }
 {
     if !has_room(out.len(), piece.len(), held.len(), begun) {
         return Progress {
@@ -269,16 +249,5 @@ pub fn report_piece(
             at: REFUSED,
         };
     }
-    put_piece(
-        out,
-        piece,
-        held,
-        begun,
-        control,
-        last,
-        clocks,
-        fullclocks,
-        sets,
-        fullsets,
-    )
+    put_piece(out, piece, held, begun, control, last, clocks, fullclocks)
 }

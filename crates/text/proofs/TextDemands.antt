@@ -12,19 +12,19 @@ use Rattle.theory.specs.declared.record.Record.{Record}
 use Rattle.theory.specs.declared.state.State.{State}
 use Rattle.theory.specs.declared.state.Stepped.{Stepped}
 use Rattle.theory.specs.declared.answer.Answer.{Answer}
-use Rattle.theory.specs.declared.answer.Answer.the-variants.{Refused, Accepted}
+use Rattle.theory.specs.declared.answer.Answer.the-variants.{Refused}
 use Rattle.theory.specs.Verdict.{Verdict, Race, Clear, Doubt}
 use Rattle.theory.specs.Control.{refusalIn}
-use Rattle.theory.specs.History.{accesses}
-use Rattle.theory.specs.Step.{nextNumber, sameMasks, masksOfClocks, masksOfSets, accepted, stepOf, freshState}
-use Rattle.theory.specs.Feeding.{Says, says-clear, says-race, says-doubt, fedTo}
-use Rattle.theory.proofs.Cases.{refusal-bound, Judged, judged-by}
+use Rattle.theory.specs.Step.{stepOf, freshState}
+use Rattle.theory.specs.Feeding.{Says, says-clear, says-race, says-doubt, fedTo, Handled, access-taken, other-taken}
+use Rattle.theory.specs.Feeding
+use Rattle.theory.proofs.Fed.{demand1}
 use Rattle.text.specs.declared.parsed.Parsed.{Parsed}
 use Rattle.text.specs.Lines.{linesOf}
 use Rattle.text.specs.LineForm.{parseOf}
 use Rattle.text.specs.ReportLines.{accessLine, refusedLine, reportLine}
 use Rattle.text.specs.Report.{saidFor, stateAfter, reportFrom, reportOf, tooSmall}
-use Rattle.text.specs.TextDemands.{TextForm, rowOf, wordFor, LineGot, no-record, refused, judged, taken, Answered, no-lines, a-line, TextHandled, refused-whole, reported, TextDemand1, OneReport, Tells, tells-nothing, tells-no-record, tells-answer, TextFed}
+use Rattle.text.specs.TextDemands.{TextForm, wordFor, LineGot, no-record, refused, judged, taken, Answered, no-lines, a-line, TextHandled, refused-whole, reported, TextDemand1, OneReport, Tells, tells-nothing, tells-no-record, tells-answer, TextFed}
 use Rattle.text.proofs.Lines.{lines-fit}
 use Rattle.text.proofs.RoundTrip.{text-taken, only-text, only-sayable}
 use Rattle.text.proofs.Lengths.{refused-line-fits, access-line-fits}
@@ -41,28 +41,13 @@ module _ (n : ℕ) (s : State) (line : List ℕ) (r : Record) (form : TextForm l
   abbrev Gives : Stepped → Type 0
   Gives x = LineGot n s line (x .state) (reportLine n r (x .answer))
 
-  accepted-got : stepOf s r ≡ accepted s r → rowOf s r ≡ 0 → Gives (stepOf s r)
-  accepted-got e z = by-kind (accesses (r .kind)) refl
-    where
-      by-kind : (b : Bool) → accesses (r .kind) ≡ b → Gives (stepOf s r)
-      by-kind true q =
-          let j : Judged ((stepOf s r) .answer) (nextNumber (s .control)) = rw (e, q) (judged-by (s .last) (r .kind) (r .on) (nextNumber (s .control)) _ _) in
-          subst (LineGot n s line ((stepOf s r) .state)) (verdict-line n r (j .2)) (judged form z q (j .2))
-      by-kind false q =
-          let a : (stepOf s r) .answer ≡ Accepted (record { 0 = nextNumber (s .control) }) = rw (e, q) in
-          subst (λ (x : Answer). LineGot n s line ((stepOf s r) .state) (reportLine n r x)) (sym a) (taken form z q a)
-
   record-got : Gives (stepOf s r)
-  unfolding stepOf
-  record-got = decided (refusalIn (s .control) r) (refusal-bound _ _ _ r) refl (sameMasks (masksOfClocks s r) (masksOfSets s r)) refl
+  record-got = by-cases (demand1 s r)
     where
-      refused-with : (k : ℕ) → stepOf s r ≡ record { state = s; answer = Refused k } → rowOf s r ≡ k → 1 ≤ k → k ≤ 10 → Gives (stepOf s r)
-      refused-with k e z l h = subst Gives (sym e) (refused form z l h)
-
-      decided : (k : ℕ) → refusalIn (s .control) r ≤ 9 → refusalIn (s .control) r ≡ k → (b : Bool) → sameMasks (masksOfClocks s r) (masksOfSets s r) ≡ b → Gives (stepOf s r)
-      decided (suc k) h e b q = refused-with (suc k) (rw e) (rw e) (omega arith) (omega arith)
-      decided zero h e true q = accepted-got (rw (e, q)) (rw (e, q))
-      decided zero h e false q = refused-with 10 (rw (e, q)) (rw (e, q)) (omega arith) (omega arith)
+      by-cases : Handled s r → Gives (stepOf s r)
+      by-cases (Feeding.refused k e l h q) = subst Gives (sym q) (refused form e l h)
+      by-cases (access-taken e q j) = subst (LineGot n s line ((stepOf s r) .state)) (verdict-line n r (j .2)) (judged form e q (j .2))
+      by-cases (other-taken e q a) = subst (λ (x : Answer). LineGot n s line ((stepOf s r) .state) (reportLine n r x)) (sym a) (taken form e q a)
 
 module _ (line : List ℕ) where
   parsed-none : parseOf line ≡ Parsed.Nothing → (r : Record) → ¬ TextForm line r
@@ -122,15 +107,13 @@ text-demand1 text memory h = decided (tooSmall text (length memory)) refl
 -- No other report would do
 
 -- a record to which a row applies is refused with that row's number
-row-refuses : (s : State) (r : Record) {k : ℕ} → rowOf s r ≡ k → 1 ≤ k → stepOf s r ≡ record { state = s; answer = Refused k }
-unfolding stepOf
-row-refuses s r {k} z l = decided (refusalIn (s .control) r) refl (sameMasks (masksOfClocks s r) (masksOfSets s r)) refl
+row-refuses : (s : State) (r : Record) {k : ℕ} → refusalIn (s .control) r ≡ k → 1 ≤ k → stepOf s r ≡ record { state = s; answer = Refused k }
+row-refuses s r {k} z l = by-cases (demand1 s r)
   where
-    decided : (m : ℕ) → refusalIn (s .control) r ≡ m → (b : Bool) → sameMasks (masksOfClocks s r) (masksOfSets s r) ≡ b →
-        stepOf s r ≡ record { state = s; answer = Refused k }
-    decided (suc m) e b q = let y : suc m ≡ k = sym (rw e) ∙ z in rw (e, y)
-    decided zero e true q = absurd (let y : 0 ≡ k = sym (rw (e, q)) ∙ z in omega arith)
-    decided zero e false q = let y : 10 ≡ k = sym (rw (e, q)) ∙ z in rw (e, q, y)
+    by-cases : Handled s r → stepOf s r ≡ record { state = s; answer = Refused k }
+    by-cases (Feeding.refused m e _ _ q) = subst (λ (x : ℕ). stepOf s r ≡ record { state = s; answer = Refused x }) (sym e ∙ z) q
+    by-cases (access-taken e _ _) = absurd (omega arith)
+    by-cases (other-taken e _ _) = absurd (omega arith)
 
 -- what a line got is what the definitions of the report say
 record Fixed (n : ℕ) (s : State) (line : List ℕ) (s′ : State) (said : List ℕ) : Type 0 where

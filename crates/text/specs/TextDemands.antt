@@ -2,7 +2,7 @@
 -- proofs/TextDemands.antt proves it of the definitions that the C entry's contract names.
 use mathlib.Core.Path.{_≡_}
 use Prim.Native.Nat.{ℕ, zero, suc, _-_, _*_, _^_, _≤_, _<_}
-use mathlib.Core.Bool.{Bool, true, false}
+use mathlib.Core.Bool.{true, false}
 use mathlib.Core.List.{List, [], _∷_, _++_}
 use lib.ListN.{length, drop}
 use Rattle.theory.specs.declared.record.Record.{Record}
@@ -12,7 +12,7 @@ use Rattle.theory.specs.declared.answer.Answer.the-variants.{Accepted}
 use Rattle.theory.specs.Verdict.{Verdict, Race, Clear, Doubt}
 use Rattle.theory.specs.Control.{refusalIn}
 use Rattle.theory.specs.History.{accesses}
-use Rattle.theory.specs.Step.{recordNumber, nextNumber, masksOfClocks, masksOfSets, sameMasks, stepOf, freshState}
+use Rattle.theory.specs.Step.{recordNumber, nextNumber, stepOf, freshState}
 use Rattle.theory.specs.Feeding.{Says, fed}
 use Rattle.text.specs.Lines.{linesOf}
 use Rattle.text.specs.LineForm.{textOf, Sayable}
@@ -27,15 +27,6 @@ pub record TextForm (line : List ℕ) (r : Record) : Type 0 where
   pub sayable : Sayable r
   pub is-text : line ≡ textOf r
 
--- which of rows 1 to 10 is the first that applies to a record in a state; 0 where none does
-abbrev pub rowBy : ℕ → Bool → ℕ
-rowBy zero true = zero
-rowBy zero false = 10
-rowBy (suc n) same = suc n
-
-abbrev pub rowOf : State → Record → ℕ
-rowOf s r = rowBy (refusalIn (s .control) r) (sameMasks (masksOfClocks s r) (masksOfSets s r))
-
 abbrev pub wordFor : Verdict → List ℕ
 wordFor Race = bytes "race"
 wordFor Clear = bytes "clear"
@@ -46,13 +37,13 @@ pub data LineGot (n : ℕ) (s : State) (line : List ℕ) : State → List ℕ �
   -- "A line that yields no record is refused with 1"
   no-record : ((r : Record) → ¬ TextForm line r) → LineGot n s line s (refusedLine n 1)
   -- its record is refused with the number of the first row that applies, and the state stays
-  refused : {r : Record} {k : ℕ} → TextForm line r → rowOf s r ≡ k → 1 ≤ k → k ≤ 10 → LineGot n s line s (refusedLine n k)
+  refused : {r : Record} {k : ℕ} → TextForm line r → refusalIn (s .control) r ≡ k → 1 ≤ k → k ≤ 9 → LineGot n s line s (refusedLine n k)
   -- "One line for an accepted access", with its record number, its verdict and the partner
-  judged : {r : Record} {v : Verdict} {w : ℕ} → TextForm line r → rowOf s r ≡ 0 → accesses (r .kind) ≡ true →
+  judged : {r : Record} {v : Verdict} {w : ℕ} → TextForm line r → refusalIn (s .control) r ≡ 0 → accesses (r .kind) ≡ true →
       Says ((stepOf s r) .answer) (nextNumber (s .control)) v w →
       LineGot n s line ((stepOf s r) .state) (accessLine (nextNumber (s .control)) (r .task) (r .on) (wordFor v) w)
   -- "none for other records"
-  taken : {r : Record} → TextForm line r → rowOf s r ≡ 0 → accesses (r .kind) ≡ false →
+  taken : {r : Record} → TextForm line r → refusalIn (s .control) r ≡ 0 → accesses (r .kind) ≡ false →
       (stepOf s r) .answer ≡ Accepted (recordNumber (nextNumber (s .control))) → LineGot n s line ((stepOf s r) .state) []
 
 -- A text
@@ -80,7 +71,7 @@ TextDemand1 = (text memory : List ℕ) → length text < 2 ^ 64 → TextHandled 
 abbrev pub OneReport : Type 0
 OneReport = (text report : List ℕ) → Answered 1 freshState (linesOf text) report → report ≡ reportOf text
 
--- The answers in a report are those of feeding the records that the lines say, from a fresh state: what crates/checker proves of `fed`,
+-- The answers in a report are those of feeding the records that the lines say, from a fresh state: what crates/theory proves of `fed`,
 -- demands 2 and 3 among it, holds of each report
 
 -- the lines that say records have, in order, the records rs and the answers to them, and the report is made of these

@@ -8,14 +8,13 @@ use borrow.Author.Tests.{eqb-false}
 use lib.Dec.{eqb}
 use Rattle.theory.specs.declared.record.Record.{Record}
 use Rattle.theory.specs.declared.answer.Answer.the-variants.{Refused}
-use Rattle.theory.specs.declared.state.ClockState.{ClockState}
 use Rattle.theory.specs.declared.state.SetState.{SetState}
 use Rattle.theory.specs.declared.state.State.{State}
 use Rattle.theory.specs.Acceptance.{Fitting}
 use Rattle.theory.specs.Control.{liveIn, unseenIn, countIn, refusalIn}
 use Rattle.theory.specs.declared.masks.Masks.{Masks}
 use Rattle.theory.specs.Reckonings.{masksBy}
-use Rattle.theory.specs.Step.{masksUnless, clockStepBy, setStepBy, stepBy, masksOfClocks, masksOfSets, sameMasks, accepted, stepOf}
+use Rattle.theory.specs.Step.{masksUnless, setStepBy, stepBy}
 use Rattle.theory.proofs.Acceptance.{passed}
 
 -- an accepted record's numbers are in their ranges, and there is room for it
@@ -35,10 +34,6 @@ accepts control r n e z =
 
 -- a refused record leaves the state as it was
 
-pub clock-refused : (n : ℕ) (s : ClockState) (r : Record) → ¬ (n ≡ 0) → record { state = s; answer = Refused n } ≡ clockStepBy n s r
-clock-refused zero s r h = absurd (h refl)
-clock-refused (suc n) s r h = refl
-
 pub set-refused : (n : ℕ) (s : SetState) (r : Record) → ¬ (n ≡ 0) → record { state = s; answer = Refused n } ≡ setStepBy n s r
 set-refused zero s r h = absurd (h refl)
 set-refused (suc n) s r h = refl
@@ -46,13 +41,6 @@ set-refused (suc n) s r h = refl
 pub refused : (n : ℕ) (s : State) (r : Record) → ¬ (n ≡ 0) → record { state = s; answer = Refused n } ≡ stepBy n s r
 refused zero s r h = absurd (h refl)
 refused (suc n) s r h = refl
-
--- where no row applies, and clocks and sets agree
-
-pub step-accepted : (s : State) (r : Record) (n : ℕ) → n ≡ refusalIn (s .control) r → n ≡ 0 → sameMasks (masksOfClocks s r) (masksOfSets s r) ≡ true →
-    accepted s r ≡ stepOf s r
-unfolding stepOf
-step-accepted s r n e z q = rw (← e, z, q)
 
 -- no masks for a record that would be refused
 pub refused-masks : (n : ℕ) (m : Masks) → ¬ (n ≡ 0) → masksBy 0 0 ≡ masksUnless n m

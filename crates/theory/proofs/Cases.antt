@@ -8,10 +8,9 @@ use lib.Dec.{eqb}
 use lib.ListN.{length}
 use Rattle.theory.specs.declared.record.Record.{Record}
 use Rattle.theory.specs.declared.answer.Answer.{Answer}
-use Rattle.theory.specs.Verdict.{Verdict}
 use Rattle.theory.specs.Acceptance.{rows, firstRow, refusalBy}
 use Rattle.theory.specs.Step.{verdictBy, judgedBy}
-use Rattle.theory.specs.Feeding.{Says, says-clear, says-race, says-doubt, IsVerdict, is-clear, is-race, is-doubt}
+use Rattle.theory.specs.Feeding.{says-clear, says-race, says-doubt, Judged}
 
 first-row-bound : (n : ℕ) (bs : List Bool) → firstRow (suc n) bs ≤ n + length bs
 first-row-bound n [] = zero-le
@@ -25,10 +24,6 @@ pub refusal-bound : (l u : ℕ → Bool) (count : ℕ) (r : Record) → refusalB
 unfolding refusalBy
 refusal-bound l u count r = first-row-bound 0 (rows l u count r)
 
--- an answer that gives record n a verdict with a partner
-abbrev pub Judged : Answer → ℕ → Type 0
-Judged a n = (v : Verdict) × (w : ℕ) × Says a n v w
-
 verdict-by : (a b : Bool) (last : List ℕ) (k on number full arrived : ℕ) → Judged (verdictBy a b last k on number full arrived) number
 verdict-by true true last k on number full arrived = (_, _, says-clear)
 verdict-by true false last k on number full arrived = (_, _, says-doubt)
@@ -38,9 +33,3 @@ verdict-by false false last k on number full arrived = (_, _, says-race)
 pub judged-by : (last : List ℕ) (k on number full arrived : ℕ) → Judged (judgedBy last k on number full arrived) number
 unfolding judgedBy
 judged-by last k on number full arrived = verdict-by (eqb full 0) (eqb arrived 0) last k on number full arrived
-
--- what says a verdict is one
-pub says-verdict : {a : Answer} {n : ℕ} {v : Verdict} {w : ℕ} → Says a n v w → IsVerdict a
-says-verdict says-clear = is-clear
-says-verdict says-race = is-race
-says-verdict says-doubt = is-doubt

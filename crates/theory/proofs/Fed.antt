@@ -1,8 +1,8 @@
--- Demands 1, 2 and 3 for whatever list of records is fed: of the clocks, of the sets, and of the step with both. The statements are in
+-- Demands 1, 2 and 3 for whatever list of records is fed: of the step, which goes by the clocks, and of the sets. The statements are in
 -- specs/Feeding.antt. Assumes nothing.
 use mathlib.Core.Path.{_≡_, refl, sym, _∙_, ap, subst}
 use mathlib.Core.Bool.{Bool, true, false, cond}
-use mathlib.Core.Logic.{_↔_, _⊎_, inl, inr}
+use mathlib.Core.Logic.{_↔_}
 use mathlib.Core.List.{List, [], _∷_, _++_, map, append-assoc, append-nil}
 use Prim.Native.Nat.{ℕ, zero, suc, _+_, _≤_}
 use native.Mathlib.Omega.{arith}
@@ -15,18 +15,20 @@ use Rattle.theory.specs.Verdict.{Verdict, Race, Clear, Doubt, AccessAt, 
 use Rattle.theory.specs.Demands.{Firm}
 use Rattle.theory.specs.Decide.{judge, isAccessEvent}
 use Rattle.theory.specs.Control.{refusalIn}
+use Rattle.theory.specs.declared.masks.Masks.{Masks}
 use Rattle.theory.specs.History.{accesses}
-use Rattle.theory.specs.Step.{nextNumber, sameMasks, masksOfClocks, masksOfSets, accepted, stepOf}
+use Rattle.theory.specs.Reckonings.{clockMasks, setMasks}
+use Rattle.theory.specs.Step.{nextNumber, answeredBy, stepOf, setStepOf}
 use Rattle.theory.specs.Turns.{turns}
 use Rattle.theory.specs.Completion.{rounds, round, part, onEach}
 use Rattle.theory.specs.Examples.{Example, table}
-use Rattle.theory.specs.Feeding.{recordOf, verdictsOf, FedExamples, Says, says-clear, says-race, says-doubt, isRefusal, acceptedOf, Got, got-now, got-later, got-refused, EachAccess, FedDemand2, FedDemand3, FedPartner, FedAcceptance, refusalNumber, refusalNumbers, refusalsAfter, verdictAnswer, acceptedAnswer, answerBy, answerTo, answersFrom, fed, clockFed, setFed, Meets, meets-now, meets-later, NeverRow10, Demand1, Handled, refused, access-taken, other-taken}
+use Rattle.theory.specs.Feeding.{recordOf, verdictsOf, FedExamples, Says, says-clear, says-race, says-doubt, isRefusal, acceptedOf, Got, got-now, got-later, got-refused, EachAccess, FedDemand2, FedDemand3, FedPartner, FedAcceptance, refusalNumber, refusalNumbers, refusalsAfter, verdictAnswer, acceptedAnswer, answerBy, answerTo, answersFrom, fed, setFed, Judged, GetsVerdict, Demand1, Handled, refused, access-taken, other-taken}
 use Rattle.theory.specs.Order.{isAccess}
 use Rattle.theory.proofs.Reflects.{by-test, is-true}
 use Rattle.theory.proofs.Places.{Ends, ends, onward, at-ends}
 use Rattle.theory.proofs.Demands.{Ruling, judge-ruling, ruling-firm, ruling-with, firm-unmarked}
-use Rattle.theory.proofs.Feeding.{fed-answers, clock-fed-answers, set-fed-answers}
-use Rattle.theory.proofs.Cases.{refusal-bound, judged-by, says-verdict}
+use Rattle.theory.proofs.Feeding.{fed-answers, set-fed-answers}
+use Rattle.theory.proofs.Cases.{refusal-bound, judged-by}
 
 -- An accepted record's answer is no refusal
 
@@ -144,13 +146,10 @@ module _ (answers : List Record → List Answer) (right : (rs : List Record) →
     subst (λ (l : List Answer). refusalNumbers l ≡ refusalsAfter [] rs) (sym (right rs)) (numbers-from [] rs),
   )
 
--- Demand 3, of the step with both reckonings, of the clocks alone and of the sets alone
+-- Demand 3, of the step and of the sets
 
 pub demand3 : FedDemand3 fed
 demand3 = fed-demand3 fed fed-answers
-
-pub clocks-demand3 : FedDemand3 clockFed
-clocks-demand3 = fed-demand3 clockFed clock-fed-answers
 
 pub sets-demand3 : FedDemand3 setFed
 sets-demand3 = fed-demand3 setFed set-fed-answers
@@ -160,9 +159,6 @@ sets-demand3 = fed-demand3 setFed set-fed-answers
 pub demand2 : FedDemand2 fed
 demand2 = fed-demand2 fed fed-answers
 
-pub clocks-demand2 : FedDemand2 clockFed
-clocks-demand2 = fed-demand2 clockFed clock-fed-answers
-
 pub sets-demand2 : FedDemand2 setFed
 sets-demand2 = fed-demand2 setFed set-fed-answers
 
@@ -170,9 +166,6 @@ sets-demand2 = fed-demand2 setFed set-fed-answers
 
 pub partners : FedPartner fed
 partners = fed-partner fed fed-answers
-
-pub clocks-partners : FedPartner clockFed
-clocks-partners = fed-partner clockFed clock-fed-answers
 
 pub sets-partners : FedPartner setFed
 sets-partners = fed-partner setFed set-fed-answers
@@ -182,51 +175,33 @@ sets-partners = fed-partner setFed set-fed-answers
 pub acceptance : FedAcceptance fed
 acceptance = fed-acceptance fed fed-answers
 
-pub clocks-acceptance : FedAcceptance clockFed
-clocks-acceptance = fed-acceptance clockFed clock-fed-answers
-
 pub sets-acceptance : FedAcceptance setFed
 sets-acceptance = fed-acceptance setFed set-fed-answers
 
--- Row 10 and demand 1
+-- Demand 1, and that an access which no row refuses gets a verdict
 
-meets-cases : {n : ℕ} {a : Answer} {answers : List Answer} → Meets n (a ∷ answers) → (refusalNumber a ≡ n) ⊎ Meets n answers
-meets-cases meets-now = inl refl
-meets-cases (meets-later m) = inr m
+accepted-verdict : (last : List ℕ) (k on number : ℕ) (m : Masks) → accesses k ≡ true → Judged (answeredBy last k on number m) number
+accepted-verdict last k on number m q = rw q (judged-by last k on number (m .full) (m .arrived))
 
-row-below-10 : (es : List Event) (rs : List Record) → ¬ Meets 10 (answersFrom es rs)
-row-below-10 es [] m = elim m [ ]
-row-below-10 es (r ∷ rs) m = cases (meets-cases m) (row-below-10 (joined es r (refusal es r)) rs)
-  where
-    cases : (refusalNumber (answerTo es r) ≡ 10) ⊎ Meets 10 (answersFrom (joined es r (refusal es r)) rs) → ¬ Meets 10 (answersFrom (joined es r (refusal es r)) rs) → ⊥
-    cases (inl e) n =
-        let h : refusal es r ≤ 9 = refusal-bound _ _ _ r in
-        let q : refusal es r ≡ 10 = sym (number-to es r (refusal es r)) ∙ e in
-        omega arith
-    cases (inr m) n = n m
-
--- no list of records meets row 10
-pub never-row-10 : NeverRow10
-never-row-10 rs m = row-below-10 [] rs (subst (Meets 10) (fed-answers rs) m)
+pub gets-verdict : GetsVerdict
+unfolding stepOf setStepOf
+gets-verdict r q = (
+  λ s e. rw e (accepted-verdict (s .last) (r .kind) (r .on) (nextNumber (s .control)) (clockMasks (s .clocks) (s .fullclocks) (s .last) (r .kind) (r .task) (r .on)) q),
+  λ s e. rw e (accepted-verdict (s .last) (r .kind) (r .on) (nextNumber (s .control)) (setMasks (s .sets) (s .fullsets) (s .last) (r .kind) (r .task) (r .on)) q),
+)
 
 -- demand 1 for records
 pub demand1 : Demand1
 unfolding stepOf
-demand1 s r = decided (refusalIn (s .control) r) (refusal-bound _ _ _ r) refl (sameMasks (masksOfClocks s r) (masksOfSets s r)) refl
+demand1 s r = decided (refusalIn (s .control) r) (refusal-bound _ _ _ r) refl
   where
-    taken : stepOf s r ≡ accepted s r → Handled s r
-    taken e = by-kind (accesses (r .kind)) refl
-      where
-        by-kind : (b : Bool) → accesses (r .kind) ≡ b → Handled s r
-        by-kind true q =
-            access-taken q
-            (rw (e, q) (says-verdict ((judged-by (s .last) (r .kind) (r .on) (nextNumber (s .control)) _ _) .2)))
-        by-kind false q = other-taken q (rw (e, q))
+    taken : (b : Bool) → accesses (r .kind) ≡ b → refusalIn (s .control) r ≡ 0 → Handled s r
+    taken true q e = access-taken e q (gets-verdict r q .0 s e)
+    taken false q e = other-taken e q (rw (e, q))
 
-    decided : (n : ℕ) → refusalIn (s .control) r ≤ 9 → refusalIn (s .control) r ≡ n → (b : Bool) → sameMasks (masksOfClocks s r) (masksOfSets s r) ≡ b → Handled s r
-    decided (suc n) h e b q = refused (suc n) (omega arith) (omega arith) (rw e)
-    decided zero h e true q = taken (rw (e, q))
-    decided zero h e false q = refused 10 (omega arith) (omega arith) (rw (e, q))
+    decided : (n : ℕ) → refusalIn (s .control) r ≤ 9 → refusalIn (s .control) r ≡ n → Handled s r
+    decided (suc n) h e = refused (suc n) e (omega arith) (omega arith) (rw e)
+    decided zero h e = taken (accesses (r .kind)) refl e
 
 -- K1 to K12 come out of feeding as they come out of the definitions
 
@@ -242,9 +217,6 @@ table-fed = refl
 
 pub examples : FedExamples fed
 examples = same-rows fed fed-answers table ∙ table-fed
-
-pub clocks-examples : FedExamples clockFed
-clocks-examples = same-rows clockFed clock-fed-answers table ∙ table-fed
 
 pub sets-examples : FedExamples setFed
 sets-examples = same-rows setFed set-fed-answers table ∙ table-fed

@@ -1,4 +1,4 @@
--- Feeding answers what the recording so far says: of the clocks, of the sets, and of the step with both. Assumes nothing.
+-- Feeding answers what the recording so far says: of the clocks and of the sets. Assumes nothing.
 use mathlib.Core.Path.{_≡_, refl, sym, _∙_, ap, subst}
 use mathlib.Core.Bool.{Bool, true, false}
 use mathlib.Core.List.{List, [], _∷_, _++_}
@@ -11,7 +11,6 @@ use lib.Pow.{shr-shr}
 use lib.ListN.{length, replicate}
 use Rattle.theory.specs.declared.record.Record.{Record}
 use Rattle.theory.specs.declared.state.State.{State}
-use Rattle.theory.specs.declared.state.ClockState.{ClockState}
 use Rattle.theory.specs.declared.state.SetState.{SetState}
 use Rattle.theory.specs.Recording.{Op, read, write, take, give, look, start, join, Event, act, lost, series, seriesOf, kind, eventOf}
 use Rattle.theory.specs.Order.{isAccess}
@@ -20,8 +19,8 @@ use Rattle.theory.specs.Acceptance.{Fitting, isLive, isUnseen, phase, re
 use Rattle.theory.specs.Control.{controlAfter}
 use Rattle.theory.specs.History.{lastAfter}
 use Rattle.theory.specs.Reckonings.{clocksArrived, clocksFull, setsArrived, setsFull, clockMask, setMask, clockMasks, setMasks}
-use Rattle.theory.specs.Step.{nextNumber, answeredBy, sameMasks, clockStepOf, clockStepBy, setStepOf, setStepBy, stepOf, stepBy, agreed, freshControl, freshState, freshClocks, freshSets}
-use Rattle.theory.specs.Feeding.{fedTo, fedToClocks, fedToSets, fed, clockFed, setFed, acceptedAnswer, answerBy, answerTo, answersFrom}
+use Rattle.theory.specs.Step.{nextNumber, answeredBy, stepOf, stepBy, setStepOf, setStepBy, freshControl, freshState, freshSets}
+use Rattle.theory.specs.Feeding.{fedTo, fedToSets, fed, setFed, acceptedAnswer, answerBy, answerTo, answersFrom}
 use Rattle.theory.proofs.Reflects.{Reflects, right, wrong, by-test, equal, is-true}
 use Rattle.theory.proofs.Acceptance.{Passed, passed}
 use Rattle.theory.proofs.Reach.{arrived, full}
@@ -32,7 +31,7 @@ use Rattle.theory.proofs.ExactSets.{ExactSets, sets-act, sets-mark, set
 use Rattle.theory.proofs.Slots.{ExactHistory, history-act, history-mark, fresh-history, access-on, access-tests, other-tests}
 use Rattle.theory.proofs.Conflicts.{Ranged, ranged-act, ranged-mark, fresh-ranged}
 use Rattle.theory.proofs.Acted.{Seen, seen-event, fresh-seen, starts-unseen}
-use Rattle.theory.proofs.Represents.{clock-finds, set-finds, masks-same, judged-found}
+use Rattle.theory.proofs.Represents.{clock-finds, set-finds, judged-found}
 
 -- What an accepted record is
 
@@ -223,25 +222,9 @@ set-answer {es} {control} {last} {sets} {fullsets} b x (an-act o t n f live star
     decided (wrong l) = rw (other-tests o l, is-false {b = isAccess o} l, number)
 set-answer b x (a-mark t n some live) = rw (next-number (b .control-exact))
 
--- clocks and sets agree
-agree : {es : List Event} {control last clocks fullclocks sets fullsets : List ℕ} {r : Record} → Base es control last → Clocks es clocks fullclocks →
-    Sets es sets fullsets → Shape es r →
-    sameMasks (clockMasks clocks fullclocks last (r .kind) (r .task) (r .on)) (setMasks sets fullsets last (r .kind) (r .task) (r .on)) ≡ true
-agree {last = last} {clocks} {fullclocks} {sets} {fullsets} b x y (an-act o t n f live starts) = decided (by-test (isAccess o))
-  where
-    decided : {c : Bool} → Reflects (T (isAccess o)) c → sameMasks (clockMasks clocks fullclocks last (kind o) t n) (setMasks sets fullsets last (kind o) t n) ≡ true
-    decided (right a) =
-        rw (
-          access-tests o a,
-          eq-eqb (clockMask fullclocks last (kind o) t n) (setMask fullsets last (kind o) t n) (masks-same {w = full} o t n (b .history) (b .ranged) a (f .task-fits) (access-on o a (on-series o f)) (x .in-full) (y .in-full)),
-          eq-eqb (clockMask clocks last (kind o) t n) (setMask sets last (kind o) t n) (masks-same {w = arrived} o t n (b .history) (b .ranged) a (f .task-fits) (access-on o a (on-series o f)) (x .as-arrived) (y .as-arrived)),
-        )
-    decided (wrong l) = rw (other-tests o l)
-agree b x y (a-mark t n some live) = refl
-
 -- One record
 
-pub record RepresentsClocks (es : List Event) (s : ClockState) : Type 0 where
+pub record Represents (es : List Event) (s : State) : Type 0 where
   pub base : Base es (s .control) (s .last)
   pub clocks : Clocks es (s .clocks) (s .fullclocks)
 
@@ -249,17 +232,12 @@ pub record RepresentsSets (es : List Event) (s : SetState) : Type 0 where
   pub base : Base es (s .control) (s .last)
   pub sets : Sets es (s .sets) (s .fullsets)
 
-pub record Represents (es : List Event) (s : State) : Type 0 where
-  pub base : Base es (s .control) (s .last)
-  pub clocks : Clocks es (s .clocks) (s .fullclocks)
-  pub sets : Sets es (s .sets) (s .fullsets)
-
-pub clock-fed-one : (es : List Event) (s : ClockState) (r : Record) → RepresentsClocks es s →
-    ((clockStepOf s r) .answer ≡ answerTo es r) × RepresentsClocks (joined es r (refusal es r)) ((clockStepOf s r) .state)
-unfolding clockStepOf
-clock-fed-one es s r x = rw (same-refusal (x .base .control-exact) r) (decided (refusal es r) refl)
+pub fed-one : (es : List Event) (s : State) (r : Record) → Represents es s →
+    ((stepOf s r) .answer ≡ answerTo es r) × Represents (joined es r (refusal es r)) ((stepOf s r) .state)
+unfolding stepOf
+fed-one es s r x = rw (same-refusal (x .base .control-exact) r) (decided (refusal es r) refl)
   where
-    decided : (n : ℕ) → refusal es r ≡ n → ((clockStepBy n s r) .answer ≡ answerBy es r n) × RepresentsClocks (joined es r n) ((clockStepBy n s r) .state)
+    decided : (n : ℕ) → refusal es r ≡ n → ((stepBy n s r) .answer ≡ answerBy es r n) × Represents (joined es r n) ((stepBy n s r) .state)
     decided zero e =
         let h = shape-of es r e in
         (clock-answer (x .base) (x .clocks) h, record { base = base-next (x .base) h; clocks = clocks-next (x .base) (x .clocks) h })
@@ -276,23 +254,6 @@ set-fed-one es s r x = rw (same-refusal (x .base .control-exact) r) (decided (re
         (set-answer (x .base) (x .sets) h, record { base = base-next (x .base) h; sets = sets-next (x .base .seen) (x .sets) h })
     decided (suc n) e = (refl, x)
 
-pub fed-one : (es : List Event) (s : State) (r : Record) → Represents es s →
-    ((stepOf s r) .answer ≡ answerTo es r) × Represents (joined es r (refusal es r)) ((stepOf s r) .state)
-unfolding stepOf
-fed-one es s r x = rw (same-refusal (x .base .control-exact) r) (decided (refusal es r) refl)
-  where
-    Fed : Bool → Type 0
-    Fed b = ((agreed b s r) .answer ≡ answerBy es r 0) × Represents (joined es r 0) ((agreed b s r) .state)
-
-    decided : (n : ℕ) → refusal es r ≡ n → ((stepBy n s r) .answer ≡ answerBy es r n) × Represents (joined es r n) ((stepBy n s r) .state)
-    decided zero e =
-        let h = shape-of es r e in
-        subst Fed (sym (agree (x .base) (x .clocks) (x .sets) h)) (
-          clock-answer (x .base) (x .clocks) h,
-          record { base = base-next (x .base) h; clocks = clocks-next (x .base) (x .clocks) h; sets = sets-next (x .base .seen) (x .sets) h },
-        )
-    decided (suc n) e = (refl, x)
-
 -- A list
 
 fresh-base : Base [] freshControl (replicate 2048 0)
@@ -304,12 +265,6 @@ fed-to es s (r ∷ rs) x =
     let (e, y) = fed-one es s r x in
     rw (e, fed-to (joined es r (refusal es r)) ((stepOf s r) .state) rs y)
 
-pub fed-to-clocks : (es : List Event) (s : ClockState) (rs : List Record) → RepresentsClocks es s → fedToClocks s rs ≡ answersFrom es rs
-fed-to-clocks es s [] x = refl
-fed-to-clocks es s (r ∷ rs) x =
-    let (e, y) = clock-fed-one es s r x in
-    rw (e, fed-to-clocks (joined es r (refusal es r)) ((clockStepOf s r) .state) rs y)
-
 pub fed-to-sets : (es : List Event) (s : SetState) (rs : List Record) → RepresentsSets es s → fedToSets s rs ≡ answersFrom es rs
 fed-to-sets es s [] x = refl
 fed-to-sets es s (r ∷ rs) x =
@@ -320,16 +275,7 @@ fed-to-sets es s (r ∷ rs) x =
 
 pub fresh-represents : Represents [] freshState
 unfolding freshState
-fresh-represents =
-    record {
-      base = fresh-base;
-      clocks = record { as-arrived = fresh-clocks; in-full = fresh-clocks };
-      sets = record { as-arrived = fresh-sets; in-full = fresh-sets };
-    }
-
-pub fresh-represents-clocks : RepresentsClocks [] freshClocks
-unfolding freshClocks
-fresh-represents-clocks = record { base = fresh-base; clocks = record { as-arrived = fresh-clocks; in-full = fresh-clocks } }
+fresh-represents = record { base = fresh-base; clocks = record { as-arrived = fresh-clocks; in-full = fresh-clocks } }
 
 pub fresh-represents-sets : RepresentsSets [] freshSets
 unfolding freshSets
@@ -339,9 +285,6 @@ fresh-represents-sets = record { base = fresh-base; sets = record { as-arrived =
 
 pub fed-answers : (rs : List Record) → fed rs ≡ answersFrom [] rs
 fed-answers rs = fed-to [] freshState rs fresh-represents
-
-pub clock-fed-answers : (rs : List Record) → clockFed rs ≡ answersFrom [] rs
-clock-fed-answers rs = fed-to-clocks [] freshClocks rs fresh-represents-clocks
 
 pub set-fed-answers : (rs : List Record) → setFed rs ≡ answersFrom [] rs
 set-fed-answers rs = fed-to-sets [] freshSets rs fresh-represents-sets

@@ -1,5 +1,4 @@
--- A state that represents a recording answers as the recording does, and represents the next one: the clocks, the sets, and both.
--- Row 10 never applies. Assumes nothing.
+-- The masks of a table that is exact for a recording find what the search finds: the clocks' and the sets'. Assumes nothing.
 use mathlib.Core.Path.{_≡_, refl, ap}
 use mathlib.Core.Bool.{Bool, true, false, cond}
 use mathlib.Core.List.{List}
@@ -28,7 +27,7 @@ use Rattle.theory.proofs.Masked.{foundBy, mask-partner}
 
 -- The masks of an access
 
-same-test : {a b : Bool} → (T a → T b) → (T b → T a) → a ≡ b
+pub same-test : {a b : Bool} → (T a → T b) → (T b → T a) → a ≡ b
 same-test {a} {b} f g = decided (by-test a) (by-test b)
   where
     decided : {c d : Bool} → Reflects (T a) c → Reflects (T b) d → c ≡ d
@@ -54,12 +53,6 @@ module _ {w : Filling} {es : List Event} {last : List ℕ} (p : Op) (t v : ℕ) 
   set-finds {b} x =
       mask-partner (setApart b last (kind p) t v) (latestNumber last (kind p) v) (set-sound p t v x h ap ht hv)
       (λ u i c. (task-of r c, set-complete p t v x h ap ht hv u i (task-of r c) c))
-
-  -- clocks and sets have the same mask
-  pub masks-same : {b b′ : List ℕ} → ExactClocks w es b → ExactSets w es b′ → clockMask b last (kind p) t v ≡ setMask b′ last (kind p) t v
-  masks-same {b} {b′} x y =
-      mask-ext (clockApart b last (kind p) t v) (setApart b′ last (kind p) t v)
-      (λ u hu. same-test (λ a. let (i, c, e) = clock-sound p t v x h ap ht hv u hu a in set-complete p t v y h ap ht hv u i hu c) (λ a. let (i, c, e) = set-sound p t v y h ap ht hv u hu a in clock-complete p t v x h ap ht hv u i hu c))
 
 -- the answer that masks make is that of what they find
 answer-found : (a b : Bool) (last : List ℕ) (k on number fm am : ℕ) →

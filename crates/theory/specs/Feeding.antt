@@ -1,5 +1,5 @@
 -- Feeding a list of records one after the other from a fresh state, and the demands on what it answers. A record may be of any kind,
--- known or not, and refused ones are fed too. proofs/Fed.antt proves the demands of the clocks, of the sets, and of the step with both.
+-- known or not, and refused ones are fed too. proofs/Fed.antt proves the demands of the step, which goes by the clocks, and of the sets.
 use Prim.Native.Nat.{ℕ, zero, suc, _≤_, _<_}
 use lib.Dec.{T}
 use mathlib.Core.Path.{_≡_}
@@ -13,7 +13,6 @@ use Rattle.theory.specs.declared.answer.Answer.the-variants.{Refused, Ac
 use Rattle.theory.specs.declared.answer.Answer.the-variants as the
 use Rattle.theory.specs.declared.numbers.RecordNumber.{RecordNumber}
 use Rattle.theory.specs.declared.state.State.{State}
-use Rattle.theory.specs.declared.state.ClockState.{ClockState}
 use Rattle.theory.specs.declared.state.SetState.{SetState}
 use Rattle.theory.specs.Recording.{Event, act, lost, kind, lossMark, Unmarked, eventOf}
 use Rattle.theory.specs.Acceptance.{refusal, joined, recording}
@@ -21,11 +20,12 @@ use Rattle.theory.specs.Verdict.{Verdict, Race, Clear, Doubt, AccessAt, 
 use Rattle.theory.specs.Demands.{Firm}
 use Rattle.theory.specs.Decide.{judge, isAccessEvent}
 use Rattle.theory.specs.Limits.{tasks}
+use Rattle.theory.specs.Control.{refusalIn}
 use Rattle.theory.specs.History.{accesses}
 use Rattle.theory.specs.Reckonings.{clockApart, setApart}
 use Rattle.theory.specs.Decide
 use Rattle.theory.specs.Examples.{Example, table}
-use Rattle.theory.specs.Step.{recordNumber, nextNumber, stepOf, clockStepOf, setStepOf, freshState, freshClocks, freshSets}
+use Rattle.theory.specs.Step.{recordNumber, nextNumber, stepOf, setStepOf, apartByClocks, apartBySets, freshState, freshSets}
 
 -- What feeding answers, one answer for each record
 
@@ -33,19 +33,12 @@ abbrev pub fedTo : State → List Record → List Answer
 fedTo s [] = []
 fedTo s (r ∷ rs) = (stepOf s r) .answer ∷ fedTo ((stepOf s r) .state) rs
 
-abbrev pub fedToClocks : ClockState → List Record → List Answer
-fedToClocks s [] = []
-fedToClocks s (r ∷ rs) = (clockStepOf s r) .answer ∷ fedToClocks ((clockStepOf s r) .state) rs
-
 abbrev pub fedToSets : SetState → List Record → List Answer
 fedToSets s [] = []
 fedToSets s (r ∷ rs) = (setStepOf s r) .answer ∷ fedToSets ((setStepOf s r) .state) rs
 
 abbrev pub fed : List Record → List Answer
 fed = fedTo freshState
-
-abbrev pub clockFed : List Record → List Answer
-clockFed = fedToClocks freshClocks
 
 abbrev pub setFed : List Record → List Answer
 setFed = fedToSets freshSets
@@ -142,9 +135,9 @@ answersFrom es (r ∷ rs) = answerTo es r ∷ answersFrom (joined es r (refusal 
 
 -- Each reckoning on its own says "path" exactly where Order has one
 
-abbrev pub clocksAfter : ClockState → List Record → ClockState
+abbrev pub clocksAfter : State → List Record → State
 clocksAfter s [] = s
-clocksAfter s (r ∷ rs) = clocksAfter ((clockStepOf s r) .state) rs
+clocksAfter s (r ∷ rs) = clocksAfter ((stepOf s r) .state) rs
 
 abbrev pub setsAfter : SetState → List Record → SetState
 setsAfter s [] = s
@@ -163,7 +156,7 @@ ClockPaths =
     (rs : List Record) (r : Record) →
     refusal (recording rs) r ≡ 0 →
     accesses (r .kind) ≡ true →
-    let s : ClockState = clocksAfter freshClocks rs in
+    let s : State = clocksAfter freshState rs in
     SaysPaths (recording rs) (eventOf r) (clockApart (s .clocks) (s .last) (r .kind) (r .task) (r .on)) (clockApart (s .fullclocks) (s .last) (r .kind) (r .task) (r .on))
 
 abbrev pub SetPaths : Type 0
@@ -174,29 +167,37 @@ SetPaths =
     let s : SetState = setsAfter freshSets rs in
     SaysPaths (recording rs) (eventOf r) (setApart (s .sets) (s .last) (r .kind) (r .task) (r .on)) (setApart (s .fullsets) (s .last) (r .kind) (r .task) (r .on))
 
--- Demand 1, for records: in any state a record is refused with a number of the table, and the state is as it was, or it is taken in, an
--- access with a verdict
+-- Demand 1, for records: in any state a record is refused with the number of the first row that applies, and the state is as it was, or it
+-- is taken in, an access with a verdict
 
-pub data IsVerdict : Answer → Type 0 where
-  is-clear : {n : RecordNumber} → IsVerdict (the.Clear n)
-  is-race : {n w : RecordNumber} → IsVerdict (the.Race n w)
-  is-doubt : {n w : RecordNumber} → IsVerdict (the.Doubt n w)
+-- the answer gives record n a verdict with a partner
+abbrev pub Judged : Answer → ℕ → Type 0
+Judged a n = (v : Verdict) × (w : ℕ) × Says a n v w
 
 pub data Handled (s : State) (r : Record) : Type 0 where
-  refused : (n : ℕ) → 1 ≤ n → n ≤ 10 → stepOf s r ≡ record { state = s; answer = Refused n } → Handled s r
-  access-taken : accesses (r .kind) ≡ true → IsVerdict ((stepOf s r) .answer) → Handled s r
-  other-taken : accesses (r .kind) ≡ false → (stepOf s r) .answer ≡ Accepted (recordNumber (nextNumber (s .control))) → Handled s r
+  refused : (n : ℕ) → refusalIn (s .control) r ≡ n → 1 ≤ n → n ≤ 9 → stepOf s r ≡ record { state = s; answer = Refused n } → Handled s r
+  access-taken : refusalIn (s .control) r ≡ 0 → accesses (r .kind) ≡ true → Judged ((stepOf s r) .answer) (nextNumber (s .control)) → Handled s r
+  other-taken : refusalIn (s .control) r ≡ 0 → accesses (r .kind) ≡ false → (stepOf s r) .answer ≡ Accepted (recordNumber (nextNumber (s .control))) → Handled s r
 
 abbrev pub Demand1 : Type 0
 Demand1 = (s : State) (r : Record) → Handled s r
 
--- no list of records meets row 10
-pub data Meets (n : ℕ) : List Answer → Type 0 where
-  meets-now : {answers : List Answer} → Meets n (Refused n ∷ answers)
-  meets-later : {a : Answer} {answers : List Answer} → Meets n answers → Meets n (a ∷ answers)
+-- "A user may now count on each access that passes rows 1 to 9 getting a verdict", in any state, by the clocks and by the sets
+abbrev pub GetsVerdict : Type 0
+GetsVerdict =
+    (r : Record) →
+    accesses (r .kind) ≡ true →
+    ((s : State) → refusalIn (s .control) r ≡ 0 → Judged ((stepOf s r) .answer) (nextNumber (s .control)))
+    × ((s : SetState) → refusalIn (s .control) r ≡ 0 → Judged ((setStepOf s r) .answer) (nextNumber (s .control)))
 
-abbrev pub NeverRow10 : Type 0
-NeverRow10 = (rs : List Record) → ¬ Meets 10 (fed rs)
+-- Clocks and sets match, after every list of records from a fresh state: they answered each record alike, and whatever record comes next,
+-- they say the same of every path that they are asked about, as it arrived and in the fullest filling
+pub record Match (rs : List Record) : Type 0 where
+  pub answers : fed rs ≡ setFed rs
+  pub paths : (r : Record) → apartByClocks (clocksAfter freshState rs) r ≡ apartBySets (setsAfter freshSets rs) r
+
+abbrev pub ReckoningsMatch : Type 0
+ReckoningsMatch = (rs : List Record) → Match rs
 
 -- The short recordings, fed
 

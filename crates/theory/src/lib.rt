@@ -14,8 +14,6 @@ pub use numbers::Semaphore;
 pub use numbers::Task;
 pub use numbers::Variable;
 pub use record::Record;
-pub use state::ClockState;
-pub use state::ClockStepped;
 pub use state::SetState;
 pub use state::SetStepped;
 pub use state::State;

@@ -1,6 +1,6 @@
 use crate::answer::Answer;
 
-// The running state of both reckonings, as tables of numbers.
+// The running state, as tables of numbers.
 pub struct State {
     // Each task's phase (0 unseen, 1 live, 2 ended), then the count of accepted records.
     pub control: [u32; 17],
@@ -9,9 +9,6 @@ pub struct State {
     // The clocks of the recording as it arrived, and those of the fullest filling.
     pub clocks: [u32; 1312],
     pub fullclocks: [u32; 1312],
-    // The sets likewise.
-    pub sets: [u32; 5248],
-    pub fullsets: [u32; 5248],
 }
 
 pub struct Stepped {
@@ -19,20 +16,7 @@ pub struct Stepped {
     pub answer: Answer,
 }
 
-// The clocks with what they need, and no sets.
-pub struct ClockState {
-    pub control: [u32; 17],
-    pub last: [u32; 2048],
-    pub clocks: [u32; 1312],
-    pub fullclocks: [u32; 1312],
-}
-
-pub struct ClockStepped {
-    pub state: ClockState,
-    pub answer: Answer,
-}
-
-// The sets with what they need, and no clocks.
+// The state of the sets, which are a reckoning of their own: with sets in place of the clocks.
 pub struct SetState {
     pub control: [u32; 17],
     pub last: [u32; 2048],

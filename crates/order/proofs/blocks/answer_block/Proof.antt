@@ -7,11 +7,11 @@ use Rattle.order.proofs.blocks.answer_block.Statement.{statement}
 use Rattle.order.proofs.blocks.answer_block.Tie as tie
 
 abbrev Inv-loop : tie.InvT-loop
-Inv-loop out₀ block held₀ control₀ last₀ clocks₀ fullclocks₀ sets₀ fullsets₀ now₀ p₀ out held control last clocks fullclocks sets fullsets now p =
+Inv-loop out₀ block held₀ control₀ last₀ clocks₀ fullclocks₀ now₀ p₀ out held control last clocks fullclocks now p =
     (p ≤ length block) × (length out ≡ length out₀) × (length held ≡ length held₀)
 
 abbrev μ-loop : tie.MeasureT-loop
-μ-loop out₀ block held₀ control₀ last₀ clocks₀ fullclocks₀ sets₀ fullsets₀ now₀ p₀ out held control last clocks fullclocks sets fullsets now p =
+μ-loop out₀ block held₀ control₀ last₀ clocks₀ fullclocks₀ now₀ p₀ out held control last clocks fullclocks now p =
     length block - p
 
 pub answer-block-spec : {M : Type 1} → statement M

@@ -14,12 +14,12 @@ use Rattle.report.proofs.answering.put_lines.Statement.{statement}
 use Rattle.report.proofs.answering.put_lines.Tie as tie
 
 abbrev Inv-loop : tie.InvT-loop
-Inv-loop out₀ at lines piece from control₀ last₀ clocks₀ fullclocks₀ sets₀ fullsets₀ at₀ number₀ p₀ end out control last clocks fullclocks sets fullsets at' number p =
+Inv-loop out₀ at lines piece from control₀ last₀ clocks₀ fullclocks₀ at₀ number₀ p₀ end out control last clocks fullclocks at' number p =
     (p ≤ length piece) × (number + (length piece - p) ≤ lines + (length piece - from)) × (length out ≡ length out₀)
-    × Left out₀ at (saidIn (kept (stateOf control₀ last₀ clocks₀ fullclocks₀ sets₀ fullsets₀) lines []) (drop from piece)) (afterPiece (kept (stateOf control₀ last₀ clocks₀ fullclocks₀ sets₀ fullsets₀) lines []) (drop from piece)) out at' (stateOf control last clocks fullclocks sets fullsets) number piece p
+    × Left out₀ at (saidIn (kept (stateOf control₀ last₀ clocks₀ fullclocks₀) lines []) (drop from piece)) (afterPiece (kept (stateOf control₀ last₀ clocks₀ fullclocks₀) lines []) (drop from piece)) out at' (stateOf control last clocks fullclocks) number piece p
 
 abbrev μ-loop : tie.MeasureT-loop
-μ-loop out₀ at lines piece from control₀ last₀ clocks₀ fullclocks₀ sets₀ fullsets₀ at₀ number₀ p₀ end out control last clocks fullclocks sets fullsets at' number p = length piece - p
+μ-loop out₀ at lines piece from control₀ last₀ clocks₀ fullclocks₀ at₀ number₀ p₀ end out control last clocks fullclocks at' number p = length piece - p
 
 loop-holds : tie.Need-loop-holds Inv-loop μ-loop
 loop-holds c = (c .before .before .before .pre .0, omega arith, refl, left-start (c .before .before .before .pre .1))
@@ -32,7 +32,7 @@ next-parsed-requires c κs = c .before .before .loop .inv .0
 
 put-parsed-requires : tie.Need-put-parsed-requires Inv-loop μ-loop
 put-parsed-requires c κs =
-    let at-next-parsed = c .before .before .before .before .before .before .before in
+    let at-next-parsed = c .before .before .before .before .before in
     let at-loop-test = at-next-parsed .before .before in
     let at-loop = at-loop-test .before in
     let at-rest-start = at-loop .before in
@@ -41,14 +41,14 @@ put-parsed-requires c κs =
 
 loop-less : tie.Need-loop-less Inv-loop μ-loop
 loop-less c =
-    let at-next-parsed = c .before .before .before .before .before .before .before .before .before .before in
+    let at-next-parsed = c .before .before .before .before .before .before .before .before in
     let at-loop-test = at-next-parsed .before .before in
     let at-rest-start = at-loop-test .before .before in
     let m = moved _ _ (ends-before _ _ _ (at-loop-test .loop-test .taken) (at-rest-start .rest-start .ensures .0) (at-rest-start .rest-start .ensures .2)) (at-next-parsed .next-parsed .ensures .1) in omega (arith, m .0, m .1)
 
 loop-again : tie.Need-loop-again Inv-loop μ-loop
 loop-again c =
-    let at-next-parsed = c .before .before .before .before .before .before .before .before .before .before in
+    let at-next-parsed = c .before .before .before .before .before .before .before .before in
     let at-loop-test = at-next-parsed .before .before in
     let at-loop = at-loop-test .before in
     let at-rest-start = at-loop .before in

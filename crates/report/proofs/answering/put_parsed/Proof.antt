@@ -11,13 +11,13 @@ returns c = let e = c .before .before .before .before .enum-told .given .1 in ((
 
 put-answer-requires : tie.Need-put-answer-requires
 put-answer-requires c κs =
-    let at-parsed = c .before .before .before .before .before .before .before .before .before in
+    let at-parsed = c .before .before .before .before .before .before .before in
     let at-start = at-parsed .before .before .before in
     let s = at-start .pre .1 _ (at-parsed .parsed .given .1) in (search needs, omega (arith, s .task-short), omega (arith, s .on-short))
 
 returns-2 : tie.Need-returns-2
 returns-2 c =
-    let e = c .before .before .before .before .before .before .before .before .before .before .before .before .parsed .given .1 in
+    let e = c .before .before .before .before .before .before .before .before .before .before .parsed .given .1 in
     let f = c .before .before .before .before .step-in-place .ensures in
     ((c .before .before .put-answer .ensures .1, rw (e, ← ap (λ (x : Stepped). x .answer) f) (c .before .before .put-answer .ensures .0)), rw e (ap (λ (x : Stepped). x .state) f))
 

@@ -1,7 +1,9 @@
 -- The whole text is one piece; what is held at its end is a line.
 use mathlib.Core.Path.{refl, ap}
 use native.Mathlib.Omega.{arith}
-use Rattle.theory.specs.Step.{freshState}
+use mathlib.Core.List.{[]}
+use Rattle.theory.specs.declared.state.State.{State}
+use Rattle.text.specs.Pieces.{kept}
 use Rattle.text.specs.declared.progress.Progress.{Progress}
 use Rattle.text.proofs.Held.{lines-after, held-within, kept-after, text-said}
 use borrow.Author.Needs.{needs}
@@ -10,18 +12,19 @@ use Rattle.report.proofs.entry.write_report.Tie as tie
 
 put-rest-requires : tie.Need-put-rest-requires
 put-rest-requires c κs =
-    let p = c .before .before .before .before .before .before .before .before .before .before .before .put-piece .ensures in
+    let p = c .before .before .before .before .before .before .before .before .before .put-piece .ensures in
     let l = lines-after _ _ _ (p .0 .0) in
     (held-within _ _ _ (p .0 .0) _ (p .1 .0 .1) (omega arith) (omega arith), p .1 .1 refl, search needs)
 
 returns : tie.Need-returns
-unfolding freshState
 returns c =
-    let p = c .before .before .before .before .before .before .before .before .before .before .before .before .before .before .put-piece .ensures in
+    let at-put-piece = c .before .before .before .before .before .before .before .before .before .before .before .before in
+    let at-begin = at-put-piece .before .before .before .before .before .before .before in
+    let p = at-put-piece .put-piece .ensures in
     text-said _ (record { place = ap (λ (x : Progress). x .at) (p .0 .0); memory = p .0 .1 })
     (kept-after _ _ _ (p .0 .0) _ (p .1 .0 .1) (omega arith) (omega arith) (p .1 .0 .0))
     (c .before .before .put-rest .ensures .0)
-    refl
+    (ap (λ (x : State). kept x 0 []) (at-begin .begin .ensures))
 
 pub write-report-spec : {M : Type 1} → statement M
 write-report-spec =

@@ -14,14 +14,14 @@ slice-aggregate-put-first c =
 
 put-first-requires : tie.Need-put-first-requires
 put-first-requires c κs =
-    let b = c .before .before .before .before .before .before .before .before .before .before .before .before in
+    let b = c .before .before .before .before .before .before .before .before .before .before in
     let l = some-lines (b .args .piece .now) (omega (arith, b .pre .5)) in
     (omega (arith, l, b .pre .0), b .pre .1, b .pre .2)
 
 put-lines-requires : tie.Need-put-lines-requires
 put-lines-requires c κs =
-    let f = c .before .before .before .before .before .before .before .before .before in
-    let b = f .before .before .before .before .before .before .before .before .before .before .before .before .before in
+    let f = c .before .before .before .before .before .before .before in
+    let b = f .before .before .before .before .before .before .before .before .before .before .before in
     let l = lines-at (b .args .piece .now) 0 _ (omega (arith, b .pre .5)) (b .pre .4) in
     let w = f .put-first .ensures .0 in
     (omega (arith, b .pre .5), omega (arith, l, b .pre .0, w .0, as-long (w .1)), omega (arith, b .pre .3, b .pre .5))
@@ -29,8 +29,8 @@ put-lines-requires c κs =
 returns : tie.Need-returns
 returns c =
     let p = c .before .before in
-    let f = p .before .before .before .before .before .before .before .before .before .before in
-    let b = f .before .before .before .before .before .before .before .before .before .before .before .before .before in
+    let f = p .before .before .before .before .before .before .before .before in
+    let b = f .before .before .before .before .before .before .before .before .before .before .before in
     let h = short-held _ (b .pre .1) in (
       piece-said _ _ _ _ _ h (b .pre .4) (b .pre .5) (f .put-first .ensures .0 .1) (f .put-first .ensures .1) (p .put-lines .ensures .0),
       (p .put-lines .ensures .1 .0, p .put-lines .ensures .1 .1, piece-kept _ _ _ _ _ h (b .pre .4) (b .pre .5) (f .put-first .ensures .1) (p .put-lines .ensures .1 .2)),

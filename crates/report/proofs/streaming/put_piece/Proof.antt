@@ -21,7 +21,7 @@ returns-2 : tie.Need-returns-2
 returns-2 c =
     let h = c .before .before in
     let p = h .before .before .before .before .before in
-    let b = p .before .before .before .before .before .before .before .before .before .before .before .before .before .before in
+    let b = p .before .before .before .before .before .before .before .before .before .before .before .before in
     let held = b .args .held .now in
     let w = p .put-ended .ensures .0 in
     let (_, room, k) = p .put-ended .ensures .1 in

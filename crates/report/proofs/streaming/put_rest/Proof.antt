@@ -13,13 +13,13 @@ slice-aggregate-put-line c = counted _ _ (c .before .before .before .before .bef
 
 put-line-requires : tie.Need-put-line-requires
 put-line-requires c κs =
-    let at-if1 = c .before .before .before .before .before .before .before .before .before in
+    let at-if1 = c .before .before .before .before .before .before .before in
     let at-start = at-if1 .before .before .before in
     at-start .pre .1 (omega (arith, at-if1 .if1 .left))
 
 returns-2 : tie.Need-returns-2
 returns-2 c =
-    let at-if1 = c .before .before .before .before .before .before .before .before .before .before .before .before in
+    let at-if1 = c .before .before .before .before .before .before .before .before .before .before in
     let at-start = at-if1 .before .before .before in
     line-held _ (at-start .args .begun) (at-start .args .held .now) _ (at-start .pre .0) (at-if1 .if1 .left) (c .before .before .put-line .ensures .0 .1) (c .before .before .put-line .ensures .1)
 

@@ -10,12 +10,12 @@ returns : tie.Need-returns
 returns c = let e = sym (c .before .has-room .ensures) ∙ not-true _ (c .if1 .taken) in ((rw e, rw e), (rw e, rw e))
 
 put-piece-requires : tie.Need-put-piece-requires
-put-piece-requires c κs = room-enough (c .before .before .before .before .before .before .before .before .before .before .before .before .before .args .out .now) (c .before .before .before .before .before .before .before .before .before .before .before .before .before .args .piece .now) (c .before .before .before .before .before .before .before .before .before .before .before .before .before .args .held .now) (c .before .before .before .before .before .before .before .before .before .before .before .before .before .args .begun) (search needs) (sym (c .before .before .before .before .before .before .before .before .before .has-room .ensures) ∙ not-false _ (c .before .before .before .before .before .before .before .before .if1 .left))
+put-piece-requires c κs = room-enough (c .before .before .before .before .before .before .before .before .before .before .before .args .out .now) (c .before .before .before .before .before .before .before .before .before .before .before .args .piece .now) (c .before .before .before .before .before .before .before .before .before .before .before .args .held .now) (c .before .before .before .before .before .before .before .before .before .before .before .args .begun) (search needs) (sym (c .before .before .before .before .before .before .before .has-room .ensures) ∙ not-false _ (c .before .before .before .before .before .before .if1 .left))
 
 returns-2 : tie.Need-returns-2
 returns-2 c =
     let at-put-piece = c .before .before .before .before in
-    let at-if1 = at-put-piece .before .before .before .before .before .before .before .before .before in
+    let at-if1 = at-put-piece .before .before .before .before .before .before .before in
     let at-has-room = at-if1 .before in
     let e = sym (at-has-room .has-room .ensures) ∙ not-false _ (at-if1 .if1 .left) in let p = at-put-piece .put-piece .ensures in ((rw e (p .0 .0), rw e (p .0 .1)), (rw e (p .1 .0 .0), rw e (p .1 .0 .1)))
 

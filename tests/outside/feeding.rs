@@ -1,0 +1,150 @@
+//! The running state and the sets, fed without text, in lent tables with guard cells on both sides.
+
+use crate::oracle::{self, Act, Judged, Reading, Record};
+use crate::tally::Tally;
+
+const GUARD: usize = 64;
+const FILL: u32 = 0xa5a5_a5a5;
+/// How many records before the one that differs are printed.
+const SHOWN: usize = 60;
+
+/// A record as it is fed: the number of its kind, its task, and its number or mask.
+pub type Numbers = (u8, u32, u32);
+
+type Begin = unsafe extern "C" fn(*mut u32, *mut u32, *mut u32, *mut u32);
+type Feed = unsafe extern "C" fn(*mut u32, *mut u32, *mut u32, *mut u32, u8, u32, u32, *mut u32);
+
+extern "C" {
+    fn order_begin(control: *mut u32, last: *mut u32, clocks: *mut u32, fullclocks: *mut u32);
+    fn order_feed(
+        control: *mut u32,
+        last: *mut u32,
+        clocks: *mut u32,
+        fullclocks: *mut u32,
+        kind: u8,
+        task: u32,
+        on: u32,
+        answer: *mut u32,
+    );
+    fn order_sets_begin(control: *mut u32, last: *mut u32, sets: *mut u32, fullsets: *mut u32);
+    fn order_sets_feed(
+        control: *mut u32,
+        last: *mut u32,
+        sets: *mut u32,
+        fullsets: *mut u32,
+        kind: u8,
+        task: u32,
+        on: u32,
+        answer: *mut u32,
+    );
+}
+
+/// One of the two reckonings: how large its tables are, and its calls.
+pub struct Reckoning {
+    pub name: &'static str,
+    sizes: [usize; 4],
+    begin: Begin,
+    feed: Feed,
+}
+
+pub const BOTH: [Reckoning; 2] = [
+    Reckoning { name: "clocks", sizes: [17, 2048, 1312, 1312], begin: order_begin, feed: order_feed },
+    Reckoning { name: "sets", sizes: [17, 2048, 5248, 5248], begin: order_sets_begin, feed: order_sets_feed },
+];
+
+/// A state in one piece of memory, a guard before, between and after its tables.
+pub struct Lent<'a> {
+    by: &'a Reckoning,
+    memory: Vec<u32>,
+}
+
+impl Lent<'_> {
+    /// Tables that hold these numbers.
+    pub fn holding(by: &Reckoning, mut cell: impl FnMut() -> u32) -> Lent<'_> {
+        let mut memory = vec![FILL; GUARD];
+        for size in by.sizes {
+            memory.extend((0..size).map(|_| cell()));
+            memory.extend([FILL; GUARD]);
+        }
+        Lent { by, memory }
+    }
+
+    /// Tables that held anything and are made those of a fresh state.
+    fn fresh(by: &Reckoning) -> Result<Lent<'_>, String> {
+        let mut lent = Lent::holding(by, || FILL);
+        let [control, last, arrived, full] = lent.tables();
+        // SAFETY: the pointers are valid for the sizes of the tables, which do not overlap.
+        unsafe { (by.begin)(control, last, arrived, full) };
+        lent.guarded().then_some(lent).ok_or("begin changed cells beside the tables".to_string())
+    }
+
+    fn tables(&mut self) -> [*mut u32; 4] {
+        let mut after = self.memory.as_mut_ptr();
+        self.by.sizes.map(|size| {
+            let table = after.wrapping_add(GUARD);
+            after = table.wrapping_add(size);
+            table
+        })
+    }
+
+    fn guarded(&self) -> bool {
+        let mut place = 0;
+        self.by.sizes.iter().chain(&[0]).all(|size| {
+            let guard = &self.memory[place..][..GUARD];
+            place += GUARD + size;
+            guard == [FILL; GUARD]
+        })
+    }
+
+    /// Feeds a record. Answers what was written, or says what was spoilt. If it is `watched` and refused, the state must be as it was.
+    pub fn feed(&mut self, (kind, task, on): Numbers, watched: bool) -> Result<[u32; 3], String> {
+        let before = if watched { self.memory.clone() } else { Vec::new() };
+        let mut memory = [FILL; GUARD + 3 + GUARD];
+        let [control, last, arrived, full] = self.tables();
+        // SAFETY: as above, and the answer has its three cells.
+        unsafe { (self.by.feed)(control, last, arrived, full, kind, task, on, memory[GUARD..].as_mut_ptr()) };
+        let answer = [memory[GUARD], memory[GUARD + 1], memory[GUARD + 2]];
+        if !self.guarded() || memory[..GUARD] != [FILL; GUARD] || memory[GUARD + 3..] != [FILL; GUARD] {
+            return Err(format!("{answer:?}, and cells beside the tables or the answer are changed"));
+        }
+        if watched && answer[0] == 0 && self.memory != before {
+            return Err(format!("{answer:?}, and the state is not as it was"));
+        }
+        Ok(answer)
+    }
+}
+
+/// Feeds the records to a fresh state and holds each answer against what is expected. Says what differs.
+fn compare(by: &Reckoning, records: &[Numbers], expected: &[[u32; 3]]) -> Result<(), String> {
+    let mut lent = Lent::fresh(by)?;
+    for (at, (record, expected)) in records.iter().zip(expected).enumerate() {
+        let answer = lent.feed(*record, expected[0] == 0);
+        if answer.as_ref() != Ok(expected) {
+            let got = answer.map_or_else(|why| why, |got| format!("{got:?}"));
+            let last = &records[at.saturating_sub(SHOWN)..=at];
+            let fed = format!("record {} of those fed; up to it, by kind, task and number\n{last:?}", at + 1);
+            return Err(format!("{fed}\n--- expected\n{expected:?}\n--- got\n{got}\n---"));
+        }
+    }
+    Ok(())
+}
+
+/// Both reckonings answer each of these records, as it was read, just as the path search does.
+pub fn expect(tally: &mut Tally, name: &str, records: &[Numbers], reading: &Reading, judged: &[Judged]) {
+    let expected = oracle::answers(reading, judged);
+    assert_eq!(records.len(), expected.len());
+    for by in &BOTH {
+        let result = compare(by, records, &expected);
+        tally.check(result.is_ok(), || format!("{}, {name}: {}", by.name, result.unwrap_err()));
+    }
+}
+
+/// The records of a text. A mark gets any number as its task, which is not looked at; a line that yields no record is one of no known kind.
+pub fn records(text: &[u8]) -> Vec<Numbers> {
+    let numbers = |line: &&[u8]| match oracle::read_line(line) {
+        Some(Record::Act(Act { op, task, on })) => (oracle::WORDS.iter().position(|&(_, known)| known == op).unwrap() as u8, task, on),
+        Some(Record::Lost(mask)) => (oracle::LOST, mask.wrapping_mul(0x9e37_79b9), mask),
+        None => (u8::MAX - (line.len() % 200) as u8, 0, 0),
+    };
+    oracle::lines(text).iter().map(numbers).collect()
+}
