@@ -10,8 +10,8 @@ use theory::Masks;
 use theory::Record;
 use theory::Sets;
 ghost use mathlib.Core.Path.{_≡_};
-ghost use Rattle.theory.specs.Step.{apartByClocks, apartBySets};
-ghost use Rattle.theory.specs.Lent.{tables, setTables};
+ghost use Rattle.theory.specs.feeding.Step.{apartByClocks, apartBySets};
+ghost use Rattle.theory.specs.feeding.Lent.{tables, setTables};
 
 // By the clocks.
 pub fn apart_by_clocks(

@@ -23,13 +23,13 @@ ghost use mathlib.Core.Path.{_≡_};
 ghost use Prim.Native.Nat.{_<_, _≤_, _+_, max};
 ghost use lib.Dec.{ltb};
 ghost use lib.ListN.{getD};
-ghost use Rattle.theory.specs.History.{slots};
-ghost use Rattle.theory.specs.Tables.{joinRow, rowOf, joinWith, heardWith, putRow, flow, joinsActed, onward, gather, spread, noteNamed, mix};
-ghost use Rattle.theory.specs.Completion.{arrived, full};
-ghost use Rattle.theory.specs.Reckonings.{clockOwn, clocksBy, maskOf, clockMasks};
-ghost use Rattle.theory.specs.Limits.{tasks, variables};
-ghost use Rattle.theory.specs.Recording.{Op, kind as number};
-ghost use Rattle.theory.specs.Acceptance.{Fitting, Proper};
+ghost use Rattle.theory.specs.history.History.{slots};
+ghost use Rattle.theory.specs.tables.Rows.{joinRow, rowOf, joinWith, heardWith, putRow, flow, joinsActed, onward, gather, spread, noteNamed, mix};
+ghost use Rattle.theory.specs.fillings.Completion.{arrived, full};
+ghost use Rattle.theory.specs.tables.Reckonings.{clockOwn, clocksBy, maskOf, clockMasks};
+ghost use Rattle.theory.specs.order.Limits.{tasks, variables};
+ghost use Rattle.theory.specs.order.Recording.{Op, kind as number};
+ghost use Rattle.theory.specs.acceptance.Table.{Fitting, Proper};
 
 // Where the row of what has acted begins.
 const ACTED: usize = 1296;

@@ -1,12 +1,12 @@
-// The control table: each task's phase, then the count of accepted records. crates/theory/specs/Control.antt says the same of the table as a list.
+// The control table: each task's phase, then the count of accepted records. crates/theory/specs/acceptance/Control.antt says the same of the table as a list.
 use theory::Control;
 use theory::JOIN;
 use theory::START;
 ghost use mathlib.Core.Path.{_≡_};
 ghost use Prim.Native.Nat.{_<_};
-ghost use Rattle.theory.specs.Limits.{tasks, records};
-ghost use Rattle.theory.specs.Acceptance.{NamesTask};
-ghost use Rattle.theory.specs.Control.{liveIn, unseenIn, countIn, counted, controlAfter};
+ghost use Rattle.theory.specs.order.Limits.{tasks, records};
+ghost use Rattle.theory.specs.acceptance.Table.{NamesTask};
+ghost use Rattle.theory.specs.acceptance.Control.{liveIn, unseenIn, countIn, counted, controlAfter};
 
 const UNSEEN: u32 = 0;
 

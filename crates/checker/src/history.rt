@@ -8,12 +8,12 @@ use theory::Variable;
 use theory::WRITE;
 ghost use mathlib.Core.Path.{_≡_};
 ghost use Prim.Native.Nat.{_<_};
-ghost use Rattle.theory.specs.Acceptance.{Proper};
-ghost use Rattle.theory.specs.Recording.{accesses, kindAt};
-ghost use Rattle.theory.specs.Limits.{tasks, variables};
+ghost use Rattle.theory.specs.acceptance.Table.{Proper};
+ghost use Rattle.theory.specs.order.Recording.{accesses, kindAt};
+ghost use Rattle.theory.specs.order.Limits.{tasks, variables};
 ghost use mathlib.Core.Bool.{cond};
 ghost use lib.ListN.{set, length};
-ghost use Rattle.theory.specs.History.{askers, asker, askAt, clashBy, slot, slots, latestNumber, lastAfter};
+ghost use Rattle.theory.specs.history.History.{askers, asker, askAt, clashBy, slot, slots, latestNumber, lastAfter};
 
 pub(crate) fn is_access(kind: u8) -> bool
     ensures { λ r. ⌜ r ≡ accesses kind ⌝ }

@@ -8,10 +8,10 @@ use theory::RecordNumber;
 ghost use mathlib.Core.Path.{_≡_};
 ghost use Prim.Native.Nat.{_<_, _+_, _*_, _/_, _%_, _^_};
 ghost use lib.Bits.{bitAnd};
-ghost use Rattle.theory.specs.Reckonings.{bitOf, lowestTask};
-ghost use Rattle.theory.specs.Step.{judgedBy, answeredBy};
-ghost use Rattle.theory.specs.Limits.{tasks, variables};
-ghost use Rattle.theory.specs.Acceptance.{Proper};
+ghost use Rattle.theory.specs.tables.Reckonings.{bitOf, lowestTask};
+ghost use Rattle.theory.specs.feeding.Step.{judgedBy, answeredBy};
+ghost use Rattle.theory.specs.order.Limits.{tasks, variables};
+ghost use Rattle.theory.specs.acceptance.Table.{Proper};
 
 // The bit of weight 2 to the power k.
 pub(crate) fn weight(k: u32) -> u32

@@ -1,4 +1,4 @@
-// Which records are refused, and by which row of the refusal table. crates/theory/specs/Acceptance.antt has the rows, and each test here is one of them.
+// Which records are refused, and by which row of the refusal table. crates/theory/specs/acceptance/Table.antt has the rows, and each test here is one of them.
 use crate::control::COUNT;
 use crate::control::is_live;
 use crate::control::is_unseen;
@@ -23,12 +23,12 @@ ghost use mathlib.Core.Path.{_≡_};
 ghost use mathlib.Core.Bool.{not, _&&_, _||_};
 ghost use Prim.Native.Nat.{_<_, _^_};
 ghost use lib.Dec.{leb, eqb};
-ghost use Rattle.theory.specs.Limits.{tasks, records};
-ghost use Rattle.theory.specs.Recording.{Op, kind as number, lossMark, seriesOf};
-ghost use Rattle.theory.proofs.Acceptance.{OfAct};
-ghost use Rattle.theory.specs.Completion.{names};
-ghost use Rattle.theory.specs.Acceptance.{anyBelow};
-ghost use Rattle.theory.specs.Control.{liveIn, unseenIn, countIn, refusalIn};
+ghost use Rattle.theory.specs.order.Limits.{tasks, records};
+ghost use Rattle.theory.specs.order.Recording.{Op, kind as number, lossMark, seriesOf};
+ghost use Rattle.theory.proofs.acceptance.Rows.{OfAct};
+ghost use Rattle.theory.specs.fillings.Completion.{names};
+ghost use Rattle.theory.specs.acceptance.Table.{anyBelow};
+ghost use Rattle.theory.specs.acceptance.Control.{liveIn, unseenIn, countIn, refusalIn};
 
 // Every mask is below this: it has a bit for each task.
 const MASKS: u32 = 1 << TASKS;

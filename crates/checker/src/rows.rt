@@ -10,9 +10,9 @@ use theory::Task;
 ghost use mathlib.Core.Path.{_≡_};
 ghost use mathlib.Core.Bool.{cond};
 ghost use Prim.Native.Nat.{_<_};
-ghost use Rattle.theory.specs.Limits.{tasks};
-ghost use Rattle.theory.specs.Completion.{bit};
-ghost use Rattle.theory.specs.Tables.{dueRow, semaphoreRow, flagRow, heardRow, toldRow, isTold, rowOrHub};
+ghost use Rattle.theory.specs.order.Limits.{tasks};
+ghost use Rattle.theory.specs.fillings.Completion.{bit};
+ghost use Rattle.theory.specs.tables.Rows.{dueRow, semaphoreRow, flagRow, heardRow, toldRow, isTold, rowOrHub};
 
 // The row that knows what any semaphore or flag knows.
 pub(crate) const HUB: usize = 80;

@@ -29,17 +29,17 @@ use theory::Variable;
 ghost use mathlib.Core.Path.{_≡_};
 ghost use Prim.Native.Nat.{_<_, _-_, _^_};
 ghost use lib.Bits.{bitOr};
-ghost use Rattle.theory.specs.Tables.{joinRow, rowOf, joinWith, putRow, flow, joinsActed, onward, gather, spread, noteNamed, mix};
-ghost use Rattle.theory.specs.Reckonings.{slotWords, knownSlots, clearSlot, addSlot, setOwn, setsBy, setMask, setMasks};
-ghost use Rattle.theory.specs.Completion.{arrived, full};
+ghost use Rattle.theory.specs.tables.Rows.{joinRow, rowOf, joinWith, putRow, flow, joinsActed, onward, gather, spread, noteNamed, mix};
+ghost use Rattle.theory.specs.tables.Reckonings.{slotWords, knownSlots, clearSlot, addSlot, setOwn, setsBy, setMask, setMasks};
+ghost use Rattle.theory.specs.fillings.Completion.{arrived, full};
 ghost use mathlib.Core.Bool.{cond};
 ghost use lib.ListN.{length};
-ghost use Rattle.theory.specs.Recording.{kindAt};
-ghost use Rattle.theory.specs.History.{askers, asker, clashBy, slot as slotOf, slots, underEach};
-ghost use Rattle.theory.proofs.Reckoned.{apartBy};
-ghost use Rattle.theory.specs.Limits.{tasks, variables};
-ghost use Rattle.theory.specs.Recording.{Op, kind as number};
-ghost use Rattle.theory.specs.Acceptance.{Fitting, Proper};
+ghost use Rattle.theory.specs.order.Recording.{kindAt};
+ghost use Rattle.theory.specs.history.History.{askers, asker, clashBy, slot as slotOf, slots, underEach};
+ghost use Rattle.theory.proofs.tables.Reckoned.{apartBy};
+ghost use Rattle.theory.specs.order.Limits.{tasks, variables};
+ghost use Rattle.theory.specs.order.Recording.{Op, kind as number};
+ghost use Rattle.theory.specs.acceptance.Table.{Fitting, Proper};
 
 // Where the row of what has acted begins.
 const ACTED: usize = 5184;

@@ -10,8 +10,8 @@ use theory::SetState;
 use theory::Sets;
 use theory::State;
 ghost use mathlib.Core.Path.{_≡_};
-ghost use Rattle.theory.specs.Step.{freshControl, freshState, freshSets};
-ghost use Rattle.theory.specs.Lent.{tables, setTables};
+ghost use Rattle.theory.specs.feeding.Step.{freshControl, freshState, freshSets};
+ghost use Rattle.theory.specs.feeding.Lent.{tables, setTables};
 
 // Task 0 is live, the others are unseen, and no record is accepted yet.
 fn fresh_control() -> Control

@@ -21,12 +21,12 @@ use theory::State;
 use theory::Stepped;
 ghost use mathlib.Core.Path.{_≡_};
 ghost use Prim.Native.Nat.{_<_};
-ghost use Rattle.theory.specs.Limits.{records};
-ghost use Rattle.theory.specs.Acceptance.{Proper};
-ghost use Rattle.theory.specs.Control.{countIn, controlAfter};
-ghost use Rattle.theory.specs.History.{lastAfter};
-ghost use Rattle.theory.specs.Step.{nextNumber, answeredBy, stepOf, setStepOf};
-ghost use Rattle.theory.specs.Lent.{seen, tables, setTables};
+ghost use Rattle.theory.specs.order.Limits.{records};
+ghost use Rattle.theory.specs.acceptance.Table.{Proper};
+ghost use Rattle.theory.specs.acceptance.Control.{countIn, controlAfter};
+ghost use Rattle.theory.specs.history.History.{lastAfter};
+ghost use Rattle.theory.specs.feeding.Step.{nextNumber, answeredBy, stepOf, setStepOf};
+ghost use Rattle.theory.specs.feeding.Lent.{seen, tables, setTables};
 
 // What both steps do with an accepted record beside their own tables: it is answered, counted and kept.
 fn take_in(

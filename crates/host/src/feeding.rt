@@ -10,8 +10,8 @@ use theory::History;
 use theory::Record;
 use theory::Sets;
 ghost use mathlib.Core.Path.{_≡_};
-ghost use Rattle.theory.specs.Step.{answerNumbers, recordOf, stepOf, setStepOf, freshState, freshSets};
-ghost use Rattle.theory.specs.Lent.{tables, setTables};
+ghost use Rattle.theory.specs.feeding.Step.{answerNumbers, recordOf, stepOf, setStepOf, freshState, freshSets};
+ghost use Rattle.theory.specs.feeding.Lent.{tables, setTables};
 
 // What an answer is, as the first of its numbers.
 const REFUSED: u32 = 0;

@@ -14,7 +14,7 @@ ghost use mathlib.Core.List.{[]};
 ghost use Prim.Native.Nat.{_<_, _≤_, _+_, _-_, _*_, _^_};
 ghost use lib.ListN.{length, drop};
 ghost use Rattle.theory.specs.declared.record.Record.{Record};
-ghost use Rattle.theory.specs.Lent.{seen, tables};
+ghost use Rattle.theory.specs.feeding.Lent.{seen, tables};
 ghost use Rattle.text.specs.Lines.{linesOf};
 ghost use Rattle.text.specs.LineForm.{Sayable, parseOf};
 ghost use Rattle.text.specs.Pieces.{kept};
@@ -60,7 +60,7 @@ pub(crate) fn put_line(
 }
 
 // How far a piece is answered: the lines so far, the next place in the report, and where what is left of the piece begins.
-pub(crate) struct Answered {
+pub(crate) struct Reached {
     pub lines: u64,
     pub at: usize,
     pub from: usize,
@@ -77,7 +77,7 @@ pub(crate) fn put_lines(
     last: &mut History,
     clocks: &mut Clocks,
     fullclocks: &mut Clocks,
-) -> Answered
+) -> Reached
     requires { ⌜ (from ≤ length (now piece)) × (at + 64 * length (linesOf (drop from (now piece))) ≤ length (now out)) × (lines + (length (now piece) - from) < 2 ^ 64) ⌝ }
     ensures { λ r. let state = tables control last clocks fullclocks in
         ⌜ LinesAnswered (seen out) at (kept (state .entry) lines []) (now (piece .entry)) from (state .exit) (r .lines) (r .at) (r .from) ⌝ }
@@ -91,7 +91,7 @@ pub(crate) fn put_lines(
         let parsed = next_parsed(piece, &mut p);
         at = put_parsed(out, at, number, parsed, control, last, clocks, fullclocks);
     }
-    Answered {
+    Reached {
         lines: number,
         at,
         from: p,

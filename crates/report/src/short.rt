@@ -15,15 +15,15 @@ ghost use mathlib.Core.Bool.{true};
 ghost use mathlib.Core.List.{List, _∷_};
 ghost use Prim.Native.Nat.{ℕ, _+_, _≤_, _<_};
 ghost use lib.ListN.{length};
-ghost use Rattle.theory.specs.Recording.{lossMark};
+ghost use Rattle.theory.specs.order.Recording.{lossMark};
 ghost use Rattle.text.specs.LineForm.{space, taskName, onName, parseOf};
-ghost use Rattle.text.specs.Places.{Says, FieldAt};
+ghost use Rattle.text.specs.Places.{StandsAt, FieldAt};
 ghost use Rattle.text.specs.Reading.{lineAt, nextAt};
 
 // A word of four bytes stands at a place: the compiler makes one comparison of it.
 fn has_four(s: &[u8], p: usize, word: &[u8]) -> bool
     requires { ⌜ (p + 4 ≤ length (now s)) × (length (now word) ≡ 4) ⌝ }
-    ensures { λ r. ⌜ (r ≡ true → Says (now (s .entry)) p (now (word .entry))) ⌝ }
+    ensures { λ r. ⌜ (r ≡ true → StandsAt (now (s .entry)) p (now (word .entry))) ⌝ }
 {
     four(s, p) == four(word, 0)
 }
@@ -43,7 +43,7 @@ struct Field {
 // The field whose name stands at a place in so many bytes, if its number has one or two digits: one where the byte `end` follows the first.
 fn field_after(s: &[u8], p: usize, name: usize, end: u8) -> Field
     requires { ⌜ p + name + 2 ≤ length (now s) ⌝ }
-    ensures { λ r. ⌜ (r .len ≤ name + 2) × (0 < r .len → (w : List ℕ) → length w ≡ name → Says (now (s .entry)) p w → FieldAt (now (s .entry)) p w (r .value) (r .len)) ⌝ }
+    ensures { λ r. ⌜ (r .len ≤ name + 2) × (0 < r .len → (w : List ℕ) → length w ≡ name → StandsAt (now (s .entry)) p w → FieldAt (now (s .entry)) p w (r .value) (r .len)) ⌝ }
 {
     let d = p + name;
     let n = one_or_two(s[d + 1], end);

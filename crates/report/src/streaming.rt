@@ -1,5 +1,5 @@
 // A text that comes in pieces: each is answered as far as its lines have ended, and what is left of a line is held for the next.
-use crate::answering::Answered;
+use crate::answering::Reached;
 use crate::answering::put_line;
 use crate::answering::put_lines;
 use crate::scan::line_end;
@@ -14,7 +14,7 @@ ghost use mathlib.Core.List.{_++_};
 ghost use Prim.Native.Nat.{_<_, _≤_, _+_, _^_, min};
 ghost use lib.ListN.{length, take, drop};
 ghost use lib.Seq.{sets as written};
-ghost use Rattle.theory.specs.Lent.{seen, tables};
+ghost use Rattle.theory.specs.feeding.Lent.{seen, tables};
 ghost use Rattle.text.specs.Lines.{lineEnd};
 ghost use Rattle.text.specs.LineForm.{parseOf};
 ghost use Rattle.text.specs.Pieces.{heldMost, keptOf, fits};
@@ -81,7 +81,7 @@ fn put_ended(
     last: &mut History,
     clocks: &mut Clocks,
     fullclocks: &mut Clocks,
-) -> Answered
+) -> Reached
     requires { ⌜ PieceFits (now out) (now piece) (now held) begun × (e ≡ 0 + lineEnd (drop 0 (now piece))) × (e < length (now piece)) ⌝ }
     ensures { λ r. let state = tables control last clocks fullclocks in
         ⌜ LinesAnswered (seen out) (begun .at) (keptOf (state .entry) begun (now (held .entry))) (now (piece .entry)) 0 (state .exit) (r .lines) (r .at) (r .from) ⌝ }

@@ -8,7 +8,7 @@ ghost use mathlib.Core.Path.{_≡_};
 ghost use mathlib.Core.List.{_++_};
 ghost use Prim.Native.Nat.{_+_, _≤_, _<_};
 ghost use lib.ListN.{length, take, drop};
-ghost use Rattle.theory.specs.Recording.{lossMark};
+ghost use Rattle.theory.specs.order.Recording.{lossMark};
 ghost use Rattle.text.specs.Bytes.{upTo, startsWith, isWord, little};
 ghost use Rattle.text.specs.LineForm.{fieldOf, kindOf, placeOf, words, wordOf, opName, space};
 ghost use Rattle.text.specs.Places.{OpAt, openingOf, opBytes};

@@ -17,7 +17,7 @@ use Rattle.text.specs.LineForm.{parseOf}
 use Rattle.text.specs.Wrote.{Wrote}
 use Rattle.text.specs.Answers.{LineAnswered, LinesAnswered, PieceFits, EndAnswered}
 use Rattle.text.specs.Report.{saidFor, stateAfter, reportOf}
-use Rattle.text.specs.Pieces.{Kept, kept, freshKept, heldMost, saidAt, afterByte, saidIn, afterPiece, saidAtEnd, saidInAll, joined, keptOf, progressAfter, fits}
+use Rattle.text.specs.Pieces.{Kept, kept, freshKept, heldMost, saidAt, afterByte, saidIn, afterPiece, saidAtEnd, saidInAll, wholeOf, keptOf, progressAfter, fits}
 use Rattle.text.proofs.Bytes.{Without, and-true}
 use Rattle.text.proofs.Wrote.{sets-append, wrote-nothing, _then_, front, as-long}
 use Rattle.text.proofs.Lines.{lines-of, lines-fit}
@@ -229,7 +229,7 @@ module _ (s : State) (begun : Progress) (memory out : List ℕ) where
       record { wrote = rw t (rw (add-one (begun .lines)) at (a .wrote)); fed = rw t (a .fed) }
 
 whole-text : (text : List ℕ) → reportOf text ≡ saidIn freshKept text ++ saidAtEnd (afterPiece freshKept text)
-unfolding joined saidInAll
+unfolding wholeOf saidInAll
 whole-text text = ap reportOf (sym (append-nil text)) ∙ sym (any-cut (text ∷ []))
 
 -- the whole text as one piece, and what is held at its end

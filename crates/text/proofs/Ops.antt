@@ -7,11 +7,11 @@ use lib.ListN.{length, getD, take, drop, take-append-drop}
 use lib.Seq.{length-take-le}
 use borrow.Author.Tests.{leb-true, eqb-true}
 use lib.Dec.{leb, eqb}
-use Rattle.theory.specs.Turns.{turns}
+use Rattle.theory.specs.tables.Turns.{turns}
 use Rattle.text.specs.declared.parsed.Parsed.{Parsed}
 use Rattle.text.specs.Bytes.{indexOf, upTo, after, startsWith, isWord, little}
 use Rattle.text.specs.LineForm.{words, opName, wordOf, space, kindOf, restOf, parseOf}
-use Rattle.text.specs.Places.{Says, opening, openingOf, opBytes}
+use Rattle.text.specs.Places.{StandsAt, opening, openingOf, opBytes}
 use Rattle.text.proofs.Bytes.{index-fits, is-the-word, Below, allBelow, all-below}
 use Rattle.text.proofs.LineForm.{rest-none}
 use Rattle.text.proofs.Places.{says-first, says-little}
@@ -63,14 +63,14 @@ module _ (k : ℕ) (h : k < length words) where
 
 -- eight bytes that are those of a kind
 pub says-op : (s : List ℕ) (at k : ℕ) → k < length words → Below 256 s → at + 8 ≤ length s → little (take 8 (drop at s)) ≡ little (openingOf k)
-    → Says s at (opName ++ wordOf k)
+    → StandsAt s at (opName ++ wordOf k)
 says-op s at k h b l e =
     let w : List ℕ = opName ++ wordOf k in
     let o : List ℕ = openingOf k in
     let n : length o ≡ 8 = opening-long k h in
     let q : w ++ drop (length w) o ≡ o = ap (λ (t : List ℕ). t ++ drop (length w) o) (sym (opening-op k h)) ∙ take-append-drop (length w) o in
-    let p : Says s at o = says-little s at o (omega arith) b (opening-below k h) (ap (λ (i : ℕ). little (take i (drop at s))) n ∙ e) in
-    says-first s at w (drop (length w) o) (subst (Says s at) (sym q) p)
+    let p : StandsAt s at o = says-little s at o (omega arith) b (opening-below k h) (ap (λ (i : ℕ). little (take i (drop at s))) n ∙ e) in
+    says-first s at w (drop (length w) o) (subst (StandsAt s at) (sym q) p)
 
 -- an op of a kind ends at the first space
 pub op-ends : (s : List ℕ) (k : ℕ) → k ≡ kindOf (upTo space s) → k < length words → length (opName ++ wordOf k) ≡ 0 + indexOf space s

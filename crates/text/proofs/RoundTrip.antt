@@ -8,10 +8,10 @@ use lib.Dec.{leb, ltb, eqb}
 use lib.ListN.{length, getD, drop, length-append}
 use borrow.Author.Tests.{leb-true, ltb-true, eqb-true, eqb-false, ne-eqb, not-false}
 use Rattle.theory.specs.declared.record.Record.{Record}
-use Rattle.theory.specs.Acceptance.{anyBelow}
-use Rattle.theory.specs.Recording.{lossMark}
-use Rattle.theory.specs.Turns.{turns}
-use Rattle.theory.proofs.Acceptance.{none-below}
+use Rattle.theory.specs.acceptance.Table.{anyBelow}
+use Rattle.theory.specs.order.Recording.{lossMark}
+use Rattle.theory.specs.tables.Turns.{turns}
+use Rattle.theory.proofs.acceptance.Rows.{none-below}
 use Rattle.text.specs.declared.number.Number.{Number}
 use Rattle.text.specs.declared.parsed.Parsed.{Parsed}
 use Rattle.text.specs.Bytes.{indexOf, upTo, after, startsWith, isWord}

@@ -6,13 +6,13 @@ use native.Mathlib.Omega.{arith}
 use lib.ListN.{length, getD, take, drop, length-append, length-drop}
 use borrow.Author.Tests.{eqb-true}
 use lib.Dec.{eqb}
-use Rattle.theory.specs.Recording.{lossMark}
-use Rattle.theory.specs.Turns.{turns}
+use Rattle.theory.specs.order.Recording.{lossMark}
+use Rattle.theory.specs.tables.Turns.{turns}
 use Rattle.text.specs.declared.parsed.Parsed.{Parsed}
 use Rattle.text.specs.Bytes.{indexOf}
 use Rattle.text.specs.Lines.{lf}
 use Rattle.text.specs.LineForm.{words, opName, taskName, onName, space, wordOf, parseOf}
-use Rattle.text.specs.Places.{Says, FieldAt, OpAt}
+use Rattle.text.specs.Places.{StandsAt, FieldAt, OpAt}
 use Rattle.text.specs.Printing.{decimal}
 use Rattle.text.specs.Reading.{lineAt, nextAt}
 use Rattle.text.proofs.Bytes.{Without, without-append, index-seam, before-seam}
@@ -21,13 +21,13 @@ use Rattle.text.proofs.Reading.{next-place}
 use Rattle.text.proofs.RoundTrip.{each-kind, decimal-whole, act-text, text-taken}
 
 -- ` task=` by its first four bytes and its last four
-pub says-task : (s : List ℕ) (at : ℕ) → Says s at (take 4 (space ∷ taskName)) → Says s (at + 2) (drop 2 (space ∷ taskName)) → Says s at (space ∷ taskName)
+pub says-task : (s : List ℕ) (at : ℕ) → StandsAt s at (take 4 (space ∷ taskName)) → StandsAt s (at + 2) (drop 2 (space ∷ taskName)) → StandsAt s at (space ∷ taskName)
 says-task s at h k =
     says-both s at (at + 4) (take 4 (space ∷ taskName)) (drop 4 (space ∷ taskName)) refl h
     (says-last s (at + 2) (take 2 (drop 2 (space ∷ taskName))) (drop 4 (space ∷ taskName)) k (at + 4) (omega arith))
 
 -- a line and its LF stand at a place
-module _ (s : List ℕ) (at : ℕ) (w : List ℕ) (h : Says s at (w ++ (lf ∷ []))) (d : Without lf w) where
+module _ (s : List ℕ) (at : ℕ) (w : List ℕ) (h : StandsAt s at (w ++ (lf ∷ []))) (d : Without lf w) where
   abbrev rest : List ℕ
   rest = drop (at + length (w ++ (lf ∷ []))) s
 
@@ -86,7 +86,7 @@ short-said s at k t n o a b e d h q f g m i = (
     long : length line ≡ length op + (a + b)
     long = length-append op (task ++ on) ∙ ap (λ (z : ℕ). length op + z) (length-append task on ∙ omega (arith, f .long, g .long))
 
-    stands : Says s at (line ++ (lf ∷ []))
+    stands : StandsAt s at (line ++ (lf ∷ []))
     stands =
         says-both s at (e + a + b) line (lf ∷ []) (omega (arith, q, h .long, long))
         (says-both s at e op (task ++ on) (omega (arith, q, h .long)) (h .says) (says-both s e (e + a) task on (omega (arith, f .long)) (f .says) (g .says)))

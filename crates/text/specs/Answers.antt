@@ -7,7 +7,7 @@ use mathlib.Core.List.{List}
 use lib.ListN.{length, take, drop}
 use lib.Seq.{sets}
 use Rattle.theory.specs.declared.state.State.{State}
-use Rattle.theory.specs.Lent.{Twice}
+use Rattle.theory.specs.feeding.Lent.{Twice}
 use Rattle.text.specs.declared.parsed.Parsed.{Parsed}
 use Rattle.text.specs.declared.progress.Progress.{Progress}
 use Rattle.text.specs.Lines.{linesOf}

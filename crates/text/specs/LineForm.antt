@@ -6,7 +6,7 @@ use mathlib.Core.List.{List, [], _∷_, _++_}
 use lib.ListN.{length, getD, drop}
 use lib.Dec.{leb, ltb, eqb}
 use Rattle.theory.specs.declared.record.Record.{Record}
-use Rattle.theory.specs.Recording.{lossMark}
+use Rattle.theory.specs.order.Recording.{lossMark}
 use Rattle.text.specs.declared.number.Number.{Number}
 use Rattle.text.specs.declared.parsed.Parsed.{Parsed}
 use Rattle.text.specs.Bytes.{upTo, after, startsWith, isWord}

@@ -9,12 +9,12 @@ use Rattle.text.specs.LineForm.{digits, words, opName, taskName, space, 
 use Rattle.text.specs.Printing.{decimal}
 
 -- a word stands there
-pub record Says (s : List ℕ) (at : ℕ) (w : List ℕ) : Type 0 where
+pub record StandsAt (s : List ℕ) (at : ℕ) (w : List ℕ) : Type 0 where
   pub is : take (length w) (drop at s) ≡ w
 
 -- a name and a number stand there, in so many bytes
 pub record FieldAt (s : List ℕ) (at : ℕ) (name : List ℕ) (n len : ℕ) : Type 0 where
-  pub says : Says s at (name ++ decimal n)
+  pub says : StandsAt s at (name ++ decimal n)
   pub long : length (name ++ decimal n) ≡ len
   pub short : n < 10 ^ digits
 
@@ -33,5 +33,5 @@ opBytes o = cond (eqb (getD o 6 0) space) 6 (cond (eqb (getD o 7 0) space) 7 8)
 -- the op of a kind stands there, in so many bytes
 pub record OpAt (s : List ℕ) (at k len : ℕ) : Type 0 where
   pub known : k < length words
-  pub says : Says s at (opName ++ wordOf k)
+  pub says : StandsAt s at (opName ++ wordOf k)
   pub long : length (opName ++ wordOf k) ≡ len

@@ -1,4 +1,4 @@
-// The number of each kind of record, as `kind` and `lossMark` of specs/Recording.antt have it.
+// The number of each kind of record, as `kind` and `lossMark` of specs/order/Recording.antt have it.
 pub const READ: u8 = 0;
 
 pub const WRITE: u8 = 1;

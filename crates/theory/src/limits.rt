@@ -1,4 +1,4 @@
-// How many numbers each series has, and how many records a recording takes: specs/Limits.antt has the same names.
+// How many numbers each series has, and how many records a recording takes: specs/order/Limits.antt has the same names.
 pub const TASKS: u32 = 16;
 
 pub const SEMAPHORES: u32 = 32;

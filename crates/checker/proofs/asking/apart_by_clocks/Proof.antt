@@ -1,5 +1,5 @@
 -- The masks of a record that would be accepted, and none for another.
-use Rattle.theory.proofs.Accepting.{accepts, refused-masks}
+use Rattle.theory.proofs.acceptance.Accepted.{accepts, refused-masks}
 use borrow.Author.Needs.{needs}
 use Rattle.checker.proofs.asking.apart_by_clocks.Statement.{statement}
 use Rattle.checker.proofs.asking.apart_by_clocks.Tie as tie

@@ -5,12 +5,12 @@ use mathlib.Core.List.{List}
 use Prim.Native.Nat.{ℕ, _<_, max}
 use native.Mathlib.Omega.{arith}
 use borrow.Author.Tests.{ne-eqb}
-use Rattle.theory.specs.Limits.{tasks}
-use Rattle.theory.specs.Recording.{accesses}
-use Rattle.theory.specs.Tables.{onward}
-use Rattle.theory.specs.Reckonings.{clockOwn, clockAct}
-use Rattle.theory.proofs.Tables.{same-max}
-use Rattle.theory.proofs.Ranges.{access-onward}
+use Rattle.theory.specs.order.Limits.{tasks}
+use Rattle.theory.specs.order.Recording.{accesses}
+use Rattle.theory.specs.tables.Rows.{onward}
+use Rattle.theory.specs.tables.Reckonings.{clockOwn, clockAct}
+use Rattle.theory.proofs.tables.Rows.{same-max}
+use Rattle.theory.proofs.tables.Ranges.{access-onward}
 use borrow.Author.Needs.{needs}
 use Rattle.checker.proofs.clocks.advance_clocks.Statement.{statement}
 use Rattle.checker.proofs.clocks.advance_clocks.Tie as tie

@@ -4,9 +4,9 @@ use mathlib.Core.Path.{refl}
 use Prim.Native.Nat.{_<_}
 use native.Mathlib.Omega.{arith}
 use lib.Dec.{lit<}
-use Rattle.theory.specs.Limits.{tasks, variables}
-use Rattle.theory.proofs.Reckoned.{mask-by-rows}
-use Rattle.theory.proofs.Ranges.{access-proper}
+use Rattle.theory.specs.order.Limits.{tasks, variables}
+use Rattle.theory.proofs.tables.Reckoned.{mask-by-rows}
+use Rattle.theory.proofs.tables.Ranges.{access-proper}
 use borrow.Author.Needs.{needs}
 use Rattle.checker.proofs.clocks.clock_masks.Statement.{statement}
 use Rattle.checker.proofs.clocks.clock_masks.Tie as tie
@@ -42,10 +42,13 @@ returns c =
     let at-access = at-ask .before .before in
     let a = at-access .before .args in
     let from = rw (at-ask .ask-at .ensures .0) at (at-slot .slot .ensures .0) in
-    simp (sym (at-access .is-access .ensures) ∙ at-ask .before .if1 .taken,
+    simp (
+      sym (at-access .is-access .ensures) ∙ at-ask .before .if1 .taken,
       ← mask-by-rows (a .fullclocks .now) (a .last .now) (a .kind) (a .task) (a .on) refl from,
       ← mask-by-rows (a .clocks .now) (a .last .now) (a .kind) (a .task) (a .on) refl from,
-      ← c .before .mask .ensures, ← c .mask2 .ensures)
+      ← c .before .mask .ensures,
+      ← c .mask2 .ensures,
+    )
 
 returns-2 : tie.Need-returns-2
 returns-2 c = simp (sym (c .before .is-access .ensures) ∙ c .if1 .left)

@@ -3,8 +3,8 @@ use mathlib.Core.Path.{_≡_, sym}
 use mathlib.Core.List.{List}
 use Prim.Native.Nat.{ℕ, _<_, max}
 use borrow.Author.Tests.{lt-ltb, le-ltb}
-use Rattle.theory.specs.Tables.{joinRow, flow}
-use Rattle.theory.proofs.Tables.{same-max, join-self, join-kept}
+use Rattle.theory.specs.tables.Rows.{joinRow, flow}
+use Rattle.theory.proofs.tables.Rows.{same-max, join-self, join-kept}
 use borrow.Author.Needs.{needs}
 use Rattle.checker.proofs.clocks.flow.Statement.{statement}
 use Rattle.checker.proofs.clocks.flow.Tie as tie

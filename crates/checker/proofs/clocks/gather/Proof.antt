@@ -2,10 +2,10 @@
 use mathlib.Core.Path.{_∙_, sym}
 use Prim.Native.Nat.{_≤_, _-_, max}
 use native.Mathlib.Omega.{arith}
-use Rattle.theory.specs.Completion.{bit}
-use Rattle.theory.specs.Tables.{joinRow, joinWith, rowOrHub, gather}
-use Rattle.theory.proofs.Turns.{Turned, no-turn-yet, one-turn, all-turns}
-use Rattle.theory.proofs.Tables.{join-nothing, join-heard}
+use Rattle.theory.specs.fillings.Completion.{bit}
+use Rattle.theory.specs.tables.Rows.{joinRow, joinWith, rowOrHub, gather}
+use Rattle.theory.proofs.basics.Turns.{Turned, no-turn-yet, one-turn, all-turns}
+use Rattle.theory.proofs.tables.Rows.{join-nothing, join-heard}
 use borrow.Author.Needs.{needs}
 use Rattle.checker.proofs.clocks.gather.Statement.{statement}
 use Rattle.checker.proofs.clocks.gather.Tie as tie

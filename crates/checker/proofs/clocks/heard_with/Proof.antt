@@ -2,8 +2,8 @@
 use Prim.Native.Nat.{_≤_, _-_, max}
 use native.Mathlib.Omega.{arith}
 use lib.ListN.{set, getD}
-use Rattle.theory.specs.Tables.{cell, heardWith}
-use Rattle.theory.proofs.Turns.{Turned, no-turn, one-turn, all-turns}
+use Rattle.theory.specs.tables.Rows.{cell, heardWith}
+use Rattle.theory.proofs.basics.Turns.{Turned, no-turn, one-turn, all-turns}
 use borrow.Author.Needs.{needs}
 use Rattle.checker.proofs.clocks.heard_with.Statement.{statement}
 use Rattle.checker.proofs.clocks.heard_with.Tie as tie

@@ -4,8 +4,8 @@ use Prim.Native.Nat.{_≤_, _+_, _-_}
 use native.Mathlib.Omega.{arith}
 use lib.Dec.{ltb}
 use lib.ListN.{getD}
-use Rattle.theory.specs.Limits.{tasks}
-use Rattle.theory.proofs.Bits.{Gathered, no-weights, one-weight, all-weights}
+use Rattle.theory.specs.order.Limits.{tasks}
+use Rattle.theory.proofs.tables.Bits.{Gathered, no-weights, one-weight, all-weights}
 use borrow.Author.Needs.{needs}
 use Rattle.checker.proofs.clocks.mask.Statement.{statement}
 use Rattle.checker.proofs.clocks.mask.Tie as tie

@@ -1,6 +1,6 @@
 -- Order over an act, by the rows that it hears and tells.
 use mathlib.Core.Path.{sym, _∙_}
-use Rattle.theory.proofs.Ranges.{heard-fits, told-fits, row-fits, joins-kind}
+use Rattle.theory.proofs.tables.Ranges.{heard-fits, told-fits, row-fits, joins-kind}
 use borrow.Author.Needs.{needs}
 use Rattle.checker.proofs.clocks.pass_on.Statement.{statement}
 use Rattle.checker.proofs.clocks.pass_on.Tie as tie

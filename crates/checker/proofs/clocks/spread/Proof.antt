@@ -2,9 +2,9 @@
 use mathlib.Core.List.{List}
 use Prim.Native.Nat.{ℕ, _≤_, _-_}
 use native.Mathlib.Omega.{arith}
-use Rattle.theory.specs.Tables.{putRow, isTold, rowOrHub, spread}
-use Rattle.theory.proofs.Turns.{Turned, no-turn, one-turn, all-turns}
-use Rattle.theory.proofs.Marks.{told-at-object}
+use Rattle.theory.specs.tables.Rows.{putRow, isTold, rowOrHub, spread}
+use Rattle.theory.proofs.basics.Turns.{Turned, no-turn, one-turn, all-turns}
+use Rattle.theory.proofs.tables.NamedRows.{told-at-object}
 use borrow.Author.Needs.{needs}
 use Rattle.checker.proofs.clocks.spread.Statement.{statement}
 use Rattle.checker.proofs.clocks.spread.Tie as tie

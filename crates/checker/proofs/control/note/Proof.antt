@@ -5,8 +5,8 @@ use native.Mathlib.Omega.{arith}
 use lib.ListN.{set}
 use lib.Seq.{getD-set-other}
 use borrow.Author.Tests.{ne-eqb}
-use Rattle.theory.specs.Limits.{tasks, records}
-use Rattle.theory.specs.Control.{countIn}
+use Rattle.theory.specs.order.Limits.{tasks, records}
+use Rattle.theory.specs.acceptance.Control.{countIn}
 use borrow.Author.Needs.{needs}
 use Rattle.checker.proofs.control.note.Statement.{statement}
 use Rattle.checker.proofs.control.note.Tie as tie

@@ -1,6 +1,6 @@
 -- A write asks second, all else first.
 use lib.Dec.{lit<}
-use Rattle.theory.proofs.Numbered.{asks-first}
+use Rattle.theory.proofs.order.Numbered.{asks-first}
 use borrow.Author.Needs.{needs}
 use Rattle.checker.proofs.history.ask_at.Statement.{statement}
 use Rattle.checker.proofs.history.ask_at.Tie as tie

@@ -1,6 +1,6 @@
 -- The rule of conflict for each kind of access; what is no access clashes with nothing.
-use Rattle.theory.specs.History.{asker}
-use Rattle.theory.proofs.Numbered.{no-access-else, no-clash, clash-read, clash-write}
+use Rattle.theory.specs.history.History.{asker}
+use Rattle.theory.proofs.order.Numbered.{no-access-else, no-clash, clash-read, clash-write}
 use borrow.Author.Needs.{needs}
 use Rattle.checker.proofs.history.clashes.Statement.{statement}
 use Rattle.checker.proofs.history.clashes.Tie as tie

@@ -1,6 +1,6 @@
 -- No kind but the two is an access.
 use mathlib.Core.Path.{sym}
-use Rattle.theory.proofs.Numbered.{no-access-else}
+use Rattle.theory.proofs.order.Numbered.{no-access-else}
 use borrow.Author.Needs.{needs}
 use Rattle.checker.proofs.history.is_access.Statement.{statement}
 use Rattle.checker.proofs.history.is_access.Tie as tie

@@ -3,9 +3,9 @@ use mathlib.Core.Bool.{cond}
 use Prim.Native.Nat.{_≤_, _-_}
 use native.Mathlib.Omega.{arith}
 use lib.ListN.{set, length}
-use Rattle.theory.specs.Recording.{kindAt}
-use Rattle.theory.specs.History.{askers, asker, clashBy, slot, underEach}
-use Rattle.theory.proofs.Turns.{Turned, no-turn, one-turn, all-turns}
+use Rattle.theory.specs.order.Recording.{kindAt}
+use Rattle.theory.specs.history.History.{askers, asker, clashBy, slot, underEach}
+use Rattle.theory.proofs.basics.Turns.{Turned, no-turn, one-turn, all-turns}
 use borrow.Author.Needs.{needs}
 use Rattle.checker.proofs.history.keep.Statement.{statement}
 use Rattle.checker.proofs.history.keep.Tie as tie

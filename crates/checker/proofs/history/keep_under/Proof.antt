@@ -1,7 +1,7 @@
 -- An access is put into the slot where it clashes; else the history is as it was.
 use mathlib.Core.Path.{sym, _∙_}
-use Rattle.theory.specs.History.{asker}
-use Rattle.theory.proofs.Ranges.{clash-access, access-proper}
+use Rattle.theory.specs.history.History.{asker}
+use Rattle.theory.proofs.tables.Ranges.{clash-access, access-proper}
 use borrow.Author.Needs.{needs}
 use Rattle.checker.proofs.history.keep_under.Statement.{statement}
 use Rattle.checker.proofs.history.keep_under.Tie as tie

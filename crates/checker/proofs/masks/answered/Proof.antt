@@ -1,6 +1,6 @@
 -- A verdict for an access, a number for another record.
 use mathlib.Core.Path.{sym, _∙_}
-use Rattle.theory.proofs.Ranges.{access-proper}
+use Rattle.theory.proofs.tables.Ranges.{access-proper}
 use borrow.Author.Needs.{needs}
 use Rattle.checker.proofs.masks.answered.Statement.{statement}
 use Rattle.checker.proofs.masks.answered.Tie as tie

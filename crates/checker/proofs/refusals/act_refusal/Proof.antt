@@ -3,10 +3,10 @@ use mathlib.Core.Path.{_≡_, sym, _∙_}
 use Prim.Native.Nat.{ℕ, _<_}
 use lib.ListN.{drop}
 use borrow.Author.Tests.{le-leb, lt-leb, leb-false, not-true, not-false}
-use Rattle.theory.specs.Recording.{seriesOf}
-use Rattle.theory.specs.Acceptance.{firstRow}
-use Rattle.theory.specs.Control.{standingIn, refusalIn}
-use Rattle.theory.proofs.Acceptance.{actRows, act-rows}
+use Rattle.theory.specs.order.Recording.{seriesOf}
+use Rattle.theory.specs.acceptance.Table.{firstRow}
+use Rattle.theory.specs.acceptance.Control.{standingIn, refusalIn}
+use Rattle.theory.proofs.acceptance.Rows.{actRows, act-rows}
 use borrow.Author.Needs.{needs}
 use Rattle.checker.proofs.refusals.act_refusal.Statement.{statement}
 use Rattle.checker.proofs.refusals.act_refusal.Tie as tie

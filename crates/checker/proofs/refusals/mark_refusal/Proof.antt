@@ -2,9 +2,9 @@
 use mathlib.Core.Path.{_≡_, sym, _∙_}
 use Prim.Native.Nat.{ℕ}
 use lib.ListN.{drop}
-use Rattle.theory.specs.Acceptance.{firstRow}
-use Rattle.theory.specs.Control.{standingIn, refusalIn}
-use Rattle.theory.proofs.Acceptance.{markRows, mark-rows}
+use Rattle.theory.specs.acceptance.Table.{firstRow}
+use Rattle.theory.specs.acceptance.Control.{standingIn, refusalIn}
+use Rattle.theory.proofs.acceptance.Rows.{markRows, mark-rows}
 use borrow.Author.Needs.{needs}
 use Rattle.checker.proofs.refusals.mark_refusal.Statement.{statement}
 use Rattle.checker.proofs.refusals.mark_refusal.Tie as tie

@@ -1,7 +1,7 @@
 -- The refusal is the number of the first row that applies.
 use borrow.Author.Tests.{lt-ltb}
 use native.Mathlib.Omega.{arith}
-use Rattle.theory.specs.Acceptance.{refusalBy}
+use Rattle.theory.specs.acceptance.Table.{refusalBy}
 use borrow.Author.Needs.{needs}
 use Rattle.checker.proofs.refusals.refusal.Statement.{statement}
 use Rattle.checker.proofs.refusals.refusal.Tie as tie

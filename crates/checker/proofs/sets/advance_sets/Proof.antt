@@ -6,12 +6,12 @@ use Prim.Native.Nat.{ℕ, _<_}
 use native.Mathlib.Omega.{arith}
 use lib.Bits.{bitOr}
 use borrow.Author.Tests.{ne-eqb}
-use Rattle.theory.specs.Limits.{tasks}
-use Rattle.theory.specs.Recording.{accesses}
-use Rattle.theory.specs.Tables.{onward}
-use Rattle.theory.specs.Reckonings.{slotWords, setOwn, setAct}
-use Rattle.theory.proofs.Tables.{same-or}
-use Rattle.theory.proofs.Ranges.{access-onward}
+use Rattle.theory.specs.order.Limits.{tasks}
+use Rattle.theory.specs.order.Recording.{accesses}
+use Rattle.theory.specs.tables.Rows.{onward}
+use Rattle.theory.specs.tables.Reckonings.{slotWords, setOwn, setAct}
+use Rattle.theory.proofs.tables.Rows.{same-or}
+use Rattle.theory.proofs.tables.Ranges.{access-onward}
 use borrow.Author.Needs.{needs}
 use Rattle.checker.proofs.sets.advance_sets.Statement.{statement}
 use Rattle.checker.proofs.sets.advance_sets.Tie as tie

@@ -1,5 +1,5 @@
 -- Both tests are made; no branch is taken on either.
-use Rattle.theory.proofs.Words.{and-weight}
+use Rattle.theory.proofs.tables.Words.{and-weight}
 use borrow.Author.Needs.{needs}
 use Rattle.checker.proofs.sets.apart.Statement.{statement}
 use Rattle.checker.proofs.sets.apart.Tie as tie

@@ -4,9 +4,9 @@ use Prim.Native.Nat.{_≤_, _+_, _*_, _-_}
 use native.Mathlib.Omega.{arith}
 use lib.Bits.{bitAnd}
 use lib.ListN.{set}
-use Rattle.theory.specs.Tables.{cell}
-use Rattle.theory.specs.Reckonings.{clearSlot}
-use Rattle.theory.proofs.Turns.{Turned, no-turn, one-turn, all-turns}
+use Rattle.theory.specs.tables.Rows.{cell}
+use Rattle.theory.specs.tables.Reckonings.{clearSlot}
+use Rattle.theory.proofs.basics.Turns.{Turned, no-turn, one-turn, all-turns}
 use borrow.Author.Needs.{needs}
 use Rattle.checker.proofs.sets.clear_slot.Statement.{statement}
 use Rattle.checker.proofs.sets.clear_slot.Tie as tie

@@ -1,7 +1,7 @@
 -- Three joins, one after the other; the last is one of a row with itself where no object is told.
 use borrow.Author.Tests.{lt-ltb, le-ltb}
-use Rattle.theory.specs.Tables.{flow}
-use Rattle.theory.proofs.Tables.{same-or, join-self}
+use Rattle.theory.specs.tables.Rows.{flow}
+use Rattle.theory.proofs.tables.Rows.{same-or, join-self}
 use borrow.Author.Needs.{needs}
 use Rattle.checker.proofs.sets.flow.Statement.{statement}
 use Rattle.checker.proofs.sets.flow.Tie as tie

@@ -2,9 +2,9 @@
 use Prim.Native.Nat.{_≤_, _-_}
 use native.Mathlib.Omega.{arith}
 use lib.Bits.{bitOr}
-use Rattle.theory.specs.Completion.{bit}
-use Rattle.theory.specs.Tables.{joinRow, rowOrHub, gather}
-use Rattle.theory.proofs.Turns.{Turned, no-turn, one-turn, all-turns}
+use Rattle.theory.specs.fillings.Completion.{bit}
+use Rattle.theory.specs.tables.Rows.{joinRow, rowOrHub, gather}
+use Rattle.theory.proofs.basics.Turns.{Turned, no-turn, one-turn, all-turns}
 use borrow.Author.Needs.{needs}
 use Rattle.checker.proofs.sets.gather.Statement.{statement}
 use Rattle.checker.proofs.sets.gather.Tie as tie

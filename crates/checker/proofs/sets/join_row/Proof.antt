@@ -3,9 +3,9 @@ use mathlib.Core.Path.{refl}
 use Prim.Native.Nat.{_≤_, _-_}
 use native.Mathlib.Omega.{arith}
 use lib.Bits.{bitOr}
-use Rattle.theory.specs.Tables.{joinCell, joinRow}
-use Rattle.theory.proofs.Turns.{Turned, no-turn, one-turn, all-turns}
-use Rattle.theory.proofs.Tables.{same-or, join-self}
+use Rattle.theory.specs.tables.Rows.{joinCell, joinRow}
+use Rattle.theory.proofs.basics.Turns.{Turned, no-turn, one-turn, all-turns}
+use Rattle.theory.proofs.tables.Rows.{same-or, join-self}
 use borrow.Author.Needs.{needs}
 use Rattle.checker.proofs.sets.join_row.Statement.{statement}
 use Rattle.checker.proofs.sets.join_row.Tie as tie

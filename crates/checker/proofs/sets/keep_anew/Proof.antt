@@ -3,10 +3,10 @@ use mathlib.Core.Bool.{cond}
 use Prim.Native.Nat.{_≤_, _-_}
 use native.Mathlib.Omega.{arith}
 use lib.ListN.{length}
-use Rattle.theory.specs.Recording.{kindAt}
-use Rattle.theory.specs.History.{askers, asker, clashBy, slot, underEach}
-use Rattle.theory.specs.Reckonings.{addSlot, clearSlot}
-use Rattle.theory.proofs.Turns.{Turned, no-turn, one-turn, all-turns}
+use Rattle.theory.specs.order.Recording.{kindAt}
+use Rattle.theory.specs.history.History.{askers, asker, clashBy, slot, underEach}
+use Rattle.theory.specs.tables.Reckonings.{addSlot, clearSlot}
+use Rattle.theory.proofs.basics.Turns.{Turned, no-turn, one-turn, all-turns}
 use borrow.Author.Needs.{needs}
 use Rattle.checker.proofs.sets.keep_anew.Statement.{statement}
 use Rattle.checker.proofs.sets.keep_anew.Tie as tie

@@ -1,7 +1,7 @@
 -- An access begins the slot anew where it clashes; else the table is as it was.
 use mathlib.Core.Path.{sym, _∙_}
-use Rattle.theory.specs.History.{asker}
-use Rattle.theory.proofs.Ranges.{clash-access, access-fits}
+use Rattle.theory.specs.history.History.{asker}
+use Rattle.theory.proofs.tables.Ranges.{clash-access, access-fits}
 use borrow.Author.Needs.{needs}
 use Rattle.checker.proofs.sets.keep_under.Statement.{statement}
 use Rattle.checker.proofs.sets.keep_under.Tie as tie

@@ -2,9 +2,9 @@
 use Prim.Native.Nat.{_≤_, _-_}
 use native.Mathlib.Omega.{arith}
 use mathlib.Core.Path.{_∙_}
-use Rattle.theory.specs.Limits.{tasks}
-use Rattle.theory.proofs.Bits.{Gathered, no-weights, one-weight, all-weights}
-use Rattle.theory.proofs.Reckoned.{apartBy, mask-by}
+use Rattle.theory.specs.order.Limits.{tasks}
+use Rattle.theory.proofs.tables.Bits.{Gathered, no-weights, one-weight, all-weights}
+use Rattle.theory.proofs.tables.Reckoned.{apartBy, mask-by}
 use borrow.Author.Needs.{needs}
 use Rattle.checker.proofs.sets.mask.Statement.{statement}
 use Rattle.checker.proofs.sets.mask.Tie as tie

@@ -1,8 +1,8 @@
 -- The rows that an act hears and tells are in the table, and order flows over them.
 use mathlib.Core.Path.{sym, _∙_, subst}
 use Prim.Native.Nat.{ℕ, _<_}
-use Rattle.theory.specs.Recording.{seriesOf}
-use Rattle.theory.proofs.Ranges.{heard-fits, told-fits, row-fits, joins-kind}
+use Rattle.theory.specs.order.Recording.{seriesOf}
+use Rattle.theory.proofs.tables.Ranges.{heard-fits, told-fits, row-fits, joins-kind}
 use borrow.Author.Needs.{needs}
 use Rattle.checker.proofs.sets.pass_on.Statement.{statement}
 use Rattle.checker.proofs.sets.pass_on.Tie as tie

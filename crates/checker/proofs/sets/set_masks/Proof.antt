@@ -1,6 +1,6 @@
 -- Both masks of an access, and none of another record.
 use mathlib.Core.Path.{sym, _∙_}
-use Rattle.theory.proofs.Ranges.{access-proper}
+use Rattle.theory.proofs.tables.Ranges.{access-proper}
 use borrow.Author.Needs.{needs}
 use Rattle.checker.proofs.sets.set_masks.Statement.{statement}
 use Rattle.checker.proofs.sets.set_masks.Tie as tie

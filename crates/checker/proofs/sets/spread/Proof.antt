@@ -1,8 +1,8 @@
 -- A copy of the hub is put into what a mark can tell, row by row.
 use Prim.Native.Nat.{_≤_, _-_}
 use native.Mathlib.Omega.{arith}
-use Rattle.theory.specs.Tables.{putRow, isTold, rowOrHub, spread}
-use Rattle.theory.proofs.Turns.{Turned, no-turn, one-turn, all-turns}
+use Rattle.theory.specs.tables.Rows.{putRow, isTold, rowOrHub, spread}
+use Rattle.theory.proofs.basics.Turns.{Turned, no-turn, one-turn, all-turns}
 use borrow.Author.Needs.{needs}
 use Rattle.checker.proofs.sets.spread.Statement.{statement}
 use Rattle.checker.proofs.sets.spread.Tie as tie

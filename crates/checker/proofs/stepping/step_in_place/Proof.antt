@@ -1,7 +1,7 @@
 -- A refused record leaves all as it was; of an accepted one the calls' equations are put together.
 use native.Mathlib.Omega.{arith}
-use Rattle.theory.specs.Step.{stepOf}
-use Rattle.theory.proofs.Accepting.{Accepts, accepts, refused}
+use Rattle.theory.specs.feeding.Step.{stepOf}
+use Rattle.theory.proofs.acceptance.Accepted.{Accepts, accepts, refused}
 use borrow.Author.Needs.{needs}
 use Rattle.checker.proofs.stepping.step_in_place.Statement.{statement}
 use Rattle.checker.proofs.stepping.step_in_place.Tie as tie

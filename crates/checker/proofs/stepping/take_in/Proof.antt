@@ -1,6 +1,6 @@
 -- The calls' equations put together.
 use native.Mathlib.Omega.{arith}
-use Rattle.theory.proofs.Accepting.{names-task}
+use Rattle.theory.proofs.acceptance.Accepted.{names-task}
 use borrow.Author.Needs.{needs}
 use Rattle.checker.proofs.stepping.take_in.Statement.{statement}
 use Rattle.checker.proofs.stepping.take_in.Tie as tie

@@ -4,7 +4,7 @@ use mathlib.Core.List.{[]}
 use Prim.Native.Nat.{_≤_, _+_, _-_}
 use native.Mathlib.Omega.{arith}
 use lib.ListN.{length, drop}
-use Rattle.theory.specs.Lent.{stateOf}
+use Rattle.theory.specs.feeding.Lent.{stateOf}
 use Rattle.text.specs.Pieces.{kept, saidIn, afterPiece}
 use Rattle.text.proofs.RoundTrip.{only-sayable}
 use Rattle.text.proofs.Wrote.{as-long}
