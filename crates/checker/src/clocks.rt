@@ -3,8 +3,9 @@
 use crate::history::ask_at;
 use crate::history::is_access;
 use crate::history::slot;
-use crate::masks::both_halves;
+use crate::masks::lower_half;
 use crate::masks::weight_of;
+use crate::refusals::either;
 use crate::rows::HUB;
 use crate::rows::acted_after;
 use crate::rows::has_bit;
@@ -20,7 +21,7 @@ use theory::Masks;
 use theory::Task;
 use theory::Variable;
 ghost use mathlib.Core.Path.{_≡_};
-ghost use Prim.Native.Nat.{_<_, _≤_, _+_, max};
+ghost use Prim.Native.Nat.{_<_, _≤_, _+_, _%_, _^_, max};
 ghost use lib.Dec.{ltb};
 ghost use lib.ListN.{getD};
 ghost use Rattle.theory.specs.history.History.{slots};
@@ -95,9 +96,9 @@ fn put_row(cells: &mut Clocks, to: usize, row: &[u32; 16])
 
 // Order over an act: the task's next act knows what the heard row knows; from a copy that stays in registers it is passed on, to an object
 // and to the hub alike.
-fn flow(cells: &mut Clocks, heard: usize, told: usize, task: usize)
+fn flow(cells: &mut Clocks, asked: bool, heard: usize, told: usize, task: usize)
     requires { ⌜ (heard < 82) × (told < 82) × (task < tasks) ⌝ }
-    ensures { λ _. ⌜ now (cells .exit) ≡ flow max tasks heard told task (now (cells .entry)) ⌝ }
+    ensures { λ _. ⌜ now (cells .exit) ≡ flow max tasks asked heard told task (now (cells .entry)) ⌝ }
 {
     join_row(cells, task, heard);
     if told == task {
@@ -105,7 +106,7 @@ fn flow(cells: &mut Clocks, heard: usize, told: usize, task: usize)
     }
     let row = row_of(cells, task);
     join_with(cells, told, &row);
-    if told < 16 {
+    if either(told < 16, !asked) {
         return;
     }
     join_with(cells, HUB, &row);
@@ -189,13 +190,14 @@ fn joins_acted(cells: &Clocks, kind: u8, on: u32) -> bool
 }
 
 // Order over an act of a kind.
-fn pass_on(cells: &mut Clocks, kind: u8, task: u32, on: u32)
+fn pass_on(cells: &mut Clocks, asked: bool, kind: u8, task: u32, on: u32)
     requires { ⌜ Fitting kind task on ⌝ }
-    ensures { λ _. ⌜ now (cells .exit) ≡ onward max tasks kind task on (now (cells .entry)) ⌝ }
+    ensures { λ _. ⌜ now (cells .exit) ≡ onward max tasks asked kind task on (now (cells .entry)) ⌝ }
 {
     let joins = joins_acted(cells, kind, on);
     flow(
         cells,
+        asked,
         heard_row(kind, Task(task), on, joins),
         told_row(kind, Task(task), on),
         task as usize,
@@ -234,15 +236,15 @@ pub(crate) fn advance_clocks(
     if is_access(kind) {
         return;
     }
-    pass_on(clocks, kind, task, on);
-    pass_on(fullclocks, kind, task, on);
+    pass_on(clocks, false, kind, task, on);
+    pass_on(fullclocks, true, kind, task, on);
 }
 
-// The mask of an access in one filling, from the task's row of clocks and from what the history has for its kind: the tasks whose latest
+// The mask of an access in one filling, twice in a word, from the task's row of clocks and from what the history has for its kind: the tasks whose latest
 // conflicting access the row does not know.
-fn mask(cells: &Clocks, last: &History, row: usize, from: usize) -> u16
+fn mask(cells: &Clocks, last: &History, row: usize, from: usize) -> u32
     requires { ⌜ (row + tasks ≤ 1312) × (from + tasks ≤ slots) ⌝ }
-    ensures { λ r. ⌜ r ≡ maskOf (λ u. ltb (getD (now (cells .entry)) (row + u) 0) (getD (now (last .entry)) (from + u) 0)) ⌝ }
+    ensures { λ r. ⌜ r % 2 ^ 16 ≡ maskOf (λ u. ltb (getD (now (cells .entry)) (row + u) 0) (getD (now (last .entry)) (from + u) 0)) ⌝ }
 {
     let mut x: u32 = 0;
     let mut u: usize = 0;
@@ -250,7 +252,7 @@ fn mask(cells: &Clocks, last: &History, row: usize, from: usize) -> u16
         x = x | weight_of(cells[row + u] < last[from + u], u as u32);
         u += 1;
     }
-    both_halves(x)
+    x
 }
 
 // The masks of the tasks whose latest conflicting access has no path to this access; empty for any other record.
@@ -269,8 +271,8 @@ pub(crate) fn clock_masks(
         let row = task as usize * 16;
         let from = slot(ask_at(kind), Variable(on), Task(0));
         return Masks {
-            full: mask(fullclocks, last, row, from),
-            arrived: mask(clocks, last, row, from),
+            full: lower_half(mask(fullclocks, last, row, from)),
+            arrived: lower_half(mask(clocks, last, row, from)),
         };
     }
     Masks {

@@ -6,8 +6,7 @@ use theory::History;
 use theory::Masks;
 use theory::RecordNumber;
 ghost use mathlib.Core.Path.{_≡_};
-ghost use Prim.Native.Nat.{_<_, _+_, _*_, _/_, _%_, _^_};
-ghost use lib.Bits.{bitAnd};
+ghost use Prim.Native.Nat.{_<_, _+_, _*_, _%_, _^_};
 ghost use Rattle.theory.specs.tables.Reckonings.{bitOf, lowestTask};
 ghost use Rattle.theory.specs.feeding.Step.{judgedBy, answeredBy};
 ghost use Rattle.theory.specs.order.Limits.{tasks, variables};
@@ -30,11 +29,12 @@ pub(crate) fn weight_of(b: bool, u: u32) -> u32
     if b { weight(u) * 65_537 } else { 0 }
 }
 
-// What both halves of the word have: each task's bit once. Asking for one half alone would let the compiler drop the other from the weights.
-pub(crate) fn both_halves(x: u32) -> u16
-    ensures { λ r. ⌜ r ≡ bitAnd (x / 2 ^ 16) (x % 2 ^ 16) ⌝ }
+// The lower half of the word: each task's bit once. It is taken outside the loop that gathers the weights, whose function is called twice and
+// so stays a function: else the compiler drops the upper half from the weights, and makes no vector code.
+pub(crate) fn lower_half(x: u32) -> u16
+    ensures { λ r. ⌜ r ≡ x % 2 ^ 16 ⌝ }
 {
-    ((x / 65_536) & (x % 65_536)) as u16
+    (x % 65_536) as u16
 }
 
 // The lowest-numbered task of a mask that is not empty.

@@ -34,7 +34,7 @@ ghost use Rattle.theory.specs.acceptance.Control.{liveIn, unseenIn, countIn, re
 const MASKS: u32 = 1 << TASKS;
 
 // `||` and `&&` as calls, so that no branches are left to join where they stand.
-fn either(a: bool, b: bool) -> bool
+pub(crate) fn either(a: bool, b: bool) -> bool
     ensures { λ r. ⌜ r ≡ (a || b) ⌝ }
 {
     if a { true } else { b }

@@ -6,10 +6,11 @@ use crate::history::clashes;
 use crate::history::is_access;
 use crate::history::latest_number;
 use crate::history::slot;
-use crate::masks::both_halves;
+use crate::masks::lower_half;
 use crate::masks::weight;
 use crate::masks::weight_of;
 use crate::refusals::both;
+use crate::refusals::either;
 use crate::rows::HUB;
 use crate::rows::acted_after;
 use crate::rows::has_bit;
@@ -114,13 +115,13 @@ fn put_row(cells: &mut Sets, to: usize, row: &[u32; 64])
 }
 
 // Order over an act: the task's next act knows what the heard row knows, and it is passed on, to an object and to the hub alike.
-fn flow(cells: &mut Sets, heard: usize, told: usize, task: usize)
+fn flow(cells: &mut Sets, asked: bool, heard: usize, told: usize, task: usize)
     requires { ⌜ (heard < 82) × (told < 82) × (task < tasks) ⌝ }
-    ensures { λ _. ⌜ now (cells .exit) ≡ flow bitOr slotWords heard told task (now (cells .entry)) ⌝ }
+    ensures { λ _. ⌜ now (cells .exit) ≡ flow bitOr slotWords asked heard told task (now (cells .entry)) ⌝ }
 {
     join_row(cells, task, heard);
     join_row(cells, told, task);
-    if told < 16 {
+    if either(told < 16, !asked) {
         return;
     }
     join_row(cells, HUB, task);
@@ -253,13 +254,14 @@ fn joins_acted(cells: &Sets, kind: u8, on: u32) -> bool
 }
 
 // Order over an act of a kind.
-fn pass_on(cells: &mut Sets, kind: u8, task: u32, on: u32)
+fn pass_on(cells: &mut Sets, asked: bool, kind: u8, task: u32, on: u32)
     requires { ⌜ Fitting kind task on ⌝ }
-    ensures { λ _. ⌜ now (cells .exit) ≡ onward bitOr slotWords kind task on (now (cells .entry)) ⌝ }
+    ensures { λ _. ⌜ now (cells .exit) ≡ onward bitOr slotWords asked kind task on (now (cells .entry)) ⌝ }
 {
     let joins = joins_acted(cells, kind, on);
     flow(
         cells,
+        asked,
         heard_row(kind, Task(task), on, joins),
         told_row(kind, Task(task), on),
         task as usize,
@@ -281,8 +283,8 @@ pub(crate) fn advance_sets(sets: &mut Sets, fullsets: &mut Sets, kind: u8, task:
     if is_access(kind) {
         return;
     }
-    pass_on(sets, kind, task, on);
-    pass_on(fullsets, kind, task, on);
+    pass_on(sets, false, kind, task, on);
+    pass_on(fullsets, true, kind, task, on);
 }
 
 // What row r knows of what the kind of access with number a asks of the tasks, for variable v: from bit 0 on a bit for each task.
@@ -314,7 +316,7 @@ fn mask(cells: &Sets, last: &History, kind: u8, task: u32, on: u32) -> u16
         x = x | weight_of(apart(known, last, kind, on, u), u);
         u += 1;
     }
-    both_halves(x)
+    lower_half(x)
 }
 
 // The masks of the tasks whose latest conflicting access has no path to this access; empty for any other record.

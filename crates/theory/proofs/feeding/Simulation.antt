@@ -129,7 +129,7 @@ clocks-next {es} {control} {last} {clocks} {fullclocks} b x (an-act o t n a) =
       in-full = clocks-act o (x .in-full) (a .fits .task-fits) (on-series o (a .fits)) (next-number (b .control-exact)) (starts-unseen full-restricts (b .seen) (a .starts-unseen));
     })
 clocks-next b x (a-mark t n m) =
-    record { as-arrived = clocks-mark n (mark-filled arrived-restricts m) (x .as-arrived); in-full = clocks-mark n (mark-filled full-restricts m) (x .in-full) }
+    record { as-arrived = clocks-mark n (arrived-restricts .asked n) (mark-filled arrived-restricts m) (x .as-arrived); in-full = clocks-mark n (full-restricts .asked n) (mark-filled full-restricts m) (x .in-full) }
 
 sets-next : {es : List Event} {sets fullsets : List ℕ} {r : Record} → Seen es → Sets es sets fullsets → Shape es r →
     Sets (Then es r) (setsBy arrived (r .kind) (r .task) (r .on) sets) (setsBy full (r .kind) (r .task) (r .on) fullsets)
@@ -140,7 +140,7 @@ sets-next s x (an-act o t n a) =
       in-full = sets-act o (x .in-full) (a .fits .task-fits) (on-series o (a .fits)) (starts-unseen full-restricts s (a .starts-unseen));
     })
 sets-next s x (a-mark t n m) =
-    record { as-arrived = sets-mark n (mark-filled arrived-restricts m) (x .as-arrived); in-full = sets-mark n (mark-filled full-restricts m) (x .in-full) }
+    record { as-arrived = sets-mark n (arrived-restricts .asked n) (mark-filled arrived-restricts m) (x .as-arrived); in-full = sets-mark n (full-restricts .asked n) (mark-filled full-restricts m) (x .in-full) }
 
 -- What is answered
 

@@ -6,10 +6,10 @@ use mathlib.Core.Logic.{_↔_, _⊎_, inl, inr}
 use mathlib.Core.List.{List, [], _∷_, _++_}
 use Prim.Native.Nat.{ℕ, _^_, _<_}
 use native.Mathlib.Omega.{arith}
-use lib.Dec.{eqb}
+use lib.Dec.{T, eqb}
 use Rattle.theory.specs.order.Recording.{Op, start, Effect, keeps, begins, ends, about, kind, Event, act, lost}
 use Rattle.theory.specs.order.Limits.{tasks}
-use Rattle.theory.specs.fillings.Completion.{Named, Filling, arrived, full}
+use Rattle.theory.specs.fillings.Completion.{Named, Filling, arrived, full, fills}
 use Rattle.theory.specs.acceptance.Table.{Phase, isLive, isUnseen, phaseBy, phaseAfter, phase}
 use Rattle.theory.proofs.acceptance.ControlTable.{phase-snoc}
 use Rattle.theory.proofs.order.Carry.{Node, due, acted, Tells, own, own-next, own-acted, by-start}
@@ -39,12 +39,13 @@ pub record Ended (w : Filling) (Chosen : Event → List Event → Type 0) (es : 
 pub record Restricts (w : Filling) : Type 0 where
   pub within : (mask t : ℕ) → Named (w mask) t → Named mask t
   pub bounded : (mask : ℕ) → mask < 2 ^ tasks → w mask < 2 ^ tasks
+  pub asked : (mask : ℕ) → ¬ (w mask ≡ 0) → T (fills w)
 
 pub arrived-restricts : Restricts arrived
-arrived-restricts = record { within = λ mask t d. absurd (nobody-named d); bounded = λ mask h. omega arith }
+arrived-restricts = record { within = λ mask t d. absurd (nobody-named d); bounded = λ mask h. omega arith; asked = λ mask n. absurd (n refl) }
 
 pub full-restricts : Restricts full
-full-restricts = record { within = λ mask t d. d; bounded = λ mask h. h }
+full-restricts = record { within = λ mask t d. d; bounded = λ mask h. h; asked = λ mask n. tt }
 
 -- In the fullest filling each has acted who has in another
 

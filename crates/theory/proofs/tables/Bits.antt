@@ -6,7 +6,7 @@ use native.Mathlib.Nat.{pow-suc, add-mul, mul-assoc, zero-mul}
 use native.Mathlib.Numerals.{add-one}
 use native.Mathlib.Omega.{arith}
 use lib.Count.{trailingZeros, under, trailing-of-zero}
-use lib.Bits.{bitAnd, bitOr, and-self, or-block, or-shifted-r, or-zero-r}
+use lib.Bits.{bitOr, or-block, or-shifted-r, or-zero-r}
 use lib.Pow.{pow-mono, pow-lt}
 use Rattle.theory.specs.tables.Turns.{turns}
 use Rattle.theory.specs.tables.Reckonings.{bitOf, maskOf, lowestTask}
@@ -192,9 +192,8 @@ module _ {p : ℕ → Bool} where
           let same : g .m + 0 * 2 ^ u ≡ g .m = omega (arith, zero-mul (2 ^ u)) in
           rw (none, same) (or-zero-r (g .m * 2 ^ 16 + g .m))
 
-  pub all-weights : {u x : ℕ} → Gathered p u x → u ≤ 16 → 16 ≤ u → bitAnd (x / 2 ^ 16) (x % 2 ^ 16) ≡ maskOf p
+  pub all-weights : {u x : ℕ} → Gathered p u x → u ≤ 16 → 16 ≤ u → x % 2 ^ 16 ≡ maskOf p
   all-weights {u} {x} g h l =
       let room = sum-fits (g .summed) h in
-      let high : x / 2 ^ 16 ≡ g .m = omega (arith, g .twice) in
       let low : x % 2 ^ 16 ≡ g .m = omega (arith, g .twice) in
-      rw (high, low) (and-self (g .m) ∙ all-sums (g .summed) h l)
+      low ∙ all-sums (g .summed) h l

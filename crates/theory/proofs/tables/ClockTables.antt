@@ -6,9 +6,10 @@ use mathlib.Core.Logic.{_↔_, _⊎_, inl, inr}
 use mathlib.Core.List.{List, [], _∷_, _++_}
 use Prim.Native.Nat.{ℕ, suc, _<_, max}
 use native.Mathlib.Omega.{arith}
+use lib.Dec.{T}
 use lib.ListN.{length, replicate}
 use Rattle.theory.specs.order.Recording.{Op, Event, act, lost, series, kind, ActsIn, acts}
-use Rattle.theory.specs.fillings.Completion.{Named, Filling, arrived, full}
+use Rattle.theory.specs.fillings.Completion.{Named, Filling, arrived, full, fills}
 use Rattle.theory.specs.tables.Rows.{mark, cell}
 use Rattle.theory.specs.tables.Reckonings.{clockOwn, clockAct}
 use Rattle.theory.proofs.basics.Reflects.{Reflects, right, wrong, equal, at-most, both}
@@ -83,29 +84,29 @@ module _ {w : Filling} {es : List Event} {b : List ℕ} {t n number : ℕ} (o : 
           before (inl (_, d)) = x .column u i hu .cells m r .1 d
           before (inr ((h, a), e)) = absurd (apart (ap row e, acting-one a))
 
-      hub-kept : Knows (Past i) 16 (clockOwn t number b) 80 u ↔ (Unit {0} × ToObject w (OfTask u) es i)
-      hub-kept =
+      hub-kept : T (fills w) → Knows (Past i) 16 (clockOwn t number b) 80 u ↔ (Unit {0} × ToObject w (OfTask u) es i)
+      hub-kept f =
           let q = knows-same {P = Past i} (clock-own-other b t number 80 u ht hu (omega arith) (λ y. omega (arith, y .0))) in
-          (λ a. (tt, x .column u i hu .hub .0 (q .0 a)), λ y. q .1 (x .column u i hu .hub .1 (y .1)))
+          (λ a. (tt, x .column u i hu .hub f .0 (q .0 a)), λ y. q .1 (x .column u i hu .hub f .1 (y .1)))
 
   own-acting : ExactActed w (es ++ (act o t n ∷ [])) 16 (clockOwn t number b)
   own-acting = acted-act o t n (λ u hu. clock-own-acted (x .sized) t number u ht hu) (x .acting)
 
-  pub clocks-act : ((u : ℕ) → Tells (act o t n) (due u) → (u ≡ t) ⊎ (¬ Acted w u es)) → ExactClocks w (es ++ (act o t n ∷ [])) (clockAct (kind o) t n number b)
+  pub clocks-act : ((u : ℕ) → Tells (act o t n) (due u) → (u ≡ t) ⊎ (¬ Acted w u es)) → ExactClocks w (es ++ (act o t n ∷ [])) (clockAct (fills w) (kind o) t n number b)
   clocks-act starts =
       record {
-        sized = sized-flow (sized-clock-own (x .sized) t number) max _ _ t;
+        sized = sized-flow (sized-clock-own (x .sized) t number) max (fills w) _ _ t;
         column = λ u i hu. exact-act (joins-max i) (keeps u (act o t n)) starts ht hn hu (sized-clock-own (x .sized) t number) own-acting (x .column u i hu .ended) (owned u i hu);
-        acting = acted-same (λ u hu. flow-acted max _ (sized-clock-own (x .sized) t number) (rw (told-row o t n) (row-below (told-in o ht hn))) ht hu) own-acting;
+        acting = acted-same (λ u hu. flow-acted max (fills w) _ (sized-clock-own (x .sized) t number) (rw (told-row o t n) (row-below (told-in o ht hn))) ht hu) own-acting;
       }
 
 -- Marks
 
-pub clocks-mark : {w : Filling} {es : List Event} {b : List ℕ} (mask : ℕ) → Filled-in (w mask) → ExactClocks w es b → ExactClocks w (es ++ (lost mask ∷ [])) (mark max 16 (w mask) b)
-clocks-mark {w} mask f x =
+pub clocks-mark : {w : Filling} {es : List Event} {b : List ℕ} (mask : ℕ) → (¬ (w mask ≡ 0) → T (fills w)) → Filled-in (w mask) → ExactClocks w es b → ExactClocks w (es ++ (lost mask ∷ [])) (mark max 16 (w mask) b)
+clocks-mark {w} mask asked f x =
     record {
       sized = sized-mark (x .sized) max (w mask);
-      column = λ u i hu. exact-mark mask (keeps u (lost mask)) tt (joins-max i) (x .sized) (omega arith) hu f (x .column u i hu);
+      column = λ u i hu. exact-mark mask (keeps u (lost mask)) tt (joins-max i) (x .sized) (omega arith) hu asked f (x .column u i hu);
       acting = acted-mark max mask (x .sized) (omega arith) f (x .acting);
     }
 

@@ -1,7 +1,7 @@
 -- A column of a table is exact if its cells say to which nodes order has come. Acts and marks keep it so, in any filling, for
 -- clocks and sets alike and at any width. Assumes nothing.
 use mathlib.Core.Path.{_≡_, refl, sym, _∙_, subst}
-use mathlib.Core.Bool.{Bool, true, false, cond}
+use mathlib.Core.Bool.{Bool, true, false, cond, not, _||_}
 use mathlib.Core.Logic.{_↔_, _⊎_, inl, inr}
 use mathlib.Core.List.{List, [], _∷_, _++_}
 use Prim.Native.Nat.{ℕ, _*_, _≤_, _<_}
@@ -10,7 +10,7 @@ use borrow.Author.Tests.{lt-ltb, le-ltb, ne-eqb}
 use lib.Dec.{T, ltb, eqb, lit<}
 use lib.ListN.{replicate}
 use Rattle.theory.specs.order.Recording.{Op, Event, act, lost, series, kind}
-use Rattle.theory.specs.fillings.Completion.{bit, Named, Filling, arrived, full}
+use Rattle.theory.specs.fillings.Completion.{bit, Named, Filling, arrived, full, fills}
 use Rattle.theory.specs.tables.Rows.{cell, joinsActed, heardRow, toldRow, alsoTold, onward, isTold, mix, mark}
 use Rattle.theory.proofs.order.Carry.{Node, due, acted, semaphore, flag, Hears, own, Tells, own-next}
 use Rattle.theory.proofs.fillings.Fullest.{Heard, Told, named-task}
@@ -24,7 +24,7 @@ use Rattle.theory.proofs.order.Tests.{some-snoc, snoc-some, snoc-last}
 use Rattle.theory.proofs.order.Places.{nowhere}
 use Rattle.theory.proofs.fillings.Came.{Came, came-acted, Newly, Onward, came-next}
 use Rattle.theory.proofs.fillings.HasActed.{ActsAs, Acted, Ended, ended-act, no-tells, mark-came, came-mark, ended-mark, none-acted}
-use Rattle.theory.proofs.basics.Reflects.{Reflects, right, wrong, same-as, equal, at-most, by-test}
+use Rattle.theory.proofs.basics.Reflects.{Reflects, right, wrong, same-as, equal, at-most, by-test, is-true}
 
 -- Definition
 
@@ -35,13 +35,13 @@ ToObject w Chosen es i = (m : Node) × Object m × Came w Chosen es i m
 -- column c: P is what its cells know where order has come from place i or later
 pub record Exact (P : ℕ → Type 0) (w : Filling) (Chosen : Event → List Event → Type 0) (es : List Event) (width : ℕ) (b : List ℕ) (i c : ℕ) : Type 0 where
   pub cells : (n : Node) → InRange n → Knows P width b (row n) c ↔ Came w Chosen es i n
-  pub hub : Knows P width b 80 c ↔ ToObject w Chosen es i
+  pub hub : T (fills w) → Knows P width b 80 c ↔ ToObject w Chosen es i
   pub ended : Ended w Chosen es i
 
 -- what it is to be after an act's own part: what stays of what had come, and the act itself at its task's next act
 pub record Owned (P : ℕ → Type 0) (w : Filling) (Chosen : Event → List Event → Type 0) (Stays : Type 0) (es : List Event) (x : Event) (t width : ℕ) (b : List ℕ) (i c : ℕ) : Type 0 where
   pub cells : (n : Node) → InRange n → Knows P width b (row n) c ↔ ((Stays × Came w Chosen es i n) ⊎ (Newly Chosen es x i × (n ≡ due t)))
-  pub hub : Knows P width b 80 c ↔ (Stays × ToObject w Chosen es i)
+  pub hub : T (fills w) → Knows P width b 80 c ↔ (Stays × ToObject w Chosen es i)
 
 -- the row of what has acted is exact if it says which tasks have
 pub record ExactActed (w : Filling) (es : List Event) (width : ℕ) (b : List ℕ) : Type 0 where
@@ -50,8 +50,8 @@ pub record ExactActed (w : Filling) (es : List Event) (width : ℕ) (b : List �
 -- Acts
 
 -- which rows an act tells
-abbrev Told-row : ℕ → ℕ → ℕ → Type 0
-Told-row t told r = (r ≡ t) ⊎ ((r ≡ told) ⊎ (r ≡ alsoTold told t))
+abbrev Told-row : Bool → ℕ → ℕ → ℕ → Type 0
+Told-row asked t told r = (r ≡ t) ⊎ ((r ≡ told) ⊎ (r ≡ alsoTold asked told t))
 
 module _ {P : ℕ → Type 0} {j : ℕ → ℕ → ℕ} {w : Filling} {Chosen : Event → List Event → Type 0} {Stays : Type 0} {es : List Event} {o : Op} {t n width i c : ℕ} {b : List ℕ}
     (joins : Joins j P) (keeps : (e : Event) (after : List Event) → Chosen e (after ++ (act o t n ∷ [])) ↔ (Stays × Chosen e after))
@@ -77,15 +77,15 @@ module _ {P : ℕ → Type 0} {j : ℕ → ℕ → ℕ} {w : Filling} {Chosen : 
   also-none r true e = e
   also-none r false e = absurd (omega (arith, row-below r))
 
-  told-by : {m : Node} → InRange m → Told-row t (toldRow (kind o) t n) (row m) → Tells (act o t n) m
+  told-by : {m : Node} → InRange m → Told-row (fills w) t (toldRow (kind o) t n) (row m) → Tells (act o t n) m
   told-by r (inl e) = subst (Tells (act o t n)) (sym (row-one r (due-in ht) e)) own-next
   told-by r (inr (inl e)) = subst (Tells (act o t n)) (sym (row-one r (told-in o ht hn) (rw (told-row o t n) at e))) (told-tells o t n)
-  told-by r (inr (inr e)) = subst (Tells (act o t n)) (sym (row-one r (due-in ht) (also-none r (ltb (toldRow (kind o) t n) 16) e))) own-next
+  told-by r (inr (inr e)) = subst (Tells (act o t n)) (sym (row-one r (due-in ht) (also-none r (ltb (toldRow (kind o) t n) 16 || not (fills w)) e))) own-next
 
-  by-told : {m : Node} → InRange m → Tells (act o t n) m → Told-row t (toldRow (kind o) t n) (row m)
+  by-told : {m : Node} → InRange m → Tells (act o t n) m → Told-row (fills w) t (toldRow (kind o) t n) (row m)
   by-told r x = cases r (tells-cases x)
     where
-      cases : {m : Node} → InRange m → (m ≡ due t) ⊎ ((m ≡ acted t) ⊎ (m ≡ toldNode o t n)) → Told-row t (toldRow (kind o) t n) (row m)
+      cases : {m : Node} → InRange m → (m ≡ due t) ⊎ ((m ≡ acted t) ⊎ (m ≡ toldNode o t n)) → Told-row (fills w) t (toldRow (kind o) t n) (row m)
       cases r (inl e) = inl (rw e)
       cases r (inr (inl e)) = absurd (none (subst InRange e r))
         where
@@ -94,10 +94,10 @@ module _ {P : ℕ → Type 0} {j : ℕ → ℕ → ℕ} {w : Filling} {Chosen : 
       cases r (inr (inr e)) = inr (inl (rw (e, told-row o t n)))
 
   -- the hub is told where an object is
-  hub-told : {m : Node} → Object m → Tells (act o t n) m → Told-row t (toldRow (kind o) t n) 80
-  hub-told m x = cases m (tells-cases x)
+  hub-told : T (fills w) → {m : Node} → Object m → Tells (act o t n) m → Told-row (fills w) t (toldRow (kind o) t n) 80
+  hub-told f m x = cases m (tells-cases x)
     where
-      cases : {m : Node} → Object m → (m ≡ due t) ⊎ ((m ≡ acted t) ⊎ (m ≡ toldNode o t n)) → Told-row t (toldRow (kind o) t n) 80
+      cases : {m : Node} → Object m → (m ≡ due t) ⊎ ((m ≡ acted t) ⊎ (m ≡ toldNode o t n)) → Told-row (fills w) t (toldRow (kind o) t n) 80
       cases m (inl e) = absurd (none (subst Object e m))
         where
           none : Object (due t) → ⊥
@@ -106,9 +106,9 @@ module _ {P : ℕ → Type 0} {j : ℕ → ℕ → ℕ} {w : Filling} {Chosen : 
         where
           none : Object (acted t) → ⊥
           none q = elim q [ ]
-      cases m (inr (inr e)) = inr (inr (rw (le-ltb (toldRow (kind o) t n) 16 (rw (told-row o t n) (object-row (subst Object e m))))))
+      cases m (inr (inr e)) = inr (inr (rw (le-ltb (toldRow (kind o) t n) 16 (rw (told-row o t n) (object-row (subst Object e m))), is-true (by-test (fills w)) f)))
 
-  told-hub : Told-row t (toldRow (kind o) t n) 80 → Object (toldNode o t n)
+  told-hub : Told-row (fills w) t (toldRow (kind o) t n) 80 → Object (toldNode o t n)
   told-hub (inl e) = absurd (omega arith)
   told-hub (inr (inl e)) = let h = told-below in absurd (omega arith)
   told-hub (inr (inr e)) = decided (at-most 16 (toldRow (kind o) t n))
@@ -178,19 +178,19 @@ module _ {P : ℕ → Type 0} {j : ℕ → ℕ → ℕ} {w : Filling} {Chosen : 
   own-source : Newly Chosen es (act o t n) i → Knows P width b t c ⊎ Knows P width b heard c
   own-source d = inl (owned .cells (due t) (due-in ht) .1 (inr (d, refl)))
 
-  pub exact-act : Exact P w Chosen (es ++ (act o t n ∷ [])) width (onward j width (kind o) t n b) i c
+  pub exact-act : Exact P w Chosen (es ++ (act o t n ∷ [])) width (onward j width (fills w) (kind o) t n b) i c
   exact-act =
       record {
         cells = λ m r. (λ a. came-next es (act o t n) keeps .1 (to m r (flowed (row m) .0 a)), λ d. flowed (row m) .1 (from m r (came-next es (act o t n) keeps .0 d)));
-        hub = (λ a. to-hub (flowed 80 .0 a), λ d. flowed 80 .1 (from-hub (d .0) (d .1) (came-next es (act o t n) keeps .0 (d .2))));
+        hub = λ f. (λ a. to-hub f (flowed 80 .0 a), λ d. flowed 80 .1 (from-hub f (d .0) (d .1) (came-next es (act o t n) keeps .0 (d .2))));
         ended = ended-act keeps starts ended;
       }
     where
-      flowed : (r : ℕ) → Knows P width (onward j width (kind o) t n b) r c
-          ↔ (Knows P width b r c ⊎ (Told-row t (toldRow (kind o) t n) r × (Knows P width b t c ⊎ Knows P width b heard c)))
-      flowed r = let h = told-below in flow-knows joins sized (omega arith) ht hc
+      flowed : (r : ℕ) → Knows P width (onward j width (fills w) (kind o) t n b) r c
+          ↔ (Knows P width b r c ⊎ (Told-row (fills w) t (toldRow (kind o) t n) r × (Knows P width b t c ⊎ Knows P width b heard c)))
+      flowed r = let h = told-below in flow-knows joins (fills w) sized (omega arith) ht hc
 
-      to : (m : Node) → InRange m → Knows P width b (row m) c ⊎ (Told-row t (toldRow (kind o) t n) (row m) × (Knows P width b t c ⊎ Knows P width b heard c)) → Came-on m
+      to : (m : Node) → InRange m → Knows P width b (row m) c ⊎ (Told-row (fills w) t (toldRow (kind o) t n) (row m) × (Knows P width b t c ⊎ Knows P width b heard c)) → Came-on m
       to m r (inl a) = stayed (owned .cells m r .0 a)
         where
           stayed : (Stays × Came w Chosen es i m) ⊎ (Newly Chosen es (act o t n) i × (m ≡ due t)) → Came-on m
@@ -198,19 +198,19 @@ module _ {P : ℕ → Type 0} {j : ℕ → ℕ → ℕ} {w : Filling} {Chosen : 
           stayed (inr (d, e)) = inr (d, subst (Tells (act o t n)) (sym e) own-next)
       to m r (inr (q, a)) = source-came (told-by r q) a
 
-      from : (m : Node) → InRange m → Came-on m → Knows P width b (row m) c ⊎ (Told-row t (toldRow (kind o) t n) (row m) × (Knows P width b t c ⊎ Knows P width b heard c))
+      from : (m : Node) → InRange m → Came-on m → Knows P width b (row m) c ⊎ (Told-row (fills w) t (toldRow (kind o) t n) (row m) × (Knows P width b t c ⊎ Knows P width b heard c))
       from m r (inl (s, inl d)) = inl (owned .cells m r .1 (inl (s, d)))
       from m r (inl (s, inr (p, d, (h, x)))) = inr (by-told r x, came-source s h d)
       from m r (inr (d, x)) = inr (by-told r x, own-source d)
 
-      to-hub : Knows P width b 80 c ⊎ (Told-row t (toldRow (kind o) t n) 80 × (Knows P width b t c ⊎ Knows P width b heard c)) → ToObject w Chosen (es ++ (act o t n ∷ [])) i
-      to-hub (inl a) = let (s, (m, k, d)) = owned .hub .0 a in (m, k, came-next es (act o t n) keeps .1 (inl (s, inl d)))
-      to-hub (inr (q, a)) = (toldNode o t n, told-hub q, came-next es (act o t n) keeps .1 (source-came (told-tells o t n) a))
+      to-hub : T (fills w) → Knows P width b 80 c ⊎ (Told-row (fills w) t (toldRow (kind o) t n) 80 × (Knows P width b t c ⊎ Knows P width b heard c)) → ToObject w Chosen (es ++ (act o t n ∷ [])) i
+      to-hub f (inl a) = let (s, (m, k, d)) = owned .hub f .0 a in (m, k, came-next es (act o t n) keeps .1 (inl (s, inl d)))
+      to-hub f (inr (q, a)) = (toldNode o t n, told-hub q, came-next es (act o t n) keeps .1 (source-came (told-tells o t n) a))
 
-      from-hub : (m : Node) → Object m → Came-on m → Knows P width b 80 c ⊎ (Told-row t (toldRow (kind o) t n) 80 × (Knows P width b t c ⊎ Knows P width b heard c))
-      from-hub m k (inl (s, inl d)) = inl (owned .hub .1 (s, (m, k, d)))
-      from-hub m k (inl (s, inr (p, d, (h, x)))) = inr (hub-told k x, came-source s h d)
-      from-hub m k (inr (d, x)) = inr (hub-told k x, own-source d)
+      from-hub : T (fills w) → (m : Node) → Object m → Came-on m → Knows P width b 80 c ⊎ (Told-row (fills w) t (toldRow (kind o) t n) 80 × (Knows P width b t c ⊎ Knows P width b heard c))
+      from-hub f m k (inl (s, inl d)) = inl (owned .hub f .1 (s, (m, k, d)))
+      from-hub f m k (inl (s, inr (p, d, (h, x)))) = inr (hub-told f k x, came-source s h d)
+      from-hub f m k (inr (d, x)) = inr (hub-told f k x, own-source d)
 
 -- Marks
 
@@ -239,20 +239,20 @@ module _ {P : ℕ → Type 0} {w : Filling} {Chosen : Event → List Event → T
   exact-none none x =
       record {
         cells = λ m r. (λ a. came-mark mask keeps none stays (x .cells m r .0 a), λ d. x .cells m r .1 (mark-came mask keeps none d));
-        hub = (λ a. let (m, k, d) = x .hub .0 a in (m, k, came-mark mask keeps none stays d), λ d. x .hub .1 (d .0, d .1, mark-came mask keeps none (d .2)));
+        hub = λ f. (λ a. let (m, k, d) = x .hub f .0 a in (m, k, came-mark mask keeps none stays d), λ d. x .hub f .1 (d .0, d .1, mark-came mask keeps none (d .2)));
         ended = ended-mark mask keeps stays (x .ended);
       }
 
   -- where some are it mixes
-  module _ {j : ℕ → ℕ → ℕ} (joins : Joins j P) (sized : Sized width b) (wide : 16 ≤ width) (hc : c < width) (some : (t : ℕ) × Named (w mask) t) (x : Exact P w Chosen es width b i c) where
+  module _ {j : ℕ → ℕ → ℕ} (joins : Joins j P) (sized : Sized width b) (wide : 16 ≤ width) (hc : c < width) (some : (t : ℕ) × Named (w mask) t) (asked : T (fills w)) (x : Exact P w Chosen es width b i c) where
     heard-known : (p : Node) → Heard (w mask) p → Came w Chosen es i p → Knows P width b 80 c ⊎ NamedKnows P width (w mask) b c 16
     heard-known (due t) h d = let q = heard-due .0 h in inr (t, named-task q, named-bit q, x .cells (due t) (due-in (named-task q)) .1 d)
     heard-known (acted t) h d = absurd (heard-acted h)
-    heard-known (semaphore s) h d = inl (x .hub .1 (semaphore s, a-semaphore (heard-semaphore .0 h .0), d))
-    heard-known (flag f) h d = inl (x .hub .1 (flag f, a-flag (heard-flag .0 h .0), d))
+    heard-known (semaphore s) h d = inl (x .hub asked .1 (semaphore s, a-semaphore (heard-semaphore .0 h .0), d))
+    heard-known (flag f) h d = inl (x .hub asked .1 (flag f, a-flag (heard-flag .0 h .0), d))
 
     known-on : {m : Node} → Told (w mask) m → Knows P width b 80 c ⊎ NamedKnows P width (w mask) b c 16 → Onward w Chosen es (lost mask) i m
-    known-on y (inl a) = let (p, k, d) = x .hub .0 a in inr (p, d, (heard-object some k, y))
+    known-on y (inl a) = let (p, k, d) = x .hub asked .0 a in inr (p, d, (heard-object some k, y))
     known-on y (inr (t, l, q, a)) = inr (due t, x .cells (due t) (due-in l) .0 a, (heard-due .1 (bit-named (w mask) t l q), y))
 
     on-known : {m : Node} → Told (w mask) m → (Stays × Onward w Chosen es (lost mask) i m) ⊎ (Newly Chosen es (lost mask) i × Tells (lost mask) m) →
@@ -288,17 +288,17 @@ module _ {P : ℕ → Type 0} {w : Filling} {Chosen : Event → List Event → T
         to a = (semaphore 0, a-semaphore (lit< tt), came-next es (lost mask) keeps .1 (inl (stays, known-on (told-semaphore .1 (lit< tt, some)) a)))
 
         from : (m : Node) → Object m → (Stays × Onward w Chosen es (lost mask) i m) ⊎ (Newly Chosen es (lost mask) i × Tells (lost mask) m) → Knows P width b 80 c ⊎ NamedKnows P width (w mask) b c 16
-        from m k (inl (s, inl d)) = inl (x .hub .1 (m, k, d))
+        from m k (inl (s, inl d)) = inl (x .hub asked .1 (m, k, d))
         from m k (inl (s, inr (p, d, (h, y)))) = heard-known p h d
         from m k (inr (d, y)) = absurd (no-tells y)
 
     exact-mix : Exact P w Chosen (es ++ (lost mask ∷ [])) width (mix j width (w mask) b) i c
-    exact-mix = record { cells = mixed; hub = hub-mixed; ended = ended-mark mask keeps stays (x .ended) }
+    exact-mix = record { cells = mixed; hub = λ _. hub-mixed; ended = ended-mark mask keeps stays (x .ended) }
 
-  pub exact-mark : {j : ℕ → ℕ → ℕ} → Joins j P → Sized width b → 16 ≤ width → c < width → Filled-in (w mask) → Exact P w Chosen es width b i c →
+  pub exact-mark : {j : ℕ → ℕ → ℕ} → Joins j P → Sized width b → 16 ≤ width → c < width → (¬ (w mask ≡ 0) → T (fills w)) → Filled-in (w mask) → Exact P w Chosen es width b i c →
       Exact P w Chosen (es ++ (lost mask ∷ [])) width (mark j width (w mask) b) i c
-  exact-mark {j} joins sized wide hc (nobody e) x = subst (λ (k : ℕ). Exact P w Chosen (es ++ (lost mask ∷ [])) width (mark j width k b) i c) (sym e) (exact-none e x)
-  exact-mark joins sized wide hc (somebody n some) x = rw (ne-eqb (w mask) 0 n) (exact-mix joins sized wide hc some x)
+  exact-mark {j} joins sized wide hc asked (nobody e) x = subst (λ (k : ℕ). Exact P w Chosen (es ++ (lost mask ∷ [])) width (mark j width k b) i c) (sym e) (exact-none e x)
+  exact-mark joins sized wide hc asked (somebody n some) x = rw (ne-eqb (w mask) 0 n) (exact-mix joins sized wide hc some (asked n) x)
 
 -- What has acted
 
@@ -340,7 +340,7 @@ pub fresh-exact : {P : ℕ → Type 0} {w : Filling} {Chosen : Event → List Ev
 fresh-exact {width = width} {c = c} n hc =
     record {
       cells = λ m r. (λ a. let h = row-below r in absurd (fresh-none n width (row m) c (omega arith) hc a), λ d. absurd (nowhere (d .occurs)));
-      hub = (λ a. absurd (fresh-none n width 80 c (omega arith) hc a), λ d. absurd (nowhere (d .2 .occurs)));
+      hub = λ f. (λ a. absurd (fresh-none n width 80 c (omega arith) hc a), λ d. absurd (nowhere (d .2 .occurs)));
       ended = record { acting = λ t d. absurd (nowhere (d .occurs)); joined = λ t a d. absurd (nowhere (d .occurs)) };
     }
 

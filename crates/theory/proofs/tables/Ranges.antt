@@ -96,8 +96,8 @@ access-alone w b k t n e =
     by-role a-join a = absurd a
 
 -- so it passes nothing on, in clocks and sets alike
-pub access-onward : {j : ℕ → ℕ → ℕ} → Same j → (w k t n : ℕ) (b : List ℕ) → accesses k ≡ true → t < 16 → b ≡ onward j w k t n b
-access-onward s w k t n b h l = let a = access-alone w b k t n h in rw (a .0, a .1) (flow-alone s w t b l)
+pub access-onward : {j : ℕ → ℕ → ℕ} → Same j → (w : ℕ) (asked : Bool) (k t n : ℕ) (b : List ℕ) → accesses k ≡ true → t < 16 → b ≡ onward j w asked k t n b
+access-onward s w asked k t n b h l = let a = access-alone w b k t n h in rw (a .0, a .1) (flow-alone s w asked t b l)
 
 -- `on` of an access is a variable
 pub access-fits : {k t n : ℕ} → Fitting k t n → accesses k ≡ true → n < variables

@@ -9,7 +9,7 @@ use lib.Bits.{bitOr}
 use lib.Dec.{T, eqb}
 use lib.ListN.{length, replicate}
 use Rattle.theory.specs.order.Recording.{Op, Event, act, lost, series, kind, kindAt}
-use Rattle.theory.specs.fillings.Completion.{bit, Named, Filling, arrived, full}
+use Rattle.theory.specs.fillings.Completion.{bit, Named, Filling, arrived, full, fills}
 use Rattle.theory.specs.tables.Rows.{cell, noteActed, mark}
 use Rattle.theory.specs.history.History.{askers, asker, clashBy, slot, slots, underEach}
 use Rattle.theory.specs.tables.Reckonings.{hasSlot, clearSlot, addSlot, setOwn, setAct}
@@ -61,7 +61,7 @@ module _ {w : Filling} {es : List Event} {b : List ℕ} {t n : ℕ} (o : Op) (x 
   unowned {b′} s l out same =
       record {
         cells = λ m r. (λ a. inl (out, x .column s l .cells m r .0 (known (row m) (near r) .0 a)), λ y. known (row m) (near r) .1 (before m r y));
-        hub = (λ a. (out, x .column s l .hub .0 (known 80 (omega arith) .0 a)), λ y. known 80 (omega arith) .1 (x .column s l .hub .1 (y .1)));
+        hub = λ f. (λ a. (out, x .column s l .hub f .0 (known 80 (omega arith) .0 a)), λ y. known 80 (omega arith) .1 (x .column s l .hub f .1 (y .1)));
       }
     where
       near : {m : Node} → InRange m → row m < 81
@@ -78,7 +78,7 @@ module _ {w : Filling} {es : List Event} {b : List ℕ} {t n : ℕ} (o : Op) (x 
   own-slot : {b′ : List ℕ} (s : ℕ) → s < slots → InSlot s (act o t n) → hasSlot b′ t s ≡ true → ((r : ℕ) → r < 81 → r ≢ t → hasSlot b′ r s ≡ false) →
       Owned (HasBit s) w (KeptIn s) (¬ InSlot s (act o t n)) es (act o t n) t 64 b′ 0 (s / 32)
   own-slot {b′} s l inside here elsewhere =
-      record { cells = λ m r. decided m r (equal (row m) t); hub = (λ y. absurd (cleared 80 (omega arith) (λ e. omega arith) y), λ y. absurd (y .0 inside)) }
+      record { cells = λ m r. decided m r (equal (row m) t); hub = λ _. (λ y. absurd (cleared 80 (omega arith) (λ e. omega arith) y), λ y. absurd (y .0 inside)) }
     where
       newly : Newly (KeptIn s) es (act o t n) 0
       newly = (zero-le, (inside, λ q. elim q [ ]))
@@ -154,7 +154,7 @@ module _ {w : Filling} {es : List Event} {b : List ℕ} {t n : ℕ} (o : Op) (x 
   noted {b′} y s l =
       record {
         cells = λ m r. (λ a. y .column s l .cells m r .0 (same (row m) (near r) .0 a), λ d. same (row m) (near r) .1 (y .column s l .cells m r .1 d));
-        hub = (λ a. y .column s l .hub .0 (same 80 (λ e. omega arith) .0 a), λ d. same 80 (λ e. omega arith) .1 (y .column s l .hub .1 d));
+        hub = λ f. (λ a. y .column s l .hub f .0 (same 80 (λ e. omega arith) .0 a), λ d. same 80 (λ e. omega arith) .1 (y .column s l .hub f .1 d));
       }
     where
       near : {m : Node} → InRange m → ¬ (row m ≡ 81)
@@ -169,21 +169,21 @@ module _ {w : Filling} {es : List Event} {b : List ℕ} {t n : ℕ} (o : Op) (x 
   own-acting : ExactActed w (es ++ (act o t n ∷ [])) 64 (setOwn (kind o) t n b)
   own-acting = acted-act o t n (λ u hu. note-cell (own-part .sized) t u (omega arith) (omega arith) ∙ ap (cond (eqb u t) 1) (own-part .acted u hu)) (x .acting)
 
-  pub sets-act : ((u : ℕ) → Tells (act o t n) (due u) → (u ≡ t) ⊎ (¬ Acted w u es)) → ExactSets w (es ++ (act o t n ∷ [])) (setAct (kind o) t n b)
+  pub sets-act : ((u : ℕ) → Tells (act o t n) (due u) → (u ≡ t) ⊎ (¬ Acted w u es)) → ExactSets w (es ++ (act o t n ∷ [])) (setAct (fills w) (kind o) t n b)
   sets-act starts =
       record {
-        sized = sized-flow own-sized bitOr _ _ t;
+        sized = sized-flow own-sized bitOr (fills w) _ _ t;
         column = λ s l. exact-act (joins-or (s % 32)) (keeps s (act o t n)) starts ht hn (word-below l) own-sized own-acting (x .column s l .ended) (noted own-part s l);
-        acting = acted-same (λ u hu. flow-acted bitOr _ own-sized (rw (told-row o t n) (row-below (told-in o ht hn))) ht (omega arith)) own-acting;
+        acting = acted-same (λ u hu. flow-acted bitOr (fills w) _ own-sized (rw (told-row o t n) (row-below (told-in o ht hn))) ht (omega arith)) own-acting;
       }
 
 -- Marks
 
-pub sets-mark : {w : Filling} {es : List Event} {b : List ℕ} (mask : ℕ) → Filled-in (w mask) → ExactSets w es b → ExactSets w (es ++ (lost mask ∷ [])) (mark bitOr 64 (w mask) b)
-sets-mark {w} mask f x =
+pub sets-mark : {w : Filling} {es : List Event} {b : List ℕ} (mask : ℕ) → (¬ (w mask ≡ 0) → T (fills w)) → Filled-in (w mask) → ExactSets w es b → ExactSets w (es ++ (lost mask ∷ [])) (mark bitOr 64 (w mask) b)
+sets-mark {w} mask asked f x =
     record {
       sized = sized-mark (x .sized) bitOr (w mask);
-      column = λ s l. exact-mark mask (keeps s (lost mask)) no-slot-mark (joins-or (s % 32)) (x .sized) (omega arith) (word-below l) f (x .column s l);
+      column = λ s l. exact-mark mask (keeps s (lost mask)) no-slot-mark (joins-or (s % 32)) (x .sized) (omega arith) (word-below l) asked f (x .column s l);
       acting = acted-mark bitOr mask (x .sized) (omega arith) f (x .acting);
     }
 

@@ -101,3 +101,7 @@ full mask = mask
 -- a mark is filled with the whole round of those tasks, twice
 abbrev pub filling : Filling → ℕ → List Event
 filling w mask = rounds (w mask)
+
+-- whether it fills in anything at all: of a mark that names every task
+abbrev pub fills : Filling → Bool
+fills w = ltb 0 (w 65535)

@@ -10,7 +10,7 @@ use Rattle.theory.specs.declared.masks.Masks.{Masks}
 use Rattle.theory.specs.tables.Turns.{turns}
 use Rattle.theory.specs.order.Limits.{tasks}
 use Rattle.theory.specs.order.Recording.{lossMark, accesses}
-use Rattle.theory.specs.fillings.Completion.{bit, Filling}
+use Rattle.theory.specs.fillings.Completion.{bit, Filling, fills}
 use Rattle.theory.specs.tables.Rows.{rowCount, dueRow, cell, noteActed, onward, mark}
 use Rattle.theory.specs.history.History.{slot, latestSlot, latestNumber, underEach}
 
@@ -19,12 +19,12 @@ use Rattle.theory.specs.history.History.{slot, latestSlot, latestNumber,
 abbrev pub clockOwn : ℕ → ℕ → List ℕ → List ℕ
 clockOwn task number b = noteActed tasks task (set b (dueRow task * tasks + task) number)
 
-abbrev pub clockAct : ℕ → ℕ → ℕ → ℕ → List ℕ → List ℕ
-clockAct k task on number b = onward max tasks k task on (clockOwn task number b)
+abbrev pub clockAct : Bool → ℕ → ℕ → ℕ → ℕ → List ℕ → List ℕ
+clockAct asked k task on number b = onward max tasks asked k task on (clockOwn task number b)
 
 -- after a record, in a filling
 abbrev pub clocksBy : Filling → ℕ → ℕ → ℕ → ℕ → List ℕ → List ℕ
-clocksBy w k task on number b = cond (eqb k lossMark) (mark max tasks (w on) b) (clockAct k task on number b)
+clocksBy w k task on number b = cond (eqb k lossMark) (mark max tasks (w on) b) (clockAct (fills w) k task on number b)
 
 -- Sets: at row n and slot s whether order from the kept access of slot s has come to node n, as a bit: a word has 32 slots
 
@@ -66,11 +66,11 @@ addSlot r s b = set b (r * slotWords + slotWord s) (withBit (slotPlace s) (cell 
 abbrev pub setOwn : ℕ → ℕ → ℕ → List ℕ → List ℕ
 setOwn k task on b = noteActed slotWords task (underEach (λ s b. addSlot (dueRow task) s (clearSlot s b)) k on task b)
 
-abbrev pub setAct : ℕ → ℕ → ℕ → List ℕ → List ℕ
-setAct k task on b = onward bitOr slotWords k task on (setOwn k task on b)
+abbrev pub setAct : Bool → ℕ → ℕ → ℕ → List ℕ → List ℕ
+setAct asked k task on b = onward bitOr slotWords asked k task on (setOwn k task on b)
 
 abbrev pub setsBy : Filling → ℕ → ℕ → ℕ → List ℕ → List ℕ
-setsBy w k task on b = cond (eqb k lossMark) (mark bitOr slotWords (w on) b) (setAct k task on b)
+setsBy w k task on b = cond (eqb k lossMark) (mark bitOr slotWords (w on) b) (setAct (fills w) k task on b)
 
 -- Which tasks' latest conflicting access has no path to an access. A task's own never counts: order from it has come to its next act.
 

@@ -2,7 +2,7 @@
 -- things that order is followed from. Row r has its cells at r * width and on. What two cells know together is what `j` makes of them: for
 -- clocks the greater of two numbers, for sets the bits of both.
 use Prim.Native.Nat.{ℕ, _+_, _*_}
-use mathlib.Core.Bool.{Bool, true, false, cond, _&&_}
+use mathlib.Core.Bool.{Bool, true, false, cond, not, _&&_, _||_}
 use mathlib.Core.List.{List}
 use lib.Dec.{ltb, eqb}
 use lib.ListN.{getD, set, replicate}
@@ -50,9 +50,9 @@ toldRow k task on =
     cond (eqb k (kind Op.give)) (semaphoreRow on)
     (cond (eqb k (kind Op.set)) (flagRow on) (cond (eqb k (kind Op.start)) (dueRow on) (dueRow task)))
 
--- what is told to an object is told to the hub as well
-abbrev pub alsoTold : ℕ → ℕ → ℕ
-alsoTold told task = cond (ltb told (semaphoreRow 0)) (dueRow task) hub
+-- what is told to an object is told to the hub as well, in a table whose marks ask it
+abbrev pub alsoTold : Bool → ℕ → ℕ → ℕ
+alsoTold asked told task = cond (ltb told (semaphoreRow 0) || not asked) (dueRow task) hub
 
 -- what row `from` knows is known to row `to` as well
 abbrev pub joinCell : (ℕ → ℕ → ℕ) → ℕ → ℕ → ℕ → ℕ → List ℕ → List ℕ
@@ -81,17 +81,17 @@ unfoldable pub putRow : ℕ → ℕ → List ℕ → List ℕ → List ℕ
 putRow w to row b = turns w (λ c b. set b (to * w + c) (getD row c 0)) b
 
 -- order over an act of a task: its next act knows what the heard row knows, and it is passed on
-unfoldable pub flow : (ℕ → ℕ → ℕ) → ℕ → ℕ → ℕ → ℕ → List ℕ → List ℕ
-flow j w heard told task b =
-    joinRow j w (alsoTold told task) (dueRow task) (joinRow j w told (dueRow task) (joinRow j w (dueRow task) heard b))
+unfoldable pub flow : (ℕ → ℕ → ℕ) → ℕ → Bool → ℕ → ℕ → ℕ → List ℕ → List ℕ
+flow j w asked heard told task b =
+    joinRow j w (alsoTold asked told task) (dueRow task) (joinRow j w told (dueRow task) (joinRow j w (dueRow task) heard b))
 
 -- the task has acted
 abbrev pub noteActed : ℕ → ℕ → List ℕ → List ℕ
 noteActed w task b = set b (actedRow * w + task) 1
 
 -- a table after an act whose own part is in it already
-abbrev pub onward : (ℕ → ℕ → ℕ) → ℕ → ℕ → ℕ → ℕ → List ℕ → List ℕ
-onward j w k task on b = flow j w (heardRow k task on (joinsActed w b k on)) (toldRow k task on) task b
+abbrev pub onward : (ℕ → ℕ → ℕ) → ℕ → Bool → ℕ → ℕ → ℕ → List ℕ → List ℕ
+onward j w asked k task on b = flow j w asked (heardRow k task on (joinsActed w b k on)) (toldRow k task on) task b
 
 -- the row, or the hub in its place, which joined with itself stays as it is
 abbrev pub rowOrHub : Bool → ℕ → ℕ

@@ -1,6 +1,6 @@
 -- A mark mixes the fullest clocks; an act goes to both tables, and an access hears and tells no other row.
 use mathlib.Core.Path.{_≡_, sym, ap, _∙_}
-use mathlib.Core.Bool.{true}
+use mathlib.Core.Bool.{Bool, true, false}
 use mathlib.Core.List.{List}
 use Prim.Native.Nat.{ℕ, _<_, max}
 use native.Mathlib.Omega.{arith}
@@ -15,14 +15,14 @@ use borrow.Author.Needs.{needs}
 use Rattle.checker.proofs.clocks.advance_clocks.Statement.{statement}
 use Rattle.checker.proofs.clocks.advance_clocks.Tie as tie
 
-module _ (k t n m : ℕ) (b : List ℕ) {x : List ℕ} (e : x ≡ clockOwn t m b) where
+module _ (asked : Bool) (k t n m : ℕ) (b : List ℕ) {x : List ℕ} (e : x ≡ clockOwn t m b) where
   -- after an access its own part is all
-  accessed : accesses k ≡ true → t < tasks → x ≡ clockAct k t n m b
-  accessed h l = e ∙ access-onward same-max tasks k t n (clockOwn t m b) h l
+  accessed : accesses k ≡ true → t < tasks → x ≡ clockAct asked k t n m b
+  accessed h l = e ∙ access-onward same-max tasks asked k t n (clockOwn t m b) h l
 
   -- after another act its order, too
-  passed : {y : List ℕ} → y ≡ onward max tasks k t n x → y ≡ clockAct k t n m b
-  passed q = q ∙ ap (onward max tasks k t n) e
+  passed : {y : List ℕ} → y ≡ onward max tasks asked k t n x → y ≡ clockAct asked k t n m b
+  passed q = q ∙ ap (onward max tasks asked k t n) e
 
 returns : tie.Need-returns
 returns c =
@@ -45,8 +45,8 @@ returns-2 c =
     let h = sym (c .before .is-access .ensures) ∙ c .if2 .taken in
     let l = b .before .pre .act-fits (b .if1 .left) .task-fits in
     simp (ne-eqb _ _ (b .if1 .left)) (
-      accessed (a .kind) (a .task) (a .on) (a .number) (a .clocks .now) (c .before .before .before .before .own .ensures) h l,
-      accessed (a .kind) (a .task) (a .on) (a .number) (a .fullclocks .now) (c .before .before .own2 .ensures) h l,
+      accessed false (a .kind) (a .task) (a .on) (a .number) (a .clocks .now) (c .before .before .before .before .own .ensures) h l,
+      accessed true (a .kind) (a .task) (a .on) (a .number) (a .fullclocks .now) (c .before .before .own2 .ensures) h l,
     )
 
 pass-on-requires : tie.Need-pass-on-requires
@@ -61,8 +61,8 @@ returns-3 c =
     let b = o .before .before .before .before in
     let a = b .before .args in
     simp (ne-eqb _ _ (b .if1 .left)) (
-      passed (a .kind) (a .task) (a .on) (a .number) (a .clocks .now) (o .before .before .own .ensures) (c .before .before .pass-on .ensures),
-      passed (a .kind) (a .task) (a .on) (a .number) (a .fullclocks .now) (o .own2 .ensures) (c .pass-on2 .ensures),
+      passed false (a .kind) (a .task) (a .on) (a .number) (a .clocks .now) (o .before .before .own .ensures) (c .before .before .pass-on .ensures),
+      passed true (a .kind) (a .task) (a .on) (a .number) (a .fullclocks .now) (o .own2 .ensures) (c .pass-on2 .ensures),
     )
 
 pub advance-clocks-spec : {M : Type 1} → statement M

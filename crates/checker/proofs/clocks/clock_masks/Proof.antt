@@ -30,14 +30,15 @@ mask-requires c κs =
 
 mask-requires-2 : tie.Need-mask-requires-2
 mask-requires-2 c κs =
-    let (t, v) = access (c .before .before .before) in
-    let s = c .before .slot .ensures .0 in
-    let a = c .before .before .ask-at .ensures .1 in
+    let (t, v) = access (c .before .before .before .before) in
+    let s = c .before .before .slot .ensures .0 in
+    let a = c .before .before .before .ask-at .ensures .1 in
     (omega arith, omega arith)
 
 returns : tie.Need-returns
 returns c =
-    let at-slot = c .before .before in
+    let at-mask = c .before .before .before in
+    let at-slot = at-mask .before in
     let at-ask = at-slot .before in
     let at-access = at-ask .before .before in
     let a = at-access .before .args in
@@ -46,8 +47,10 @@ returns c =
       sym (at-access .is-access .ensures) ∙ at-ask .before .if1 .taken,
       ← mask-by-rows (a .fullclocks .now) (a .last .now) (a .kind) (a .task) (a .on) refl from,
       ← mask-by-rows (a .clocks .now) (a .last .now) (a .kind) (a .task) (a .on) refl from,
-      ← c .before .mask .ensures,
-      ← c .mask2 .ensures,
+      ← at-mask .mask .ensures,
+      ← c .before .mask2 .ensures,
+      ← c .before .before .lower-half .ensures,
+      ← c .lower-half2 .ensures,
     )
 
 returns-2 : tie.Need-returns-2
@@ -56,4 +59,5 @@ returns-2 c = simp (sym (c .before .is-access .ensures) ∙ c .if1 .left)
 pub clock-masks-spec : {M : Type 1} → statement M
 clock-masks-spec =
     tie.close (tie.spec
-    (λ c κs. search needs) mul-row (λ c κs. search needs) slot-requires mask-requires mask-requires-2 returns returns-2)
+    (λ c κs. search needs) mul-row (λ c κs. search needs) slot-requires mask-requires (λ c κs. search needs) mask-requires-2
+    (λ c κs. search needs) returns returns-2)

@@ -1,5 +1,5 @@
 -- The mask of an access, gathered from the lowest task up.
-use mathlib.Core.Path.{refl, _∙_}
+use mathlib.Core.Path.{refl}
 use Prim.Native.Nat.{_≤_, _+_, _-_}
 use native.Mathlib.Omega.{arith}
 use lib.Dec.{ltb}
@@ -23,10 +23,10 @@ loop-again : tie.Need-loop-again Inv-loop μ-loop
 loop-again c = (search needs, one-weight (omega arith) (c .before .before .before .before .loop .inv .1) (c .weight-of .ensures) refl)
 
 returns : tie.Need-returns Inv-loop μ-loop
-returns c = c .both-halves .ensures ∙ all-weights (c .before .before .loop .inv .1) (omega arith) (omega arith)
+returns c = all-weights (c .before .loop .inv .1) (omega arith) (omega arith)
 
 pub mask-spec : {M : Type 1} → statement M
 mask-spec =
     tie.close (tie.spec
     Inv-loop μ-loop loop-holds (λ c. search needs) (λ c. search needs) (λ c. search needs) (λ c. search needs) (λ c. search needs)
-    (λ c. search needs) (λ c. search needs) (λ c κs. search needs) (λ c. search needs) (λ c. search needs) loop-again (λ c κs. search needs) returns)
+    (λ c. search needs) (λ c. search needs) (λ c κs. search needs) (λ c. search needs) (λ c. search needs) loop-again returns)

@@ -1,6 +1,6 @@
 -- A mark mixes the fullest sets; an act goes to both tables, and an access hears and tells no other row.
 use mathlib.Core.Path.{_≡_, sym, ap, _∙_}
-use mathlib.Core.Bool.{true}
+use mathlib.Core.Bool.{Bool, true, false}
 use mathlib.Core.List.{List}
 use Prim.Native.Nat.{ℕ, _<_}
 use native.Mathlib.Omega.{arith}
@@ -16,14 +16,14 @@ use borrow.Author.Needs.{needs}
 use Rattle.checker.proofs.sets.advance_sets.Statement.{statement}
 use Rattle.checker.proofs.sets.advance_sets.Tie as tie
 
-module _ (k t n : ℕ) (b : List ℕ) {x : List ℕ} (e : x ≡ setOwn k t n b) where
+module _ (asked : Bool) (k t n : ℕ) (b : List ℕ) {x : List ℕ} (e : x ≡ setOwn k t n b) where
   -- after an access its own part is all
-  accessed : accesses k ≡ true → t < tasks → x ≡ setAct k t n b
-  accessed h l = e ∙ access-onward same-or slotWords k t n (setOwn k t n b) h l
+  accessed : accesses k ≡ true → t < tasks → x ≡ setAct asked k t n b
+  accessed h l = e ∙ access-onward same-or slotWords asked k t n (setOwn k t n b) h l
 
   -- after another act its order, too
-  passed : {y : List ℕ} → y ≡ onward bitOr slotWords k t n x → y ≡ setAct k t n b
-  passed q = q ∙ ap (onward bitOr slotWords k t n) e
+  passed : {y : List ℕ} → y ≡ onward bitOr slotWords asked k t n x → y ≡ setAct asked k t n b
+  passed q = q ∙ ap (onward bitOr slotWords asked k t n) e
 
 returns : tie.Need-returns
 returns c =
@@ -46,8 +46,8 @@ returns-2 c =
     let h = sym (c .before .is-access .ensures) ∙ c .if2 .taken in
     let l = b .before .pre .act-fits (b .if1 .left) .task-fits in
     simp (ne-eqb _ _ (b .if1 .left)) (
-      accessed (a .kind) (a .task) (a .on) (a .sets .now) (c .before .before .before .before .own .ensures) h l,
-      accessed (a .kind) (a .task) (a .on) (a .fullsets .now) (c .before .before .own2 .ensures) h l,
+      accessed false (a .kind) (a .task) (a .on) (a .sets .now) (c .before .before .before .before .own .ensures) h l,
+      accessed true (a .kind) (a .task) (a .on) (a .fullsets .now) (c .before .before .own2 .ensures) h l,
     )
 
 pass-on-requires : tie.Need-pass-on-requires
@@ -62,8 +62,8 @@ returns-3 c =
     let b = o .before .before .before .before in
     let a = b .before .args in
     simp (ne-eqb _ _ (b .if1 .left)) (
-      passed (a .kind) (a .task) (a .on) (a .sets .now) (o .before .before .own .ensures) (c .before .before .pass-on .ensures),
-      passed (a .kind) (a .task) (a .on) (a .fullsets .now) (o .own2 .ensures) (c .pass-on2 .ensures),
+      passed false (a .kind) (a .task) (a .on) (a .sets .now) (o .before .before .own .ensures) (c .before .before .pass-on .ensures),
+      passed true (a .kind) (a .task) (a .on) (a .fullsets .now) (o .own2 .ensures) (c .pass-on2 .ensures),
     )
 
 pub advance-sets-spec : {M : Type 1} → statement M

@@ -28,7 +28,7 @@ returns c =
     let at-loop = c .before .before in
     let at-known = at-loop .before in
     let a = at-known .before .before .args in
-    c .both-halves .ensures ∙ all-weights (at-loop .loop .inv .1) (omega arith) (omega arith)
+    c .lower-half .ensures ∙ all-weights (at-loop .loop .inv .1) (omega arith) (omega arith)
     ∙ mask-by (a .cells .now) (a .last .now) (a .kind) (a .task) (a .on) (rw (← at-known .before .ask-at .ensures .0) (at-known .known-slots .ensures))
 
 pub mask-spec : {M : Type 1} → statement M
