@@ -7,12 +7,12 @@ use crate::masks::lower_half;
 use crate::masks::weight_of;
 use crate::refusals::either;
 use crate::rows::HUB;
+use crate::rows::acquired_row;
 use crate::rows::acted_after;
 use crate::rows::has_bit;
-use crate::rows::heard_row;
 use crate::rows::named_row;
-use crate::rows::told_by;
-use crate::rows::told_row;
+use crate::rows::released_by;
+use crate::rows::released_row;
 use theory::Clocks;
 use theory::History;
 use theory::JOIN;
@@ -25,7 +25,7 @@ ghost use Prim.Native.Nat.{_<_, _≤_, _+_, _%_, _^_, max};
 ghost use lib.Dec.{ltb};
 ghost use lib.ListN.{getD};
 ghost use Rattle.theory.specs.history.History.{slots};
-ghost use Rattle.theory.specs.tables.Rows.{joinRow, rowOf, joinWith, heardWith, putRow, flow, joinsActed, onward, gather, spread, noteNamed, mix};
+ghost use Rattle.theory.specs.tables.Rows.{joinRow, rowOf, joinWith, acquiredWith, putRow, flow, joinsActed, onward, gather, spread, noteNamed, mix};
 ghost use Rattle.theory.specs.fillings.Completion.{arrived, full};
 ghost use Rattle.theory.specs.tables.Reckonings.{clockOwn, clocksBy, maskOf, clockMasks};
 ghost use Rattle.theory.specs.order.Limits.{tasks, variables};
@@ -94,28 +94,28 @@ fn put_row(cells: &mut Clocks, to: usize, row: &[u32; 16])
     }
 }
 
-// Order over an act: the task's next act knows what the heard row knows; from a copy that stays in registers it is passed on, to an object
+// Order over an act: the task's next act knows what the acquired row knows; from a copy that stays in registers it is passed on, to an object
 // and to the hub alike.
-fn flow(cells: &mut Clocks, asked: bool, heard: usize, told: usize, task: usize)
-    requires { ⌜ (heard < 82) × (told < 82) × (task < tasks) ⌝ }
-    ensures { λ _. ⌜ now (cells .exit) ≡ flow max tasks asked heard told task (now (cells .entry)) ⌝ }
+fn flow(cells: &mut Clocks, asked: bool, acquired: usize, released: usize, task: usize)
+    requires { ⌜ (acquired < 82) × (released < 82) × (task < tasks) ⌝ }
+    ensures { λ _. ⌜ now (cells .exit) ≡ flow max tasks asked acquired released task (now (cells .entry)) ⌝ }
 {
-    join_row(cells, task, heard);
-    if told == task {
+    join_row(cells, task, acquired);
+    if released == task {
         return;
     }
     let row = row_of(cells, task);
-    join_with(cells, told, &row);
-    if either(told < 16, !asked) {
+    join_with(cells, released, &row);
+    if either(released < 16, !asked) {
         return;
     }
     join_with(cells, HUB, &row);
 }
 
 // A row by itself with what row `from` knows, too.
-fn heard_with(cells: &Clocks, from: usize, row: &[u32; 16]) -> [u32; 16]
+fn acquired_with(cells: &Clocks, from: usize, row: &[u32; 16]) -> [u32; 16]
     requires { ⌜ from < 82 ⌝ }
-    ensures { λ r. ⌜ r ≡ heardWith max tasks from (now (row .entry)) (now (cells .entry)) ⌝ }
+    ensures { λ r. ⌜ r ≡ acquiredWith max tasks from (now (row .entry)) (now (cells .entry)) ⌝ }
 {
     let mut next = [0u32; 16];
     let mut c = 0;
@@ -126,21 +126,21 @@ fn heard_with(cells: &Clocks, from: usize, row: &[u32; 16]) -> [u32; 16]
     next
 }
 
-// What a mark's lost records can hear comes to the hub, by way of a row that stays in registers.
+// What a mark's lost records can acquire comes to the hub, by way of a row that stays in registers.
 fn gather(cells: &mut Clocks, mask: u32)
     ensures { λ _. ⌜ now (cells .exit) ≡ gather max tasks mask (now (cells .entry)) ⌝ }
 {
     let mut known = [0u32; 16];
     let mut t = 0;
     while t < 16 {
-        let next = heard_with(cells, named_row(mask, t), &known);
+        let next = acquired_with(cells, named_row(mask, t), &known);
         known = next;
         t += 1;
     }
     join_with(cells, HUB, &known);
 }
 
-// What the hub knows, all that they can tell knows, from a copy that stays in the processor's registers. Every object is told, so that
+// What the hub knows, all that they can release to knows, from a copy that stays in the processor's registers. Every object is released to, so that
 // nothing is asked of the rows after the tasks'.
 fn spread(cells: &mut Clocks, mask: u32)
     ensures { λ _. ⌜ now (cells .exit) ≡ spread tasks mask (now (cells .entry)) ⌝ }
@@ -148,7 +148,7 @@ fn spread(cells: &mut Clocks, mask: u32)
     let hub = row_of(cells, HUB);
     let mut r = 0;
     while r < 16 {
-        put_row(cells, told_by(mask, r), &hub);
+        put_row(cells, released_by(mask, r), &hub);
         r += 1;
     }
     while r < HUB {
@@ -198,8 +198,8 @@ fn pass_on(cells: &mut Clocks, asked: bool, kind: u8, task: u32, on: u32)
     flow(
         cells,
         asked,
-        heard_row(kind, Task(task), on, joins),
-        told_row(kind, Task(task), on),
+        acquired_row(kind, Task(task), on, joins),
+        released_row(kind, Task(task), on),
         task as usize,
     );
 }
@@ -214,7 +214,7 @@ fn own(cells: &mut Clocks, task: u32, number: u32)
     cells[ACTED + t] = 1;
 }
 
-// Both tables after an accepted record. An access hears and tells no other row.
+// Both tables after an accepted record. An access acquires from and releases to no other row.
 pub(crate) fn advance_clocks(
     clocks: &mut Clocks,
     fullclocks: &mut Clocks,

@@ -12,12 +12,12 @@ use crate::masks::weight_of;
 use crate::refusals::both;
 use crate::refusals::either;
 use crate::rows::HUB;
+use crate::rows::acquired_row;
 use crate::rows::acted_after;
 use crate::rows::has_bit;
-use crate::rows::heard_row;
 use crate::rows::named_row;
-use crate::rows::told_by;
-use crate::rows::told_row;
+use crate::rows::released_by;
+use crate::rows::released_row;
 use theory::ASKERS;
 use theory::History;
 use theory::JOIN;
@@ -114,20 +114,20 @@ fn put_row(cells: &mut Sets, to: usize, row: &[u32; 64])
     }
 }
 
-// Order over an act: the task's next act knows what the heard row knows, and it is passed on, to an object and to the hub alike.
-fn flow(cells: &mut Sets, asked: bool, heard: usize, told: usize, task: usize)
-    requires { ⌜ (heard < 82) × (told < 82) × (task < tasks) ⌝ }
-    ensures { λ _. ⌜ now (cells .exit) ≡ flow bitOr slotWords asked heard told task (now (cells .entry)) ⌝ }
+// Order over an act: the task's next act knows what the acquired row knows, and it is passed on, to an object and to the hub alike.
+fn flow(cells: &mut Sets, asked: bool, acquired: usize, released: usize, task: usize)
+    requires { ⌜ (acquired < 82) × (released < 82) × (task < tasks) ⌝ }
+    ensures { λ _. ⌜ now (cells .exit) ≡ flow bitOr slotWords asked acquired released task (now (cells .entry)) ⌝ }
 {
-    join_row(cells, task, heard);
-    join_row(cells, told, task);
-    if either(told < 16, !asked) {
+    join_row(cells, task, acquired);
+    join_row(cells, released, task);
+    if either(released < 16, !asked) {
         return;
     }
     join_row(cells, HUB, task);
 }
 
-// What a mark's lost records can hear comes to the hub.
+// What a mark's lost records can acquire comes to the hub.
 fn gather(cells: &mut Sets, mask: u32)
     ensures { λ _. ⌜ now (cells .exit) ≡ gather bitOr slotWords mask (now (cells .entry)) ⌝ }
 {
@@ -138,14 +138,14 @@ fn gather(cells: &mut Sets, mask: u32)
     }
 }
 
-// What the hub knows, all that they can tell knows, from one copy.
+// What the hub knows, all that they can release to knows, from one copy.
 fn spread(cells: &mut Sets, mask: u32)
     ensures { λ _. ⌜ now (cells .exit) ≡ spread slotWords mask (now (cells .entry)) ⌝ }
 {
     let hub = row_of(cells, HUB);
     let mut r = 0;
     while r < HUB {
-        put_row(cells, told_by(mask, r), &hub);
+        put_row(cells, released_by(mask, r), &hub);
         r += 1;
     }
 }
@@ -262,13 +262,13 @@ fn pass_on(cells: &mut Sets, asked: bool, kind: u8, task: u32, on: u32)
     flow(
         cells,
         asked,
-        heard_row(kind, Task(task), on, joins),
-        told_row(kind, Task(task), on),
+        acquired_row(kind, Task(task), on, joins),
+        released_row(kind, Task(task), on),
         task as usize,
     );
 }
 
-// Both tables after an accepted record. An access hears and tells no other row.
+// Both tables after an accepted record. An access acquires from and releases to no other row.
 pub(crate) fn advance_sets(sets: &mut Sets, fullsets: &mut Sets, kind: u8, task: u32, on: u32)
     requires { ⌜ Proper kind task on ⌝ }
     ensures { λ _. ⌜ (now (sets .exit) ≡ setsBy arrived kind task on (now (sets .entry)))

@@ -5,7 +5,7 @@ use mathlib.Core.List.{List, [], _∷_, _++_}
 use Prim.Native.Nat.{ℕ, suc, _≤_, _<_, suc-le-suc, zero-le}
 use lib.ListN.{length}
 use Rattle.theory.specs.order.Recording.{Event}
-use Rattle.theory.proofs.order.Carry.{Node, due, acted, Tells}
+use Rattle.theory.proofs.order.Carry.{Node, due, acted, Releases}
 use Rattle.theory.specs.fillings.Completion.{Filling}
 use Rattle.theory.proofs.fillings.Reach.{Flow, Reach, reach-start, reach-next, reach-acted}
 use Rattle.theory.proofs.order.Places.{Occurs, first, next}
@@ -66,11 +66,11 @@ Newly Chosen es x i = (i ≤ length es) × Chosen x []
 -- x leaves what was chosen as it was where `Stays` holds, and no longer chosen where it does not
 module _ {w : Filling} {Chosen : Event → List Event → Type 0} {Stays : Type 0} (es : List Event) (x : Event)
     (keeps : (e : Event) (after : List Event) → Chosen e (after ++ (x ∷ [])) ↔ (Stays × Chosen e after)) where
-  pub came-next : {i : ℕ} {n : Node} → Came w Chosen (es ++ (x ∷ [])) i n ↔ ((Stays × Onward w Chosen es x i n) ⊎ (Newly Chosen es x i × Tells x n))
+  pub came-next : {i : ℕ} {n : Node} → Came w Chosen (es ++ (x ∷ [])) i n ↔ ((Stays × Onward w Chosen es x i n) ⊎ (Newly Chosen es x i × Releases x n))
   came-next {i} {n} = (λ c. to (occurs-snoc es (c .occurs)) (c .recent) (c .chosen) (c .reach), from)
     where
       to : {j : ℕ} {e : Event} {after : List Event} → Snoc es x j e after → i ≤ j → Chosen e after → Reach w e after n →
-          (Stays × Onward w Chosen es x i n) ⊎ (Newly Chosen es x i × Tells x n)
+          (Stays × Onward w Chosen es x i n) ⊎ (Newly Chosen es x i × Releases x n)
       to (old {j = j} {e = e} {after = after} o) h c r = let (s, d) = keeps e after .0 c in inl (s, moved d (reach-next after x .0 r))
         where
           moved : Chosen e after → Reach w e after n ⊎ ((p : Node) × Reach w e after p × Flow w x p n) → Onward w Chosen es x i n
@@ -90,7 +90,7 @@ module _ {w : Filling} {Chosen : Event → List Event → Type 0} {Stays : Type 
             reach = r;
           }
 
-      from : (Stays × Onward w Chosen es x i n) ⊎ (Newly Chosen es x i × Tells x n) → Came w Chosen (es ++ (x ∷ [])) i n
+      from : (Stays × Onward w Chosen es x i n) ⊎ (Newly Chosen es x i × Releases x n) → Came w Chosen (es ++ (x ∷ [])) i n
       from (inl (s, inl c)) = still s c (reach-next (c .after) x .1 (inl (c .reach)))
       from (inl (s, inr (p, c, f))) = still s c (reach-next (c .after) x .1 (inr (p, c .reach, f)))
       from (inr ((h, c), t)) = record { j = length es; e = x; after = []; recent = h; occurs = occurs-new es; chosen = c; reach = reach-start .1 t }

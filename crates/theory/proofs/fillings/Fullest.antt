@@ -1,5 +1,5 @@
 -- The fullest filling has the most paths. What any filling of a mark does to order is `Mix`: whatever reaches a node that a filler
--- hears goes on to every node that a filler tells, and nothing else moves. Two rounds do all of that. Assumes nothing.
+-- acquires goes on to every node that a filler releases to, and nothing else moves. Two rounds do all of that. Assumes nothing.
 use mathlib.Core.Path.{sym, subst}
 use mathlib.Core.Bool.{Bool, true, false}
 use mathlib.Core.List.{List, [], _∷_, _++_}
@@ -10,20 +10,20 @@ use Rattle.theory.specs.order.Recording.{Op, take, give, look, set, Even
 use Rattle.theory.specs.fillings.Completion.{bit, names, Named, Filler, filler, Every, no-more, and-more, done, keep, fill, Completion, inTurn, onEach, part, partIf, round, rounds, fullest, nothing}
 use Rattle.theory.proofs.basics.Reflects.{by-test, both, at-most, passed, is-true}
 use Rattle.theory.proofs.order.Leads.{Leads}
-use Rattle.theory.proofs.order.Carry.{Node, due, semaphore, Hears, own, by-take, by-look, by-join, Tells, own-next, own-acted, by-give, by-set, by-start, Carry, stay, pass, move, carry-skip, carry-append, carry-split, carry-one, carry-in-turn, leads-carried, carried-leads}
+use Rattle.theory.proofs.order.Carry.{Node, due, semaphore, Acquires, own, by-take, by-look, by-join, Releases, own-next, own-acted, by-give, by-set, by-start, Carry, stay, pass, move, carry-skip, carry-append, carry-split, carry-one, carry-in-turn, leads-carried, carried-leads}
 
 -- Definition
 
--- some filler of the mark hears the node, or tells it
-abbrev pub Heard : ℕ → Node → Type 0
-Heard mask n = (g : Event) × Filler mask g × Hears n g
+-- some filler of the mark acquires the node, or releases to it
+abbrev pub Acquired : ℕ → Node → Type 0
+Acquired mask n = (g : Event) × Filler mask g × Acquires n g
 
-abbrev pub Told : ℕ → Node → Type 0
-Told mask n = (g : Event) × Filler mask g × Tells g n
+abbrev pub Released : ℕ → Node → Type 0
+Released mask n = (g : Event) × Filler mask g × Releases g n
 
 pub data Mix (mask : ℕ) : Node → Node → Type 0 where
   same : {n : Node} → Mix mask n n
-  mixed : {n m : Node} → Heard mask n → Told mask m → Mix mask n m
+  mixed : {n m : Node} → Acquired mask n → Released mask m → Mix mask n m
 
 -- Any filling stays inside `Mix`
 
@@ -32,31 +32,31 @@ carry-mix no-more stay = same
 carry-mix (and-more g gs) (pass c) = carry-mix gs c
 carry-mix (and-more g gs) (move h t c) = onward g h t (carry-mix gs c)
   where
-    onward : {mask : ℕ} {x : Event} {n p m : Node} → Filler mask x → Hears n x → Tells x p → Mix mask p m → Mix mask n m
+    onward : {mask : ℕ} {x : Event} {n p m : Node} → Filler mask x → Acquires n x → Releases x p → Mix mask p m → Mix mask n m
     onward g h t same = mixed (_, g, h) (_, g, t)
-    onward g h t (mixed _ told) = mixed (_, g, h) told
+    onward g h t (mixed _ released) = mixed (_, g, h) released
 
 -- Two rounds do all of `Mix`
 
 -- an act on one number of the series is among the acts on each
-carry-each : {a b : Node} (o : Op) (t n : ℕ) → n < series o → Hears a (act o t n) → Tells (act o t n) b → Carry a (onEach o t) b
+carry-each : {a b : Node} (o : Op) (t n : ℕ) → n < series o → Acquires a (act o t n) → Releases (act o t n) b → Carry a (onEach o t) b
 unfolding onEach
-carry-each o t n h hears tells = carry-in-turn (series o) (λ k. act o t k ∷ []) n h (carry-one hears tells)
+carry-each o t n h acquires releases = carry-in-turn (series o) (λ k. act o t k ∷ []) n h (carry-one acquires releases)
 
--- the first half of a task's part brings to its next act what any filler of that task hears
-hears-part : {t n : ℕ} {o : Op} {m : Node} → T (losable o) → n < series o → Hears m (act o t n) → Carry m (onEach take t ++ onEach look t) (due t)
-hears-part {t} l h own = carry-skip (onEach take t ++ onEach look t)
-hears-part {t} {n} l h by-take = carry-append (carry-each take t n h by-take own-next) (carry-skip (onEach look t))
-hears-part {t} {n} l h by-look = carry-append (carry-skip (onEach take t)) (carry-each look t n h by-look own-next)
-hears-part l h by-join = absurd l
+-- the first half of a task's part brings to its next act what any filler of that task acquires
+acquires-part : {t n : ℕ} {o : Op} {m : Node} → T (losable o) → n < series o → Acquires m (act o t n) → Carry m (onEach take t ++ onEach look t) (due t)
+acquires-part {t} l h own = carry-skip (onEach take t ++ onEach look t)
+acquires-part {t} {n} l h by-take = carry-append (carry-each take t n h by-take own-next) (carry-skip (onEach look t))
+acquires-part {t} {n} l h by-look = carry-append (carry-skip (onEach take t)) (carry-each look t n h by-look own-next)
+acquires-part l h by-join = absurd l
 
--- the second half brings to whatever any filler of that task tells what its next act hears
-tells-part : {t n : ℕ} {o : Op} {m : Node} → T (losable o) → n < series o → Tells (act o t n) m → Carry (due t) (onEach give t ++ onEach set t) m
-tells-part {t} l h own-next = carry-skip (onEach give t ++ onEach set t)
-tells-part {t} l h own-acted = carry-append (carry-each give t 0 (lit< tt) own own-acted) (carry-skip (onEach set t))
-tells-part {t} {n} l h by-give = carry-append (carry-each give t n h own by-give) (carry-skip (onEach set t))
-tells-part {t} {n} l h by-set = carry-append (carry-skip (onEach give t)) (carry-each set t n h own by-set)
-tells-part l h by-start = absurd l
+-- the second half brings to whatever any filler of that task releases to what its next act acquires
+releases-part : {t n : ℕ} {o : Op} {m : Node} → T (losable o) → n < series o → Releases (act o t n) m → Carry (due t) (onEach give t ++ onEach set t) m
+releases-part {t} l h own-next = carry-skip (onEach give t ++ onEach set t)
+releases-part {t} l h own-acted = carry-append (carry-each give t 0 (lit< tt) own own-acted) (carry-skip (onEach set t))
+releases-part {t} {n} l h by-give = carry-append (carry-each give t n h own by-give) (carry-skip (onEach set t))
+releases-part {t} {n} l h by-set = carry-append (carry-skip (onEach give t)) (carry-each set t n h own by-set)
+releases-part l h by-start = absurd l
 
 -- semaphore 0 is where the first round leaves order for the second
 hub : Node
@@ -72,20 +72,20 @@ carry-round {mask} {t} {n} {m} named c =
     carry-in-turn tasks (λ u. partIf (names mask u) u) t (named-task named)
     (subst (λ (b : Bool). Carry n (partIf b t) m) (sym (is-true (by-test (names mask t)) (named .named))) c)
 
-heard-round : {mask : ℕ} {n : Node} → Heard mask n → Carry n (round mask) hub
+acquired-round : {mask : ℕ} {n : Node} → Acquired mask n → Carry n (round mask) hub
 unfolding hub part
-heard-round (_, filler l named h, hears) =
-    carry-round named (carry-append (hears-part l h hears) (tells-part {o = give} tt (lit< tt) by-give))
+acquired-round (_, filler l named h, acquires) =
+    carry-round named (carry-append (acquires-part l h acquires) (releases-part {o = give} tt (lit< tt) by-give))
 
-told-round : {mask : ℕ} {n : Node} → Told mask n → Carry hub (round mask) n
+released-round : {mask : ℕ} {n : Node} → Released mask n → Carry hub (round mask) n
 unfolding hub part
-told-round (_, filler l named h, tells) =
-    carry-round named (carry-append (hears-part {o = take} tt (lit< tt) by-take) (tells-part l h tells))
+released-round (_, filler l named h, releases) =
+    carry-round named (carry-append (acquires-part {o = take} tt (lit< tt) by-take) (releases-part l h releases))
 
 pub mix-rounds : {mask : ℕ} {n m : Node} → Mix mask n m → Carry n (rounds mask) m
 unfolding rounds
 mix-rounds {mask} same = carry-skip (rounds mask)
-mix-rounds (mixed heard told) = carry-append (heard-round heard) (told-round told)
+mix-rounds (mixed acquired released) = carry-append (acquired-round acquired) (released-round released)
 
 -- The fullest has every path of every completion
 

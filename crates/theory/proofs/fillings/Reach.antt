@@ -14,20 +14,20 @@ use Rattle.theory.specs.fillings.Completion.{bit, names, Named, filler, 
 use Rattle.theory.proofs.basics.Reflects.{by-test, both, at-most, passed}
 use Rattle.theory.proofs.acceptance.Rows.{none-below}
 use Rattle.theory.proofs.order.Leads.{Leads}
-use Rattle.theory.proofs.order.Carry.{Node, due, acted, semaphore, flag, Hears, own, by-take, by-look, by-join, Tells, own-next, own-acted, by-give, by-set, by-start, Carry, stay, pass, move, carry-skip, carry-append, carry-split, acted-next, carry-acted, leads-carried, carried-leads}
-use Rattle.theory.proofs.fillings.Fullest.{Heard, Told, Mix, same, mixed, carry-mix, mix-rounds, filler-rounds}
+use Rattle.theory.proofs.order.Carry.{Node, due, acted, semaphore, flag, Acquires, own, by-take, by-look, by-join, Releases, own-next, own-acted, by-give, by-set, by-start, Carry, stay, pass, move, carry-skip, carry-append, carry-split, acted-next, carry-acted, leads-carried, carried-leads}
+use Rattle.theory.proofs.fillings.Fullest.{Acquired, Released, Mix, same, mixed, carry-mix, mix-rounds, filler-rounds}
 
 -- Definition
 
 -- order goes over one event from the one node to the other
 abbrev pub Flow : Filling → Event → Node → Node → Type 0
-Flow w (act o t n) p m = Hears p (act o t n) × Tells (act o t n) m
-Flow w (lost mask) p m = Heard (w mask) p × Told (w mask) m
+Flow w (act o t n) p m = Acquires p (act o t n) × Releases (act o t n) m
+Flow w (lost mask) p m = Acquired (w mask) p × Released (w mask) m
 
 -- order from e has come to node m after the events
 pub record Reach (w : Filling) (e : Event) (xs : List Event) (m : Node) : Type 0 where
   pub n : Node
-  pub told : Tells e n
+  pub released : Releases e n
   pub carried : Carry n (fillWith (filling w) xs) m
 
 -- Along a list
@@ -41,14 +41,14 @@ fill-append g (lost mask ∷ xs) ys = ap (λ (l : List Event). g mask ++ l) (fil
 carry-flow : (w : Filling) (x : Event) {p m : Node} → Carry p (fillWith (filling w) (x ∷ [])) m → (p ≡ m) ⊎ Flow w x p m
 carry-flow w (act o t n) c = of-act c
   where
-    of-act : {x : Event} {p m : Node} → Carry p (x ∷ []) m → (p ≡ m) ⊎ (Hears p x × Tells x m)
+    of-act : {x : Event} {p m : Node} → Carry p (x ∷ []) m → (p ≡ m) ⊎ (Acquires p x × Releases x m)
     of-act (pass stay) = inl refl
     of-act (move h t stay) = inr (h, t)
 carry-flow w (lost mask) c =
     let (q, inside, rest) = carry-split (rounds (w mask)) c in
     of-mark (carry-mix (filler-rounds (w mask)) inside) rest
   where
-    of-mark : {p q m : Node} → Mix (w mask) p q → Carry q [] m → (p ≡ m) ⊎ (Heard (w mask) p × Told (w mask) m)
+    of-mark : {p q m : Node} → Mix (w mask) p q → Carry q [] m → (p ≡ m) ⊎ (Acquired (w mask) p × Released (w mask) m)
     of-mark same stay = inl refl
     of-mark (mixed h t) stay = inr (h, t)
 
@@ -59,10 +59,10 @@ flow-carry w (lost mask) {p} (inl e) = subst (Carry p (rounds (w mask) ++ [])) e
 flow-carry w (lost mask) (inr (h, t)) = carry-append (mix-rounds (mixed h t)) stay
 
 module _ {w : Filling} {e : Event} where
-  pub reach-start : {m : Node} → Reach w e [] m ↔ Tells e m
-  reach-start {m} = (λ r. at-start (r .told) (r .carried), λ t. record { n = m; told = t; carried = stay })
+  pub reach-start : {m : Node} → Reach w e [] m ↔ Releases e m
+  reach-start {m} = (λ r. at-start (r .released) (r .carried), λ t. record { n = m; released = t; carried = stay })
     where
-      at-start : {n : Node} → Tells e n → Carry n [] m → Tells e m
+      at-start : {n : Node} → Releases e n → Carry n [] m → Releases e m
       at-start t stay = t
 
   -- one more act or mark
@@ -75,14 +75,14 @@ module _ {w : Filling} {e : Event} where
           onward p c (carry-flow w x d)
         where
           onward : (p : Node) → Carry (r .n) (fillWith (filling w) xs) p → (p ≡ m) ⊎ Flow w x p m → Reach w e xs m ⊎ ((q : Node) × Reach w e xs q × Flow w x q m)
-          onward p c (inl q) = inl (record { n = r .n; told = r .told; carried = subst (Carry (r .n) (fillWith (filling w) xs)) q c })
-          onward p c (inr f) = inr (p, record { n = r .n; told = r .told; carried = c }, f)
+          onward p c (inl q) = inl (record { n = r .n; released = r .released; carried = subst (Carry (r .n) (fillWith (filling w) xs)) q c })
+          onward p c (inr f) = inr (p, record { n = r .n; released = r .released; carried = c }, f)
 
       step : {p : Node} → Reach w e xs p → (p ≡ m) ⊎ Flow w x p m → Reach w e (xs ++ (x ∷ [])) m
       step r f =
           record {
             n = r .n;
-            told = r .told;
+            released = r .released;
             carried = subst (λ (l : List Event). Carry (r .n) l m) (sym (fill-append (filling w) xs (x ∷ []))) (carry-append (r .carried) (flow-carry w x f));
           }
 
@@ -95,18 +95,18 @@ module _ {w : Filling} {e : Event} where
   reach-acted {t} {xs} r = cases (carry-acted (r .carried))
     where
       cases : (r .n ≡ acted t) ⊎ Carry (r .n) (fillWith (filling w) xs) (due t) → Reach w e xs (due t)
-      cases (inl q) = record { n = due t; told = acted-next (subst (Tells e) q (r .told)); carried = carry-skip _ }
-      cases (inr c) = record { n = r .n; told = r .told; carried = c }
+      cases (inl q) = record { n = due t; released = acted-next (subst (Releases e) q (r .released)); carried = carry-skip _ }
+      cases (inr c) = record { n = r .n; released = r .released; carried = c }
 
-  -- a path is a node that order has come to and that the later event hears
-  pub leads-reach : {f : Event} {xs : List Event} → Leads e (fillWith (filling w) xs) f ↔ ((m : Node) × Reach w e xs m × Hears m f)
-  leads-reach = (λ l. let (n, m, t, c, h) = leads-carried l in (m, record { n = n; told = t; carried = c }, h), λ r. carried-leads (r .1 .told) (r .1 .carried) (r .2))
+  -- a path is a node that order has come to and that the later event acquires
+  pub leads-reach : {f : Event} {xs : List Event} → Leads e (fillWith (filling w) xs) f ↔ ((m : Node) × Reach w e xs m × Acquires m f)
+  leads-reach = (λ l. let (n, m, t, c, h) = leads-carried l in (m, record { n = n; released = t; carried = c }, h), λ r. carried-leads (r .1 .released) (r .1 .carried) (r .2))
 
--- What a mark hears and tells, by its mask
+-- What a mark acquires and releases to, by its mask
 
--- who hears or tells anything is named
-pub heard-some : {mask : ℕ} {n : Node} → Heard mask n → (t : ℕ) × Named mask t
-heard-some (_, filler l d h, _) = (_, d)
+-- who acquires or releases to anything is named
+pub acquired-some : {mask : ℕ} {n : Node} → Acquired mask n → (t : ℕ) × Named mask t
+acquired-some (_, filler l d h, _) = (_, d)
 
 -- the mask 0 names nobody: tried out
 zero-tried : anyBelow tasks (bit 0) ≡ false
@@ -127,50 +127,50 @@ pub arrived-nothing : filling arrived ≡ nothing
 arrived-nothing = λ i mask. arrived-none i
 
 -- the next act of each named task
-pub heard-due : {mask t : ℕ} → Heard mask (due t) ↔ Named mask t
-heard-due = (to, λ d. (act take _ 0, filler tt d (lit< tt), own))
+pub acquired-due : {mask t : ℕ} → Acquired mask (due t) ↔ Named mask t
+acquired-due = (to, λ d. (act take _ 0, filler tt d (lit< tt), own))
   where
-    to : {mask t : ℕ} → Heard mask (due t) → Named mask t
+    to : {mask t : ℕ} → Acquired mask (due t) → Named mask t
     to (_, filler l d h, own) = d
 
 -- no join
-pub heard-acted : {mask t : ℕ} → ¬ Heard mask (acted t)
-heard-acted (_, filler l d h, by-join) = absurd l
+pub acquired-acted : {mask t : ℕ} → ¬ Acquired mask (acted t)
+acquired-acted (_, filler l d h, by-join) = absurd l
 
 -- each object, if a task is named
-pub heard-semaphore : {mask s : ℕ} → Heard mask (semaphore s) ↔ ((s < semaphores) × ((t : ℕ) × Named mask t))
-heard-semaphore = (to, λ x. (act take _ _, filler tt (x .1 .1) (x .0), by-take))
+pub acquired-semaphore : {mask s : ℕ} → Acquired mask (semaphore s) ↔ ((s < semaphores) × ((t : ℕ) × Named mask t))
+acquired-semaphore = (to, λ x. (act take _ _, filler tt (x .1 .1) (x .0), by-take))
   where
-    to : {mask s : ℕ} → Heard mask (semaphore s) → (s < semaphores) × ((t : ℕ) × Named mask t)
+    to : {mask s : ℕ} → Acquired mask (semaphore s) → (s < semaphores) × ((t : ℕ) × Named mask t)
     to (_, filler l d h, by-take) = (h, (_, d))
 
-pub heard-flag : {mask f : ℕ} → Heard mask (flag f) ↔ ((f < flags) × ((t : ℕ) × Named mask t))
-heard-flag = (to, λ x. (act look _ _, filler tt (x .1 .1) (x .0), by-look))
+pub acquired-flag : {mask f : ℕ} → Acquired mask (flag f) ↔ ((f < flags) × ((t : ℕ) × Named mask t))
+acquired-flag = (to, λ x. (act look _ _, filler tt (x .1 .1) (x .0), by-look))
   where
-    to : {mask f : ℕ} → Heard mask (flag f) → (f < flags) × ((t : ℕ) × Named mask t)
+    to : {mask f : ℕ} → Acquired mask (flag f) → (f < flags) × ((t : ℕ) × Named mask t)
     to (_, filler l d h, by-look) = (h, (_, d))
 
-pub told-due : {mask t : ℕ} → Told mask (due t) ↔ Named mask t
-told-due = (to, λ d. (act take _ 0, filler tt d (lit< tt), own-next))
+pub released-due : {mask t : ℕ} → Released mask (due t) ↔ Named mask t
+released-due = (to, λ d. (act take _ 0, filler tt d (lit< tt), own-next))
   where
-    to : {mask t : ℕ} → Told mask (due t) → Named mask t
+    to : {mask t : ℕ} → Released mask (due t) → Named mask t
     to (_, filler l d h, own-next) = d
     to (_, filler l d h, by-start) = absurd l
 
-pub told-acted : {mask t : ℕ} → Told mask (acted t) ↔ Named mask t
-told-acted = (to, λ d. (act take _ 0, filler tt d (lit< tt), own-acted))
+pub released-acted : {mask t : ℕ} → Released mask (acted t) ↔ Named mask t
+released-acted = (to, λ d. (act take _ 0, filler tt d (lit< tt), own-acted))
   where
-    to : {mask t : ℕ} → Told mask (acted t) → Named mask t
+    to : {mask t : ℕ} → Released mask (acted t) → Named mask t
     to (_, filler l d h, own-acted) = d
 
-pub told-semaphore : {mask s : ℕ} → Told mask (semaphore s) ↔ ((s < semaphores) × ((t : ℕ) × Named mask t))
-told-semaphore = (to, λ x. (act give _ _, filler tt (x .1 .1) (x .0), by-give))
+pub released-semaphore : {mask s : ℕ} → Released mask (semaphore s) ↔ ((s < semaphores) × ((t : ℕ) × Named mask t))
+released-semaphore = (to, λ x. (act give _ _, filler tt (x .1 .1) (x .0), by-give))
   where
-    to : {mask s : ℕ} → Told mask (semaphore s) → (s < semaphores) × ((t : ℕ) × Named mask t)
+    to : {mask s : ℕ} → Released mask (semaphore s) → (s < semaphores) × ((t : ℕ) × Named mask t)
     to (_, filler l d h, by-give) = (h, (_, d))
 
-pub told-flag : {mask f : ℕ} → Told mask (flag f) ↔ ((f < flags) × ((t : ℕ) × Named mask t))
-told-flag = (to, λ x. (act set _ _, filler tt (x .1 .1) (x .0), by-set))
+pub released-flag : {mask f : ℕ} → Released mask (flag f) ↔ ((f < flags) × ((t : ℕ) × Named mask t))
+released-flag = (to, λ x. (act set _ _, filler tt (x .1 .1) (x .0), by-set))
   where
-    to : {mask f : ℕ} → Told mask (flag f) → (f < flags) × ((t : ℕ) × Named mask t)
+    to : {mask f : ℕ} → Released mask (flag f) → (f < flags) × ((t : ℕ) × Named mask t)
     to (_, filler l d h, by-set) = (h, (_, d))

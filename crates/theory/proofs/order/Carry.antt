@@ -1,5 +1,5 @@
--- What carries order onward after an event: nodes. An event hears some nodes and tells some, and a step is a node that one event
--- tells and the other hears. So order goes along a list from node to node, and each new op is one more row of `Hears` or `Tells`.
+-- What carries order onward after an event: nodes. An event acquires some nodes and releases to some, and a step is a node that one event
+-- releases to and the other acquires. So order goes along a list from node to node, and each new op is one more row of `Acquires` or `Releases`.
 -- Assumes nothing.
 use mathlib.Core.Path.{_≡_, refl, subst}
 use mathlib.Core.Logic.{_⊎_, inl, inr, ⊎-elim}
@@ -13,44 +13,44 @@ use Rattle.theory.proofs.order.Leads.{Leads, last, over, via}
 
 -- Definition
 
--- `due t` is task t's next act; `acted t` is that task t has acted, which is what a join of t hears
+-- `due t` is task t's next act; `acted t` is that task t has acted, which is what a join of t acquires
 pub data Node : Type 0 where
   due acted semaphore flag : ℕ → Node
 
-pub data Hears : Node → Event → Type 0 where
-  own : {o : Op} {t n : ℕ} → Hears (due t) (act o t n)
-  by-take : {t s : ℕ} → Hears (semaphore s) (act take t s)
-  by-look : {t f : ℕ} → Hears (flag f) (act look t f)
-  by-join : {t u : ℕ} → Hears (acted u) (act join t u)
+pub data Acquires : Node → Event → Type 0 where
+  own : {o : Op} {t n : ℕ} → Acquires (due t) (act o t n)
+  by-take : {t s : ℕ} → Acquires (semaphore s) (act take t s)
+  by-look : {t f : ℕ} → Acquires (flag f) (act look t f)
+  by-join : {t u : ℕ} → Acquires (acted u) (act join t u)
 
-pub data Tells : Event → Node → Type 0 where
-  own-next : {o : Op} {t n : ℕ} → Tells (act o t n) (due t)
-  own-acted : {o : Op} {t n : ℕ} → Tells (act o t n) (acted t)
-  by-give : {t s : ℕ} → Tells (act give t s) (semaphore s)
-  by-set : {t f : ℕ} → Tells (act set t f) (flag f)
-  by-start : {t u : ℕ} → Tells (act start t u) (due u)
+pub data Releases : Event → Node → Type 0 where
+  own-next : {o : Op} {t n : ℕ} → Releases (act o t n) (due t)
+  own-acted : {o : Op} {t n : ℕ} → Releases (act o t n) (acted t)
+  by-give : {t s : ℕ} → Releases (act give t s) (semaphore s)
+  by-set : {t f : ℕ} → Releases (act set t f) (flag f)
+  by-start : {t u : ℕ} → Releases (act start t u) (due u)
 
 -- order that has come to node n goes along the list to node m
 pub data Carry : Node → List Event → Node → Type 0 where
   stay : {n : Node} → Carry n [] n
   pass : {n m : Node} {x : Event} {xs : List Event} → Carry n xs m → Carry n (x ∷ xs) m
-  move : {n p m : Node} {x : Event} {xs : List Event} → Hears n x → Tells x p → Carry p xs m → Carry n (x ∷ xs) m
+  move : {n p m : Node} {x : Event} {xs : List Event} → Acquires n x → Releases x p → Carry p xs m → Carry n (x ∷ xs) m
 
 -- Steps by nodes
 
-pub step-told : {e f : Event} → Step e f → (n : Node) × Tells e n × Hears n f
-step-told same-task = (due _, own-next, own)
-step-told gives-takes = (semaphore _, by-give, by-take)
-step-told sets-looks = (flag _, by-set, by-look)
-step-told starts = (due _, by-start, own)
-step-told joins = (acted _, own-acted, by-join)
+pub step-released : {e f : Event} → Step e f → (n : Node) × Releases e n × Acquires n f
+step-released same-task = (due _, own-next, own)
+step-released gives-takes = (semaphore _, by-give, by-take)
+step-released sets-looks = (flag _, by-set, by-look)
+step-released starts = (due _, by-start, own)
+step-released joins = (acted _, own-acted, by-join)
 
-pub step-heard : {e f : Event} {n : Node} → Tells e n → Hears n f → Step e f
-step-heard own-next own = same-task
-step-heard own-acted by-join = joins
-step-heard by-give by-take = gives-takes
-step-heard by-set by-look = sets-looks
-step-heard by-start own = starts
+pub step-acquired : {e f : Event} {n : Node} → Releases e n → Acquires n f → Step e f
+step-acquired own-next own = same-task
+step-acquired own-acted by-join = joins
+step-acquired by-give by-take = gives-takes
+step-acquired by-set by-look = sets-looks
+step-acquired by-start own = starts
 
 -- Carrying along a list
 
@@ -69,17 +69,17 @@ carry-split (x ∷ xs) (pass d) = let (p, c, r) = carry-split xs d in (p, pass c
 carry-split (x ∷ xs) (move h t d) = let (p, c, r) = carry-split xs d in (p, move h t c, r)
 
 -- what tells that a task has acted tells its next act
-pub acted-next : {x : Event} {t : ℕ} → Tells x (acted t) → Tells x (due t)
+pub acted-next : {x : Event} {t : ℕ} → Releases x (acted t) → Releases x (due t)
 acted-next own-acted = own-next
 
 -- so order that comes to the one along a list comes to the other
 pub carry-acted : {n : Node} {t : ℕ} {xs : List Event} → Carry n xs (acted t) → (n ≡ acted t) ⊎ Carry n xs (due t)
 carry-acted stay = inl refl
 carry-acted (pass c) = ⊎-elim inl (λ d. inr (pass d)) (carry-acted c)
-carry-acted {t = t} (move {p = p} {x = x} {xs = xs} h y c) = inr (⊎-elim (λ e. move h (acted-next (subst (Tells x) e y)) (carry-skip xs)) (λ d. move h y d) (carry-acted c))
+carry-acted {t = t} (move {p = p} {x = x} {xs = xs} h y c) = inr (⊎-elim (λ e. move h (acted-next (subst (Releases x) e y)) (carry-skip xs)) (λ d. move h y d) (carry-acted c))
 
--- one event that hears n and tells m carries the one to the other
-pub carry-one : {n m : Node} {x : Event} → Hears n x → Tells x m → Carry n (x ∷ []) m
+-- one event that acquires n and releases to m carries the one to the other
+pub carry-one : {n m : Node} {x : Event} → Acquires n x → Releases x m → Carry n (x ∷ []) m
 carry-one h t = move h t stay
 
 -- in a list of lists by number, any one of them is enough: for tasks, semaphores and flags alike
@@ -90,15 +90,15 @@ carry-in-turn (suc n) f (suc k) h c = carry-append (carry-skip (f zero)) (carry-
 
 -- Paths by nodes
 
-pub leads-carried : {e f : Event} {mid : List Event} → Leads e mid f → (n : Node) × (m : Node) × Tells e n × Carry n mid m × Hears m f
-leads-carried (last s) = let (n, t, h) = step-told s in (n, n, t, stay, h)
+pub leads-carried : {e f : Event} {mid : List Event} → Leads e mid f → (n : Node) × (m : Node) × Releases e n × Carry n mid m × Acquires m f
+leads-carried (last s) = let (n, t, h) = step-released s in (n, n, t, stay, h)
 leads-carried (over p) = let (n, m, t, c, h) = leads-carried p in (n, m, t, pass c, h)
 leads-carried (via s p) =
-    let (n, t, h) = step-told s in
+    let (n, t, h) = step-released s in
     let (n′, m, t′, c, h′) = leads-carried p in
     (n, m, t, move h t′ c, h′)
 
-pub carried-leads : {e f : Event} {mid : List Event} {n m : Node} → Tells e n → Carry n mid m → Hears m f → Leads e mid f
-carried-leads t stay h = last (step-heard t h)
+pub carried-leads : {e f : Event} {mid : List Event} {n m : Node} → Releases e n → Carry n mid m → Acquires m f → Leads e mid f
+carried-leads t stay h = last (step-acquired t h)
 carried-leads t (pass c) h = over (carried-leads t c h)
-carried-leads t (move h′ t′ c) h = via (step-heard t h′) (carried-leads t′ c h)
+carried-leads t (move h′ t′ c) h = via (step-acquired t h′) (carried-leads t′ c h)

@@ -11,7 +11,7 @@ use lib.Dec.{ltb, eqb}
 use lib.ListN.{set}
 use Rattle.theory.specs.tables.Turns.{turns}
 use Rattle.theory.specs.fillings.Completion.{bit}
-use Rattle.theory.specs.tables.Rows.{cell, joinRow, alsoTold, flow, noteActed}
+use Rattle.theory.specs.tables.Rows.{cell, joinRow, alsoReleased, flow, noteActed}
 use Rattle.theory.specs.tables.Reckonings.{clockOwn, hasSlot, withBit, withoutBit, clearSlot, addSlot}
 use Rattle.theory.proofs.basics.Reflects.{Reflects, right, wrong, equal}
 use Rattle.theory.proofs.tables.Rows.{Sized, Same, Joins, Knows, sized-set, sized-turns, sized-join, cell-set-same, cell-set-other, join-self, join-cell-other, join-knows}
@@ -19,41 +19,41 @@ use Rattle.theory.proofs.tables.Words.{with-bit, without-bit}
 
 -- Rows
 
-also-below : (asked : Bool) (told task : ℕ) → task < 16 → alsoTold asked told task < 82
-also-below asked told task h = of (ltb told 16 || not asked)
+also-below : (asked : Bool) (released task : ℕ) → task < 16 → alsoReleased asked released task < 82
+also-below asked released task h = of (ltb released 16 || not asked)
   where
     of : (p : Bool) → cond p task 80 < 82
     of true = omega arith
     of false = omega arith
 
-pub sized-flow : {w : ℕ} {b : List ℕ} → Sized w b → (j : ℕ → ℕ → ℕ) (asked : Bool) (heard told task : ℕ) → Sized w (flow j w asked heard told task b)
+pub sized-flow : {w : ℕ} {b : List ℕ} → Sized w b → (j : ℕ → ℕ → ℕ) (asked : Bool) (acquired released task : ℕ) → Sized w (flow j w asked acquired released task b)
 unfolding flow
-sized-flow s j asked heard told task = sized-join (sized-join (sized-join s j _ _) j _ _) j _ _
+sized-flow s j asked acquired released task = sized-join (sized-join (sized-join s j _ _) j _ _) j _ _
 
--- order over an act: its task's next act and the rows that it tells know what the next act or the heard row knew, and all rows what they knew
-pub flow-knows : {j : ℕ → ℕ → ℕ} {P : ℕ → Type 0} → Joins j P → (asked : Bool) {w : ℕ} {b : List ℕ} {heard told task r c : ℕ} → Sized w b → told < 82 → task < 16 → c < w →
-    Knows P w (flow j w asked heard told task b) r c
-    ↔ (Knows P w b r c ⊎ (((r ≡ task) ⊎ ((r ≡ told) ⊎ (r ≡ alsoTold asked told task))) × (Knows P w b task c ⊎ Knows P w b heard c)))
+-- order over an act: its task's next act and the rows that it releases to know what the next act or the acquired row knew, and all rows what they knew
+pub flow-knows : {j : ℕ → ℕ → ℕ} {P : ℕ → Type 0} → Joins j P → (asked : Bool) {w : ℕ} {b : List ℕ} {acquired released task r c : ℕ} → Sized w b → released < 82 → task < 16 → c < w →
+    Knows P w (flow j w asked acquired released task b) r c
+    ↔ (Knows P w b r c ⊎ (((r ≡ task) ⊎ ((r ≡ released) ⊎ (r ≡ alsoReleased asked released task))) × (Knows P w b task c ⊎ Knows P w b acquired c)))
 unfolding flow
-flow-knows {j} {P} joins asked {w} {b} {heard} {told} {task} {r} {c} s k l n = (to, from)
+flow-knows {j} {P} joins asked {w} {b} {acquired} {released} {task} {r} {c} s k l n = (to, from)
   where
     first : List ℕ
-    first = joinRow j w task heard b
+    first = joinRow j w task acquired b
 
     second : List ℕ
-    second = joinRow j w told task first
+    second = joinRow j w released task first
 
-    on-first : (q : ℕ) → Knows P w first q c ↔ (Knows P w b q c ⊎ ((q ≡ task) × Knows P w b heard c))
+    on-first : (q : ℕ) → Knows P w first q c ↔ (Knows P w b q c ⊎ ((q ≡ task) × Knows P w b acquired c))
     on-first q = join-knows joins s (omega arith) n
 
-    on-second : (q : ℕ) → Knows P w second q c ↔ (Knows P w first q c ⊎ ((q ≡ told) × Knows P w first task c))
+    on-second : (q : ℕ) → Knows P w second q c ↔ (Knows P w first q c ⊎ ((q ≡ released) × Knows P w first task c))
     on-second q = join-knows joins (sized-join s j _ _) k n
 
-    on-third : Knows P w (joinRow j w (alsoTold asked told task) task second) r c ↔ (Knows P w second r c ⊎ ((r ≡ alsoTold asked told task) × Knows P w second task c))
-    on-third = join-knows joins (sized-join (sized-join s j _ _) j _ _) (also-below asked told task l) n
+    on-third : Knows P w (joinRow j w (alsoReleased asked released task) task second) r c ↔ (Knows P w second r c ⊎ ((r ≡ alsoReleased asked released task) × Knows P w second task c))
+    on-third = join-knows joins (sized-join (sized-join s j _ _) j _ _) (also-below asked released task l) n
 
     -- what the next act knows from the first join on
-    known : Knows P w first task c ↔ (Knows P w b task c ⊎ Knows P w b heard c)
+    known : Knows P w first task c ↔ (Knows P w b task c ⊎ Knows P w b acquired c)
     known = (
       λ a. ⊎-elim inl (λ x. inr (x .1)) (on-first task .0 a),
       λ a. on-first task .1 (⊎-elim inl (λ x. inr (refl, x)) a),
@@ -62,33 +62,33 @@ flow-knows {j} {P} joins asked {w} {b} {heard} {told} {task} {r} {c} s k l n = (
     still : Knows P w second task c → Knows P w first task c
     still a = ⊎-elim (λ x. x) (λ x. x .1) (on-second task .0 a)
 
-    to : Knows P w (joinRow j w (alsoTold asked told task) task second) r c →
-        Knows P w b r c ⊎ (((r ≡ task) ⊎ ((r ≡ told) ⊎ (r ≡ alsoTold asked told task))) × (Knows P w b task c ⊎ Knows P w b heard c))
+    to : Knows P w (joinRow j w (alsoReleased asked released task) task second) r c →
+        Knows P w b r c ⊎ (((r ≡ task) ⊎ ((r ≡ released) ⊎ (r ≡ alsoReleased asked released task))) × (Knows P w b task c ⊎ Knows P w b acquired c))
     to a = ⊎-elim before (λ x. inr (inr (inr (x .0)), known .0 (still (x .1)))) (on-third .0 a)
       where
-        before : Knows P w second r c → Knows P w b r c ⊎ (((r ≡ task) ⊎ ((r ≡ told) ⊎ (r ≡ alsoTold asked told task))) × (Knows P w b task c ⊎ Knows P w b heard c))
+        before : Knows P w second r c → Knows P w b r c ⊎ (((r ≡ task) ⊎ ((r ≡ released) ⊎ (r ≡ alsoReleased asked released task))) × (Knows P w b task c ⊎ Knows P w b acquired c))
         before x = ⊎-elim (λ y. ⊎-elim inl (λ z. inr (inl (z .0), inr (z .1))) (on-first r .0 y)) (λ y. inr (inr (inl (y .0)), known .0 (y .1))) (on-second r .0 x)
 
-    from : Knows P w b r c ⊎ (((r ≡ task) ⊎ ((r ≡ told) ⊎ (r ≡ alsoTold asked told task))) × (Knows P w b task c ⊎ Knows P w b heard c)) →
-        Knows P w (joinRow j w (alsoTold asked told task) task second) r c
+    from : Knows P w b r c ⊎ (((r ≡ task) ⊎ ((r ≡ released) ⊎ (r ≡ alsoReleased asked released task))) × (Knows P w b task c ⊎ Knows P w b acquired c)) →
+        Knows P w (joinRow j w (alsoReleased asked released task) task second) r c
     from (inl a) = on-third .1 (inl (on-second r .1 (inl (on-first r .1 (inl a)))))
     from (inr (inl e, a)) = on-third .1 (inl (on-second r .1 (inl (rw e (known .1 a)))))
     from (inr (inr (inl e), a)) = on-third .1 (inl (on-second r .1 (inr (e, known .1 a))))
     from (inr (inr (inr e), a)) = on-third .1 (inr (e, on-second task .1 (inl (known .1 a))))
 
--- nothing is told to the row of what has acted
-pub flow-acted : (j : ℕ → ℕ → ℕ) (asked : Bool) {w : ℕ} {b : List ℕ} (heard : ℕ) {told task c : ℕ} → Sized w b → told < 80 → task < 16 → c < w →
-    cell w (flow j w asked heard told task b) 81 c ≡ cell w b 81 c
+-- nothing is released to the row of what has acted
+pub flow-acted : (j : ℕ → ℕ → ℕ) (asked : Bool) {w : ℕ} {b : List ℕ} (acquired : ℕ) {released task c : ℕ} → Sized w b → released < 80 → task < 16 → c < w →
+    cell w (flow j w asked acquired released task b) 81 c ≡ cell w b 81 c
 unfolding flow
-flow-acted j asked {w} {b} heard {told} {task} {c} s k l n =
-    join-cell-other j (sized-join (sized-join s j _ _) j _ _) _ _ 81 c n (λ e. apart (ltb told 16 || not asked) e)
+flow-acted j asked {w} {b} acquired {released} {task} {c} s k l n =
+    join-cell-other j (sized-join (sized-join s j _ _) j _ _) _ _ 81 c n (λ e. apart (ltb released 16 || not asked) e)
     ∙ (join-cell-other j (sized-join s j _ _) _ _ 81 c n (λ e. omega arith) ∙ join-cell-other j s _ _ 81 c n (λ e. omega arith))
   where
     apart : (p : Bool) → ¬ (81 ≡ cond p task 80)
     apart true e = omega arith
     apart false e = omega arith
 
--- order over an act that hears and tells no other row changes nothing
+-- order over an act that acquires from and releases to no other row changes nothing
 pub flow-alone : {j : ℕ → ℕ → ℕ} → Same j → (w : ℕ) (asked : Bool) (t : ℕ) (b : List ℕ) → t < 16 → b ≡ flow j w asked t t t b
 unfolding flow
 flow-alone s w asked t b h = rw (lt-ltb t 16 h, ← join-self s w t b, ← join-self s w t b) (join-self s w t b)

@@ -13,11 +13,11 @@ use Rattle.theory.specs.fillings.Completion.{Named, Filling, arrived, fu
 use Rattle.theory.specs.tables.Rows.{mark, cell}
 use Rattle.theory.specs.tables.Reckonings.{clockOwn, clockAct}
 use Rattle.theory.proofs.basics.Reflects.{Reflects, right, wrong, equal, at-most, both}
-use Rattle.theory.proofs.order.Carry.{Node, due, Tells}
+use Rattle.theory.proofs.order.Carry.{Node, due, Releases}
 use Rattle.theory.proofs.tables.Rows.{Sized, Joins, Knows, knows-same, same-max, sized-fresh}
 use Rattle.theory.proofs.tables.Acts.{sized-flow, flow-acted, sized-clock-own, clock-own-same, clock-own-other, clock-own-acted}
 use Rattle.theory.proofs.tables.Marks.{sized-mark}
-use Rattle.theory.proofs.tables.Nodes.{row, InRange, due-in, row-below, row-one, told-row, told-in}
+use Rattle.theory.proofs.tables.Nodes.{row, InRange, due-in, row-below, row-one, released-row, released-in}
 use Rattle.theory.proofs.fillings.HasActed.{Acted}
 use Rattle.theory.proofs.fillings.Came.{Came, Newly, occurs-short}
 use Rattle.theory.proofs.tables.Exact.{Filled-in, Exact, ToObject, Owned, ExactActed, exact-act, exact-mark, fresh-exact, acted-same, acted-act, acted-mark, fresh-acted}
@@ -92,12 +92,12 @@ module _ {w : Filling} {es : List Event} {b : List ℕ} {t n number : ℕ} (o : 
   own-acting : ExactActed w (es ++ (act o t n ∷ [])) 16 (clockOwn t number b)
   own-acting = acted-act o t n (λ u hu. clock-own-acted (x .sized) t number u ht hu) (x .acting)
 
-  pub clocks-act : ((u : ℕ) → Tells (act o t n) (due u) → (u ≡ t) ⊎ (¬ Acted w u es)) → ExactClocks w (es ++ (act o t n ∷ [])) (clockAct (fills w) (kind o) t n number b)
+  pub clocks-act : ((u : ℕ) → Releases (act o t n) (due u) → (u ≡ t) ⊎ (¬ Acted w u es)) → ExactClocks w (es ++ (act o t n ∷ [])) (clockAct (fills w) (kind o) t n number b)
   clocks-act starts =
       record {
         sized = sized-flow (sized-clock-own (x .sized) t number) max (fills w) _ _ t;
         column = λ u i hu. exact-act (joins-max i) (keeps u (act o t n)) starts ht hn hu (sized-clock-own (x .sized) t number) own-acting (x .column u i hu .ended) (owned u i hu);
-        acting = acted-same (λ u hu. flow-acted max (fills w) _ (sized-clock-own (x .sized) t number) (rw (told-row o t n) (row-below (told-in o ht hn))) ht hu) own-acting;
+        acting = acted-same (λ u hu. flow-acted max (fills w) _ (sized-clock-own (x .sized) t number) (rw (released-row o t n) (row-below (released-in o ht hn))) ht hu) own-acting;
       }
 
 -- Marks

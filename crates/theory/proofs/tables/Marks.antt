@@ -1,4 +1,4 @@
--- What a mark does to a table: the hub comes to know what its lost records can hear, each row that they can tell what the hub knows then,
+-- What a mark does to a table: the hub comes to know what its lost records can acquire, each row that they can release to what the hub knows then,
 -- and the named tasks have acted. Assumes nothing.
 use mathlib.Core.Path.{_≡_, refl, sym, _∙_, ap}
 use mathlib.Core.Bool.{Bool, true, false, cond}
@@ -9,7 +9,7 @@ use native.Mathlib.Omega.{arith}
 use lib.Dec.{T, lit<, eqb}
 use Rattle.theory.specs.tables.Turns.{turns}
 use Rattle.theory.specs.fillings.Completion.{bit}
-use Rattle.theory.specs.tables.Rows.{cell, joinRow, rowOf, putRow, isTold, hub, rowOrHub, gather, spread, noteNamed, mix, mark}
+use Rattle.theory.specs.tables.Rows.{cell, joinRow, rowOf, putRow, isReleased, hub, rowOrHub, gather, spread, noteNamed, mix, mark}
 use Rattle.theory.proofs.basics.Reflects.{Reflects, right, wrong, equal}
 use Rattle.theory.proofs.tables.Rows.{Sized, Joins, Knows, knows-same, sized-set, sized-turns, sized-join, sized-put, in-table, one-place, stores-at, stores-other, row-cell, put-same, put-other, join-self, join-cell-other, join-knows}
 
@@ -103,7 +103,7 @@ module _ {j : ℕ → ℕ → ℕ} {P : ℕ → Type 0} (joins : Joins j P) {w :
 -- Spreading
 
 module _ {w : ℕ} {b : List ℕ} (s : Sized w b) (mask c : ℕ) (l : c < w) where
-  -- a turn leaves a cell as it is where its row is not the one told; what it puts into the hub is the hub's own
+  -- a turn leaves a cell as it is where its row is not the one released to; what it puts into the hub is the hub's own
   other-turn : {x : List ℕ} {v : ℕ} (p : Bool) (q r : ℕ) → Sized w x → ¬ ((r ≡ q) × T p) → (r ≡ hub → v ≡ cell w b hub c) → cell w x r c ≡ v →
       cell w (putRow w (rowOrHub p q) (rowOf w hub b) x) r c ≡ v
   other-turn {x} true q r z d own e = put-other w x (rowOf w hub b) q r c l (λ f. d (f, tt)) ∙ e
@@ -113,38 +113,38 @@ module _ {w : ℕ} {b : List ℕ} (s : Sized w b) (mask c : ℕ) (l : c < w) whe
       decided (right f) = rw f (put-same z hub c (rowOf w hub b) (lit< tt) l ∙ row-cell w hub b c l) ∙ sym (own f)
       decided (wrong f) = put-other w x (rowOf w hub b) hub r c l f ∙ e
 
-  told-turn : {x : List ℕ} (p : Bool) (q : ℕ) → Sized w x → q < 82 → T p → cell w (putRow w (rowOrHub p q) (rowOf w hub b) x) q c ≡ cell w b hub c
-  told-turn true q z h t = put-same z q c (rowOf w hub b) h l ∙ row-cell w hub b c l
-  told-turn false q z h t = absurd t
+  released-turn : {x : List ℕ} (p : Bool) (q : ℕ) → Sized w x → q < 82 → T p → cell w (putRow w (rowOrHub p q) (rowOf w hub b) x) q c ≡ cell w b hub c
+  released-turn true q z h t = put-same z q c (rowOf w hub b) h l ∙ row-cell w hub b c l
+  released-turn false q z h t = absurd t
 
   abbrev Spread : ℕ → List ℕ
-  Spread n = turns n (λ q x. putRow w (rowOrHub (isTold mask q) q) (rowOf w hub b) x) b
+  Spread n = turns n (λ q x. putRow w (rowOrHub (isReleased mask q) q) (rowOf w hub b) x) b
 
   sized-spreading : (n : ℕ) → Sized w (Spread n)
   sized-spreading n = sized-turns n (λ q x t. sized-put t _ _) s
 
-  spread-kept : (n r : ℕ) → ¬ ((r < n) × T (isTold mask r)) → cell w (Spread n) r c ≡ cell w b r c
+  spread-kept : (n r : ℕ) → ¬ ((r < n) × T (isReleased mask r)) → cell w (Spread n) r c ≡ cell w b r c
   unfolding turns
   spread-kept zero r d = refl
   spread-kept (suc n) r d =
-      other-turn (isTold mask n) n r (sized-spreading n) (λ x. d (omega (arith, x .0), rw (x .0) (x .1))) (λ e. rw e)
+      other-turn (isReleased mask n) n r (sized-spreading n) (λ x. d (omega (arith, x .0), rw (x .0) (x .1))) (λ e. rw e)
       (spread-kept n r (λ x. d (omega arith, x .1)))
 
-  spread-told : (n r : ℕ) → n ≤ 80 → r < n → T (isTold mask r) → cell w (Spread n) r c ≡ cell w b hub c
+  spread-released : (n r : ℕ) → n ≤ 80 → r < n → T (isReleased mask r) → cell w (Spread n) r c ≡ cell w b hub c
   unfolding turns
-  spread-told zero r k h t = absurd (omega arith)
-  spread-told (suc n) r k h t = decided (equal r n) (λ m. spread-told n r (omega arith) m t)
+  spread-released zero r k h t = absurd (omega arith)
+  spread-released (suc n) r k h t = decided (equal r n) (λ m. spread-released n r (omega arith) m t)
     where
       decided : {p : Bool} → Reflects (r ≡ n) p → (r < n → cell w (Spread n) r c ≡ cell w b hub c) → cell w (Spread (suc n)) r c ≡ cell w b hub c
-      decided (right e) f = rw e (told-turn (isTold mask n) n (sized-spreading n) (omega arith) (rw e at t))
-      decided (wrong d) f = other-turn (isTold mask n) n r (sized-spreading n) (λ x. d (x .0)) (λ e. refl) (f (omega arith))
+      decided (right e) f = rw e (released-turn (isReleased mask n) n (sized-spreading n) (omega arith) (rw e at t))
+      decided (wrong d) f = other-turn (isReleased mask n) n r (sized-spreading n) (λ x. d (x .0)) (λ e. refl) (f (omega arith))
 
-  -- a told row has the hub's cells, and the others have their own
-  told-cell : (r : ℕ) → r < 80 → T (isTold mask r) → cell w (spread w mask b) r c ≡ cell w b hub c
+  -- a released row has the hub's cells, and the others have their own
+  released-cell : (r : ℕ) → r < 80 → T (isReleased mask r) → cell w (spread w mask b) r c ≡ cell w b hub c
   unfolding spread
-  told-cell r h t = spread-told 80 r (omega arith) h t
+  released-cell r h t = spread-released 80 r (omega arith) h t
 
-  untold-cell : (r : ℕ) → ¬ ((r < 80) × T (isTold mask r)) → cell w (spread w mask b) r c ≡ cell w b r c
+  untold-cell : (r : ℕ) → ¬ ((r < 80) × T (isReleased mask r)) → cell w (spread w mask b) r c ≡ cell w b r c
   unfolding spread
   untold-cell r d = spread-kept 80 r d
 
@@ -170,7 +170,7 @@ module _ {j : ℕ → ℕ → ℕ} {P : ℕ → Type 0} (joins : Joins j P) {w :
   sized-gathered : Sized w (gather j w mask b)
   sized-gathered = sized-gather s j mask
 
-  -- over a mark the hub and each told row know what the hub or a named task's next act knew
+  -- over a mark the hub and each released row know what the hub or a named task's next act knew
   pub mix-hub : Knows P w (mix j w mask b) hub c ↔ (Knows P w b hub c ⊎ NamedKnows P w mask b c 16)
   unfolding mix
   mix-hub =
@@ -178,15 +178,15 @@ module _ {j : ℕ → ℕ → ℕ} {P : ℕ → Type 0} (joins : Joins j P) {w :
       let g = gather-hub joins s mask c l in
       (λ a. g .0 (q .0 a), λ a. q .1 (g .1 a))
 
-  pub mix-told : (r : ℕ) → r < 80 → T (isTold mask r) → Knows P w (mix j w mask b) r c ↔ (Knows P w b hub c ⊎ NamedKnows P w mask b c 16)
+  pub mix-released : (r : ℕ) → r < 80 → T (isReleased mask r) → Knows P w (mix j w mask b) r c ↔ (Knows P w b hub c ⊎ NamedKnows P w mask b c 16)
   unfolding mix
-  mix-told r h t =
-      let q = knows-same {P = P} (named-other (sized-spread sized-gathered mask) mask wide r c l (λ e. omega arith) ∙ told-cell sized-gathered mask c l r h t) in
+  mix-released r h t =
+      let q = knows-same {P = P} (named-other (sized-spread sized-gathered mask) mask wide r c l (λ e. omega arith) ∙ released-cell sized-gathered mask c l r h t) in
       let g = gather-hub joins s mask c l in
       (λ a. g .0 (q .0 a), λ a. q .1 (g .1 a))
 
   -- and the others what they knew
-  pub mix-untold : (r : ℕ) → r < 80 → ¬ T (isTold mask r) → Knows P w (mix j w mask b) r c ↔ Knows P w b r c
+  pub mix-untold : (r : ℕ) → r < 80 → ¬ T (isReleased mask r) → Knows P w (mix j w mask b) r c ↔ Knows P w b r c
   unfolding mix
   mix-untold r h n =
       knows-same

@@ -1,4 +1,4 @@
--- Which tasks a mark names, and what it tells, by the rows of the tables. Assumes nothing.
+-- Which tasks a mark names, and what it releases to, by the rows of the tables. Assumes nothing.
 use mathlib.Core.Path.{_≡_, sym, subst}
 use mathlib.Core.Bool.{Bool, true}
 use Prim.Native.Nat.{ℕ, suc, _+_, _≤_, _<_}
@@ -6,11 +6,11 @@ use native.Mathlib.Omega.{arith}
 use borrow.Author.Tests.{lt-ltb, le-ltb}
 use lib.Dec.{T}
 use Rattle.theory.specs.fillings.Completion.{bit, Named}
-use Rattle.theory.specs.tables.Rows.{isTold}
+use Rattle.theory.specs.tables.Rows.{isReleased}
 use Rattle.theory.proofs.basics.Reflects.{by-test, both, at-most, passed, passes}
 use Rattle.theory.proofs.order.Carry.{Node}
-use Rattle.theory.proofs.fillings.Fullest.{Told}
-use Rattle.theory.proofs.fillings.Reach.{told-due, told-semaphore, told-flag}
+use Rattle.theory.proofs.fillings.Fullest.{Released}
+use Rattle.theory.proofs.fillings.Reach.{released-due, released-semaphore, released-flag}
 use Rattle.theory.proofs.tables.Nodes.{row, InRange, due-in, semaphore-in, flag-in}
 
 pub bit-named : (mask t : ℕ) → t < 16 → T (bit mask t) → Named mask t
@@ -21,11 +21,11 @@ named-bit {mask} {t} d = passed (both (at-most (suc t) 16) (by-test (bit mask t)
 
 -- The tests, row by row
 
-told-at-due : (mask t : ℕ) → t < 16 → isTold mask t ≡ bit mask t
-told-at-due mask t h = rw (lt-ltb t 16 h)
+released-at-due : (mask t : ℕ) → t < 16 → isReleased mask t ≡ bit mask t
+released-at-due mask t h = rw (lt-ltb t 16 h)
 
-pub told-at-object : (mask r : ℕ) → 16 ≤ r → isTold mask r ≡ true
-told-at-object mask r h = rw (le-ltb r 16 h)
+pub released-at-object : (mask r : ℕ) → 16 ≤ r → isReleased mask r ≡ true
+released-at-object mask r h = rw (le-ltb r 16 h)
 
 -- The tests tell what a mark tells, if it names a task
 
@@ -33,12 +33,12 @@ yes-if : {b : Bool} → b ≡ true → T b
 yes-if e = subst T (sym e) tt
 
 module _ {mask : ℕ} where
-  pub told-test : {n : Node} → InRange n → Told mask n → T (isTold mask (row n))
-  told-test (due-in {t = t} h) x = subst T (sym (told-at-due mask t h)) (named-bit (told-due .0 x))
-  told-test (semaphore-in {s = s} h) x = yes-if (told-at-object mask (16 + s) (omega arith))
-  told-test (flag-in {f = f} h) x = yes-if (told-at-object mask (48 + f) (omega arith))
+  pub released-test : {n : Node} → InRange n → Released mask n → T (isReleased mask (row n))
+  released-test (due-in {t = t} h) x = subst T (sym (released-at-due mask t h)) (named-bit (released-due .0 x))
+  released-test (semaphore-in {s = s} h) x = yes-if (released-at-object mask (16 + s) (omega arith))
+  released-test (flag-in {f = f} h) x = yes-if (released-at-object mask (48 + f) (omega arith))
 
-  pub test-told : (t : ℕ) × Named mask t → {n : Node} → InRange n → T (isTold mask (row n)) → Told mask n
-  test-told some (due-in {t = t} h) x = told-due .1 (bit-named mask t h (subst T (told-at-due mask t h) x))
-  test-told some (semaphore-in h) x = told-semaphore .1 (h, some)
-  test-told some (flag-in h) x = told-flag .1 (h, some)
+  pub test-released : (t : ℕ) × Named mask t → {n : Node} → InRange n → T (isReleased mask (row n)) → Released mask n
+  test-released some (due-in {t = t} h) x = released-due .1 (bit-named mask t h (subst T (released-at-due mask t h) x))
+  test-released some (semaphore-in h) x = released-semaphore .1 (h, some)
+  test-released some (flag-in h) x = released-flag .1 (h, some)

@@ -9,9 +9,9 @@ use native.Mathlib.Omega.{arith}
 use borrow.Author.Tests.{lt-ltb, le-ltb}
 use lib.Dec.{ltb}
 use Rattle.theory.specs.order.Recording.{Op, take, give, look, set, start, join, act, series, kind, _is_}
-use Rattle.theory.specs.tables.Rows.{cell, actedRow, joinsActed, heardRow, toldRow}
+use Rattle.theory.specs.tables.Rows.{cell, actedRow, joinsActed, acquiredRow, releasedRow}
 use Rattle.theory.proofs.order.Ops.{Plain, Role, a-take, a-give, a-look, a-set, a-start, a-join, plain, role}
-use Rattle.theory.proofs.order.Carry.{Node, due, acted, semaphore, flag, Hears, own, by-take, by-look, by-join, Tells, own-next, own-acted, by-give, by-set, by-start}
+use Rattle.theory.proofs.order.Carry.{Node, due, acted, semaphore, flag, Acquires, own, by-take, by-look, by-join, Releases, own-next, own-acted, by-give, by-set, by-start}
 
 -- Rows
 
@@ -58,24 +58,24 @@ row-one a b e = sym (node-row a) ∙ (ap node e ∙ node-row b)
 
 -- Acts
 
-abbrev pub heardNode : Op → ℕ → ℕ → Node
-heardNode o t n = cond (o is take) (semaphore n) (cond (o is look) (flag n) (cond (o is join) (acted n) (due t)))
+abbrev pub acquiredNode : Op → ℕ → ℕ → Node
+acquiredNode o t n = cond (o is take) (semaphore n) (cond (o is look) (flag n) (cond (o is join) (acted n) (due t)))
 
-abbrev pub toldNode : Op → ℕ → ℕ → Node
-toldNode o t n = cond (o is give) (semaphore n) (cond (o is set) (flag n) (cond (o is start) (due n) (due t)))
+abbrev pub releasedNode : Op → ℕ → ℕ → Node
+releasedNode o t n = cond (o is give) (semaphore n) (cond (o is set) (flag n) (cond (o is start) (due n) (due t)))
 
 -- the node whose row an act reads: for a join that of the task's next act, if the task has acted, and the act's own if not
 abbrev pub readNode : Op → ℕ → ℕ → Bool → Node
 readNode o t n joins = cond (o is take) (semaphore n) (cond (o is look) (flag n) (cond ((o is join) && joins) (due n) (due t)))
 
-pub read-row : (o : Op) (t n w : ℕ) (b : List ℕ) → heardRow (kind o) t n (joinsActed w b (kind o) n) ≡ row (readNode o t n (ltb 0 (cell w b actedRow n)))
+pub read-row : (o : Op) (t n w : ℕ) (b : List ℕ) → acquiredRow (kind o) t n (joinsActed w b (kind o) n) ≡ row (readNode o t n (ltb 0 (cell w b actedRow n)))
 read-row o t n w b = by-role (role o)
   where
     of : (x : Bool) → cond x n t ≡ row (cond x (due n) (due t))
     of true = refl
     of false = refl
 
-    by-role : {o : Op} → Role o → heardRow (kind o) t n (joinsActed w b (kind o) n) ≡ row (readNode o t n (ltb 0 (cell w b actedRow n)))
+    by-role : {o : Op} → Role o → acquiredRow (kind o) t n (joinsActed w b (kind o) n) ≡ row (readNode o t n (ltb 0 (cell w b actedRow n)))
     by-role a-take = refl
     by-role a-give = refl
     by-role a-look = refl
@@ -84,10 +84,10 @@ read-row o t n w b = by-role (role o)
     by-role a-join = of (ltb 0 (cell w b actedRow n))
     by-role (plain x) = rw (x .not-take, x .not-look, x .not-join)
 
-pub told-row : (o : Op) (t n : ℕ) → toldRow (kind o) t n ≡ row (toldNode o t n)
-told-row o t n = by-role (role o)
+pub released-row : (o : Op) (t n : ℕ) → releasedRow (kind o) t n ≡ row (releasedNode o t n)
+released-row o t n = by-role (role o)
   where
-    by-role : {o : Op} → Role o → toldRow (kind o) t n ≡ row (toldNode o t n)
+    by-role : {o : Op} → Role o → releasedRow (kind o) t n ≡ row (releasedNode o t n)
     by-role a-take = refl
     by-role a-give = refl
     by-role a-look = refl
@@ -109,10 +109,10 @@ read-in o {t} {n} joins h l = by-role (role o) joins l
     by-role a-join false l = due-in h
     by-role (plain x) joins l = rw (x .not-take, x .not-look, x .not-join) (due-in h)
 
-pub told-in : (o : Op) {t n : ℕ} → t < 16 → n < series o → InRange (toldNode o t n)
-told-in o {t} {n} h l = by-role (role o) l
+pub released-in : (o : Op) {t n : ℕ} → t < 16 → n < series o → InRange (releasedNode o t n)
+released-in o {t} {n} h l = by-role (role o) l
   where
-    by-role : {o : Op} → Role o → n < series o → InRange (toldNode o t n)
+    by-role : {o : Op} → Role o → n < series o → InRange (releasedNode o t n)
     by-role a-take l = due-in h
     by-role a-give l = semaphore-in l
     by-role a-look l = due-in h
@@ -121,10 +121,10 @@ told-in o {t} {n} h l = by-role (role o) l
     by-role a-join l = due-in h
     by-role (plain x) l = rw (x .not-give, x .not-set, x .not-start) (due-in h)
 
-pub told-tells : (o : Op) (t n : ℕ) → Tells (act o t n) (toldNode o t n)
-told-tells o t n = by-role (role o)
+pub released-releases : (o : Op) (t n : ℕ) → Releases (act o t n) (releasedNode o t n)
+released-releases o t n = by-role (role o)
   where
-    by-role : {o : Op} → Role o → Tells (act o t n) (toldNode o t n)
+    by-role : {o : Op} → Role o → Releases (act o t n) (releasedNode o t n)
     by-role a-take = own-next
     by-role a-give = by-give
     by-role a-look = own-next
@@ -133,17 +133,17 @@ told-tells o t n = by-role (role o)
     by-role a-join = own-next
     by-role (plain x) = rw (x .not-give, x .not-set, x .not-start) own-next
 
-pub hears-cases : {o : Op} {t n : ℕ} {p : Node} → Hears p (act o t n) → (p ≡ due t) ⊎ (p ≡ heardNode o t n)
-hears-cases own = inl refl
-hears-cases by-take = inr refl
-hears-cases by-look = inr refl
-hears-cases by-join = inr refl
+pub acquires-cases : {o : Op} {t n : ℕ} {p : Node} → Acquires p (act o t n) → (p ≡ due t) ⊎ (p ≡ acquiredNode o t n)
+acquires-cases own = inl refl
+acquires-cases by-take = inr refl
+acquires-cases by-look = inr refl
+acquires-cases by-join = inr refl
 
 -- what the row that an act reads tells of: a node that the act hears, or for a join the next act of a task that has acted
-pub read-hears : (o : Op) (t n : ℕ) (joins : Bool) → Hears (readNode o t n joins) (act o t n) ⊎ (Hears (acted n) (act o t n) × (readNode o t n joins ≡ due n) × (joins ≡ true))
-read-hears o t n joins = by-role (role o) joins
+pub read-acquires : (o : Op) (t n : ℕ) (joins : Bool) → Acquires (readNode o t n joins) (act o t n) ⊎ (Acquires (acted n) (act o t n) × (readNode o t n joins ≡ due n) × (joins ≡ true))
+read-acquires o t n joins = by-role (role o) joins
   where
-    by-role : {o : Op} → Role o → (joins : Bool) → Hears (readNode o t n joins) (act o t n) ⊎ (Hears (acted n) (act o t n) × (readNode o t n joins ≡ due n) × (joins ≡ true))
+    by-role : {o : Op} → Role o → (joins : Bool) → Acquires (readNode o t n joins) (act o t n) ⊎ (Acquires (acted n) (act o t n) × (readNode o t n joins ≡ due n) × (joins ≡ true))
     by-role a-take joins = inl by-take
     by-role a-give joins = inl own
     by-role a-look joins = inl by-look
@@ -153,11 +153,11 @@ read-hears o t n joins = by-role (role o) joins
     by-role a-join false = inl own
     by-role (plain x) joins = inl (rw (x .not-take, x .not-look, x .not-join) own)
 
-pub heard-read : (o : Op) (t n : ℕ) (joins : Bool) →
-    (heardNode o t n ≡ readNode o t n joins) ⊎ (Hears (acted n) (act o t n) × (heardNode o t n ≡ acted n) × (readNode o t n true ≡ due n))
-heard-read o t n joins = by-role (role o)
+pub acquired-read : (o : Op) (t n : ℕ) (joins : Bool) →
+    (acquiredNode o t n ≡ readNode o t n joins) ⊎ (Acquires (acted n) (act o t n) × (acquiredNode o t n ≡ acted n) × (readNode o t n true ≡ due n))
+acquired-read o t n joins = by-role (role o)
   where
-    by-role : {o : Op} → Role o → (heardNode o t n ≡ readNode o t n joins) ⊎ (Hears (acted n) (act o t n) × (heardNode o t n ≡ acted n) × (readNode o t n true ≡ due n))
+    by-role : {o : Op} → Role o → (acquiredNode o t n ≡ readNode o t n joins) ⊎ (Acquires (acted n) (act o t n) × (acquiredNode o t n ≡ acted n) × (readNode o t n true ≡ due n))
     by-role a-take = inl refl
     by-role a-give = inl refl
     by-role a-look = inl refl
@@ -166,25 +166,25 @@ heard-read o t n joins = by-role (role o)
     by-role a-join = inr (by-join, refl, refl)
     by-role (plain x) = inl (rw (x .not-take, x .not-look, x .not-join))
 
--- an act that is plain hears its own task's next act alone
-pub plain-heard : {o : Op} → Plain o → (t n : ℕ) → heardNode o t n ≡ due t
-plain-heard x t n = rw (x .not-take, x .not-look, x .not-join)
+-- an act that is plain acquires its own task's next act alone
+pub plain-acquired : {o : Op} → Plain o → (t n : ℕ) → acquiredNode o t n ≡ due t
+plain-acquired x t n = rw (x .not-take, x .not-look, x .not-join)
 
-pub joined-in : {o : Op} {t n : ℕ} → Hears (acted n) (act o t n) → n < series o → n < 16
+pub joined-in : {o : Op} {t n : ℕ} → Acquires (acted n) (act o t n) → n < series o → n < 16
 joined-in by-join l = l
 
-pub tells-cases : {o : Op} {t n : ℕ} {p : Node} → Tells (act o t n) p → (p ≡ due t) ⊎ ((p ≡ acted t) ⊎ (p ≡ toldNode o t n))
-tells-cases own-next = inl refl
-tells-cases own-acted = inr (inl refl)
-tells-cases by-give = inr (inr refl)
-tells-cases by-set = inr (inr refl)
-tells-cases by-start = inr (inr refl)
+pub releases-cases : {o : Op} {t n : ℕ} {p : Node} → Releases (act o t n) p → (p ≡ due t) ⊎ ((p ≡ acted t) ⊎ (p ≡ releasedNode o t n))
+releases-cases own-next = inl refl
+releases-cases own-acted = inr (inl refl)
+releases-cases by-give = inr (inr refl)
+releases-cases by-set = inr (inr refl)
+releases-cases by-start = inr (inr refl)
 
--- a row of an object that an act tells is that of the object it names
-pub told-object : (o : Op) {t n : ℕ} → t < 16 → n < series o → 16 ≤ row (toldNode o t n) → Object (toldNode o t n)
-told-object o {t} {n} h l k = by-role (role o) l k
+-- a row of an object that an act releases to is that of the object it names
+pub released-object : (o : Op) {t n : ℕ} → t < 16 → n < series o → 16 ≤ row (releasedNode o t n) → Object (releasedNode o t n)
+released-object o {t} {n} h l k = by-role (role o) l k
   where
-    by-role : {o : Op} → Role o → n < series o → 16 ≤ row (toldNode o t n) → Object (toldNode o t n)
+    by-role : {o : Op} → Role o → n < series o → 16 ≤ row (releasedNode o t n) → Object (releasedNode o t n)
     by-role a-take l k = absurd (omega arith)
     by-role a-give l k = a-semaphore l
     by-role a-look l k = absurd (omega arith)

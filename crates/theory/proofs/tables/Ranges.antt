@@ -13,7 +13,7 @@ use Rattle.theory.specs.order.Recording.{Op, kind, isAccess, lossMark, K
 use Rattle.theory.specs.order.Path.{rule}
 use Rattle.theory.specs.history.History.{clashBy}
 use Rattle.theory.specs.acceptance.Table.{Fitting, Proper}
-use Rattle.theory.specs.tables.Rows.{cell, actedRow, joinsActed, heardRow, toldRow, onward}
+use Rattle.theory.specs.tables.Rows.{cell, actedRow, joinsActed, acquiredRow, releasedRow, onward}
 use Rattle.theory.proofs.basics.Reflects.{Reflects, right, wrong, equal, at-most}
 use Rattle.theory.proofs.order.Ops.{Role, a-take, a-give, a-look, a-set, a-start, a-join, plain, role, op-of, access-kind, access-on, series-op}
 use Rattle.theory.proofs.order.Numbered.{kind-above}
@@ -37,15 +37,15 @@ of-kind k j x y h l = decided (equal k j)
 on-below : {k t n : ℕ} (j : ℕ) → Fitting k t n → k ≡ j → n < seriesOf j
 on-below {n = n} j f e = subst (λ (i : ℕ). n < seriesOf i) e (f .on-fits)
 
--- the rows that an act hears and tells are of tasks and objects
-pub heard-fits : {k t n : ℕ} {joins : Bool} → Fitting k t n → (joins ≡ true → k ≡ 7) → heardRow k t n joins < 80
-heard-fits {k} {t} {n} {joins} f j =
+-- the rows that an act acquires and releases to are of tasks and objects
+pub acquired-fits : {k t n : ℕ} {joins : Bool} → Fitting k t n → (joins ≡ true → k ≡ 7) → acquiredRow k t n joins < 80
+acquired-fits {k} {t} {n} {joins} f j =
     let h = f .task-fits in
     of-kind k 2 _ _ (λ e. let l = on-below 2 f e in omega arith)
     (of-kind k 4 _ _ (λ e. let l = on-below 4 f e in omega arith) (chosen joins n t (λ e. let l = on-below 7 f (j e) in omega arith) (omega arith)))
 
-pub told-fits : {k t n : ℕ} → Fitting k t n → toldRow k t n < 80
-told-fits {k} {t} {n} f =
+pub released-fits : {k t n : ℕ} → Fitting k t n → releasedRow k t n < 80
+released-fits {k} {t} {n} f =
     let h = f .task-fits in
     of-kind k 3 _ _ (λ e. let l = on-below 3 f e in omega arith)
     (of-kind k 5 _ _ (λ e. let l = on-below 5 f e in omega arith) (of-kind k 6 _ _ (λ e. let l = on-below 6 f e in omega arith) (omega arith)))
@@ -80,13 +80,13 @@ access-of k e = let (o, q) = op-of k known no-mark in (o, q, subst T (sym (sym (
 pub access-acts : (k : ℕ) → accesses k ≡ true → k ≢ lossMark
 access-acts k e q = true≢false (sym e ∙ ap accesses q)
 
--- an access hears and tells no other row
-access-alone : (w : ℕ) (b : List ℕ) (k t n : ℕ) → accesses k ≡ true → (heardRow k t n (joinsActed w b k n) ≡ t) × (toldRow k t n ≡ t)
+-- an access acquires from and releases to no other row
+access-alone : (w : ℕ) (b : List ℕ) (k t n : ℕ) → accesses k ≡ true → (acquiredRow k t n (joinsActed w b k n) ≡ t) × (releasedRow k t n ≡ t)
 access-alone w b k t n e =
     let (o, q, a) = access-of k e in
-    subst (λ (k : ℕ). (heardRow k t n (joinsActed w b k n) ≡ t) × (toldRow k t n ≡ t)) (sym q) (by-role (role o) a)
+    subst (λ (k : ℕ). (acquiredRow k t n (joinsActed w b k n) ≡ t) × (releasedRow k t n ≡ t)) (sym q) (by-role (role o) a)
   where
-    by-role : {o : Op} → Role o → T (isAccess o) → (heardRow (kind o) t n (joinsActed w b (kind o) n) ≡ t) × (toldRow (kind o) t n ≡ t)
+    by-role : {o : Op} → Role o → T (isAccess o) → (acquiredRow (kind o) t n (joinsActed w b (kind o) n) ≡ t) × (releasedRow (kind o) t n ≡ t)
     by-role (plain x) a = (rw (x .not-take, x .not-look, x .not-join), rw (x .not-give, x .not-set, x .not-start))
     by-role a-take a = absurd a
     by-role a-give a = absurd a

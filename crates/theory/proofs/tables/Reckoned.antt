@@ -17,12 +17,12 @@ use Rattle.theory.specs.history.History.{askAt, slot, slots, latestSlot,
 use Rattle.theory.specs.tables.Reckonings.{hasSlot, knownSlots, clockApart, setApart, maskOf, setMask, clockMask}
 use Rattle.theory.proofs.basics.Reflects.{Reflects, right, wrong, by-test, equal, at-most, fails, both, passed, passes}
 use Rattle.theory.proofs.order.Leads.{Leads}
-use Rattle.theory.proofs.order.Carry.{Node, due, Hears, own, own-next, Carry, pass, move, carry-skip, carry-append}
+use Rattle.theory.proofs.order.Carry.{Node, due, Acquires, own, own-next, Carry, pass, move, carry-skip, carry-append}
 use Rattle.theory.proofs.fillings.Reach.{Reach, leads-reach}
 use Rattle.theory.proofs.order.Places.{Occurs, first, next}
 use Rattle.theory.proofs.verdicts.Latest.{Final, some-after, some-occurs, occurs-after}
 use Rattle.theory.proofs.verdicts.Search.{Candidate}
-use Rattle.theory.proofs.tables.Nodes.{due-in, heardNode, hears-cases, plain-heard}
+use Rattle.theory.proofs.tables.Nodes.{due-in, acquiredNode, acquires-cases, plain-acquired}
 use Rattle.theory.proofs.fillings.Came.{Came}
 use Rattle.theory.proofs.tables.ClockTables.{ExactClocks, OfTask}
 use Rattle.theory.proofs.tables.SetTables.{ExactSets, KeptIn}
@@ -36,13 +36,13 @@ use Rattle.theory.proofs.tables.Bits.{mask-ext}
 
 -- Paths to an access
 
--- an access hears its own task's next act and nothing else
-access-hears : {p : Op} {t v : ℕ} {m : Node} → T (isAccess p) → Hears m (act p t v) → m ≡ due t
-access-hears {p} {t} {v} {m} a h = cases (role p) a (hears-cases h)
+-- an access acquires its own task's next act and nothing else
+access-acquires : {p : Op} {t v : ℕ} {m : Node} → T (isAccess p) → Acquires m (act p t v) → m ≡ due t
+access-acquires {p} {t} {v} {m} a h = cases (role p) a (acquires-cases h)
   where
-    cases : {p : Op} → Role p → T (isAccess p) → (m ≡ due t) ⊎ (m ≡ heardNode p t v) → m ≡ due t
+    cases : {p : Op} → Role p → T (isAccess p) → (m ≡ due t) ⊎ (m ≡ acquiredNode p t v) → m ≡ due t
     cases r a (inl e) = e
-    cases (plain x) a (inr e) = e ∙ plain-heard x t v
+    cases (plain x) a (inr e) = e ∙ plain-acquired x t v
     cases a-take a (inr e) = absurd a
     cases a-give a (inr e) = absurd a
     cases a-look a (inr e) = absurd a
@@ -52,21 +52,21 @@ access-hears {p} {t} {v} {m} a h = cases (role p) a (hears-cases h)
 
 module _ {w : Filling} {p : Op} {t v : ℕ} (ap : T (isAccess p)) where
   leads-due : {e : Event} {after : List Event} → Leads e (fillWith (filling w) after) (act p t v) → Reach w e after (due t)
-  leads-due {e} {after} l = let (m, r, h) = leads-reach {w = w} {e = e} .0 l in subst (Reach w e after) (access-hears ap h) r
+  leads-due {e} {after} l = let (m, r, h) = leads-reach {w = w} {e = e} .0 l in subst (Reach w e after) (access-acquires ap h) r
 
   due-leads : {e : Event} {after : List Event} → Reach w e after (due t) → Leads e (fillWith (filling w) after) (act p t v)
   due-leads {e} r = leads-reach {w = w} {e = e} .1 (due t, r, own)
 
--- what a later act of the task tells, the earlier one tells through it
+-- what a later act of the task releases to, the earlier one releases to through it
 carry-later : {w : Filling} {u j : ℕ} {e : Event} {es after : List Event} {n : Node} → Occurs es j e after → ActsIn u e → Reach w e after n → Carry (due u) (fillWith (filling w) es) n
-carry-later first acts r = move own (r .told) (r .carried)
+carry-later first acts r = move own (r .released) (r .carried)
 carry-later {w} (next {x = act o t m} q) a r = pass (carry-later q a r)
 carry-later {w} (next {x = lost mask} q) a r = carry-append (carry-skip (filling w mask)) (carry-later q a r)
 
 reach-older : {w : Filling} {es after after′ : List Event} {i j u : ℕ} {e x : Event} {n : Node} → Occurs es i x after → Occurs es j e after′ → i < j →
     ActsIn u x → ActsIn u e → Reach w e after′ n → Reach w x after n
 reach-older first first h a b r = absurd (omega arith)
-reach-older {u = u} first (next q) h acts b r = record { n = due u; told = own-next; carried = carry-later q b r }
+reach-older {u = u} first (next q) h acts b r = record { n = due u; released = own-next; carried = carry-later q b r }
 reach-older (next o) first h a b r = absurd (omega arith)
 reach-older (next o) (next q) h a b r = reach-older o q (omega arith) a b r
 
@@ -82,7 +82,7 @@ slot-task p {u = u} hv hu (in-slot {o = o} {u = t} {v = n} a h c ht hn e) =
 
 -- order from an act of a task has come to the task's next act
 acts-reach : {w : Filling} {u : ℕ} {e : Event} {after : List Event} → ActsIn u e → Reach w e after (due u)
-acts-reach {u = u} acts = record { n = due u; told = own-next; carried = carry-skip _ }
+acts-reach {u = u} acts = record { n = due u; released = own-next; carried = carry-skip _ }
 
 -- Candidates by the number
 

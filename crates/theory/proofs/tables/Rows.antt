@@ -11,7 +11,7 @@ use lib.Bits.{bitOr, or-self}
 use lib.ListN.{length, getD, set, length-set, replicate, length-replicate, getD-replicate}
 use lib.Seq.{set-getD, getD-set-same, getD-set-other, ext-getD}
 use Rattle.theory.specs.tables.Turns.{turns}
-use Rattle.theory.specs.tables.Rows.{cell, joinCell, joinRow, rowOf, joinWithCell, joinWith, heardWith, putRow}
+use Rattle.theory.specs.tables.Rows.{cell, joinCell, joinRow, rowOf, joinWithCell, joinWith, acquiredWith, putRow}
 use Rattle.theory.proofs.basics.Reflects.{Reflects, right, wrong, equal, at-most}
 
 -- Definition
@@ -269,9 +269,9 @@ module _ (w to from : ℕ) (b row : List ℕ) where
       stores-at (to * w) (λ c x. max (cell w x to c) (getD row c 0)) b w c l m
       ∙ rw (with-other w b row to c to c (omega arith) l (λ x. omega (arith, x .1)))
 
-  heard-cell : (c : ℕ) → c < w → getD (heardWith max w from row b) c 0 ≡ max (getD row c 0) (cell w b from c)
-  unfolding heardWith
-  heard-cell c h = filled w (λ k. max (getD row k 0) (cell w b from k)) (replicate w 0) c h (omega (arith, length-replicate {A = ℕ} w 0))
+  acquired-cell : (c : ℕ) → c < w → getD (acquiredWith max w from row b) c 0 ≡ max (getD row c 0) (cell w b from c)
+  unfolding acquiredWith
+  acquired-cell c h = filled w (λ k. max (getD row k 0) (cell w b from k)) (replicate w 0) c h (omega (arith, length-replicate {A = ℕ} w 0))
 
 -- a row that is joined with another knows what a row by itself has gathered from it
 module _ (w to from : ℕ) (b row : List ℕ) where
@@ -306,28 +306,28 @@ module _ (w to from : ℕ) (b row : List ℕ) where
       decided (right e) = rw (e, there) (omega arith)
       decided (wrong d) = rw (there, other d) (omega arith)
 
-  heard-inside : (c : ℕ) → c < w → to * w + c < length b →
-      cell w (joinRow max w to from (joinWith max w to row b)) to c ≡ cell w (joinWith max w to (heardWith max w from row b) b) to c
-  heard-inside c l m =
+  acquired-inside : (c : ℕ) → c < w → to * w + c < length b →
+      cell w (joinRow max w to from (joinWith max w to row b)) to c ≡ cell w (joinWith max w to (acquiredWith max w from row b) b) to c
+  acquired-inside c l m =
       joined-at w to from (joinWith max w to row b) row c l (omega (arith, with-length row))
-      ∙ (with-from c l m ∙ sym (with-at w to from b (heardWith max w from row b) c l m ∙ rw (heard-cell w to from b row c l)))
+      ∙ (with-from c l m ∙ sym (with-at w to from b (acquiredWith max w from row b) c l m ∙ rw (acquired-cell w to from b row c l)))
 
-  pub join-heard : joinRow max w to from (joinWith max w to row b) ≡ joinWith max w to (heardWith max w from row b) b
-  join-heard = ext-getD 0 _ _ (long ∙ sym (with-length (heardWith max w from row b))) (λ i h. decided i (omega (arith, long)) (at-most (to * w) i) (at-most (suc i) (to * w + w)))
+  pub join-acquired : joinRow max w to from (joinWith max w to row b) ≡ joinWith max w to (acquiredWith max w from row b) b
+  join-acquired = ext-getD 0 _ _ (long ∙ sym (with-length (acquiredWith max w from row b))) (λ i h. decided i (omega (arith, long)) (at-most (to * w) i) (at-most (suc i) (to * w + w)))
     where
       long : length (joinRow max w to from (joinWith max w to row b)) ≡ length b
       long = join-length (joinWith max w to row b) ∙ with-length row
 
       Same : ℕ → Type 0
-      Same i = getD (joinRow max w to from (joinWith max w to row b)) i 0 ≡ getD (joinWith max w to (heardWith max w from row b) b) i 0
+      Same i = getD (joinRow max w to from (joinWith max w to row b)) i 0 ≡ getD (joinWith max w to (acquiredWith max w from row b) b) i 0
 
       outside : (i : ℕ) → ((c : ℕ) → c < w → ¬ (i ≡ to * w + c)) → Same i
-      outside i f = join-outside (joinWith max w to row b) i f ∙ (with-outside row i f ∙ sym (with-outside (heardWith max w from row b) i f))
+      outside i f = join-outside (joinWith max w to row b) i f ∙ (with-outside row i f ∙ sym (with-outside (acquiredWith max w from row b) i f))
 
       decided : (i : ℕ) → i < length b → {p q : Bool} → Reflects (to * w ≤ i) p → Reflects (i < to * w + w) q → Same i
       decided i h (right l) (right m) =
           let e : to * w + (i - to * w) ≡ i = omega arith in
-          rw e at (heard-inside (i - to * w) (omega arith) (omega arith))
+          rw e at (acquired-inside (i - to * w) (omega arith) (omega arith))
       decided i h (wrong f) y = outside i (λ c l e. f (omega arith))
       decided i h (right l) (wrong f) = outside i (λ c l e. f (omega arith))
 

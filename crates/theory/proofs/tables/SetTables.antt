@@ -14,12 +14,12 @@ use Rattle.theory.specs.tables.Rows.{cell, noteActed, mark}
 use Rattle.theory.specs.history.History.{askers, asker, clashBy, slot, slots, underEach}
 use Rattle.theory.specs.tables.Reckonings.{hasSlot, clearSlot, addSlot, setOwn, setAct}
 use Rattle.theory.proofs.basics.Reflects.{Reflects, right, wrong, equal}
-use Rattle.theory.proofs.order.Carry.{Node, due, Tells}
+use Rattle.theory.proofs.order.Carry.{Node, due, Releases}
 use Rattle.theory.proofs.tables.Rows.{Sized, Knows, knows-same, sized-fresh}
 use Rattle.theory.proofs.tables.Words.{joins-or}
 use Rattle.theory.proofs.tables.Acts.{sized-flow, flow-acted, sized-note, note-other, note-cell, sized-afresh, afresh-own, afresh-cleared, afresh-other, afresh-acted}
 use Rattle.theory.proofs.tables.Marks.{sized-mark}
-use Rattle.theory.proofs.tables.Nodes.{row, InRange, due-in, row-below, row-one, told-row, told-in}
+use Rattle.theory.proofs.tables.Nodes.{row, InRange, due-in, row-below, row-one, released-row, released-in}
 use Rattle.theory.proofs.order.Tests.{Some, some-snoc, snoc-some, snoc-last}
 use Rattle.theory.proofs.fillings.Came.{Came, Newly}
 use Rattle.theory.proofs.fillings.HasActed.{Acted}
@@ -169,12 +169,12 @@ module _ {w : Filling} {es : List Event} {b : List ℕ} {t n : ℕ} (o : Op) (x 
   own-acting : ExactActed w (es ++ (act o t n ∷ [])) 64 (setOwn (kind o) t n b)
   own-acting = acted-act o t n (λ u hu. note-cell (own-part .sized) t u (omega arith) (omega arith) ∙ ap (cond (eqb u t) 1) (own-part .acted u hu)) (x .acting)
 
-  pub sets-act : ((u : ℕ) → Tells (act o t n) (due u) → (u ≡ t) ⊎ (¬ Acted w u es)) → ExactSets w (es ++ (act o t n ∷ [])) (setAct (fills w) (kind o) t n b)
+  pub sets-act : ((u : ℕ) → Releases (act o t n) (due u) → (u ≡ t) ⊎ (¬ Acted w u es)) → ExactSets w (es ++ (act o t n ∷ [])) (setAct (fills w) (kind o) t n b)
   sets-act starts =
       record {
         sized = sized-flow own-sized bitOr (fills w) _ _ t;
         column = λ s l. exact-act (joins-or (s % 32)) (keeps s (act o t n)) starts ht hn (word-below l) own-sized own-acting (x .column s l .ended) (noted own-part s l);
-        acting = acted-same (λ u hu. flow-acted bitOr (fills w) _ own-sized (rw (told-row o t n) (row-below (told-in o ht hn))) ht (omega arith)) own-acting;
+        acting = acted-same (λ u hu. flow-acted bitOr (fills w) _ own-sized (rw (released-row o t n) (row-below (released-in o ht hn))) ht (omega arith)) own-acting;
       }
 
 -- Marks

@@ -11,13 +11,13 @@ use Rattle.theory.specs.tables.Turns.{turns}
 use Rattle.theory.specs.order.Limits.{tasks}
 use Rattle.theory.specs.order.Recording.{lossMark, accesses}
 use Rattle.theory.specs.fillings.Completion.{bit, Filling, fills}
-use Rattle.theory.specs.tables.Rows.{rowCount, dueRow, cell, noteActed, onward, mark}
+use Rattle.theory.specs.tables.Rows.{rowCount, taskRow, cell, noteActed, onward, mark}
 use Rattle.theory.specs.history.History.{slot, latestSlot, latestNumber, underEach}
 
 -- Clocks: at row n and column u the number of the last record of task u from which order has come to node n
 
 abbrev pub clockOwn : ℕ → ℕ → List ℕ → List ℕ
-clockOwn task number b = noteActed tasks task (set b (dueRow task * tasks + task) number)
+clockOwn task number b = noteActed tasks task (set b (taskRow task * tasks + task) number)
 
 abbrev pub clockAct : Bool → ℕ → ℕ → ℕ → ℕ → List ℕ → List ℕ
 clockAct asked k task on number b = onward max tasks asked k task on (clockOwn task number b)
@@ -64,7 +64,7 @@ addSlot r s b = set b (r * slotWords + slotWord s) (withBit (slotPlace s) (cell 
 
 -- an access is kept anew: order from it has come to its own task's next act, and to nothing else
 abbrev pub setOwn : ℕ → ℕ → ℕ → List ℕ → List ℕ
-setOwn k task on b = noteActed slotWords task (underEach (λ s b. addSlot (dueRow task) s (clearSlot s b)) k on task b)
+setOwn k task on b = noteActed slotWords task (underEach (λ s b. addSlot (taskRow task) s (clearSlot s b)) k on task b)
 
 abbrev pub setAct : Bool → ℕ → ℕ → ℕ → List ℕ → List ℕ
 setAct asked k task on b = onward bitOr slotWords asked k task on (setOwn k task on b)
@@ -75,10 +75,10 @@ setsBy w k task on b = cond (eqb k lossMark) (mark bitOr slotWords (w on) b) (se
 -- Which tasks' latest conflicting access has no path to an access. A task's own never counts: order from it has come to its next act.
 
 abbrev pub clockApart : List ℕ → List ℕ → ℕ → ℕ → ℕ → ℕ → Bool
-clockApart cells last k task on u = ltb (cell tasks cells (dueRow task) u) (latestNumber last k on u)
+clockApart cells last k task on u = ltb (cell tasks cells (taskRow task) u) (latestNumber last k on u)
 
 abbrev pub setApart : List ℕ → List ℕ → ℕ → ℕ → ℕ → ℕ → Bool
-setApart cells last k task on u = ltb 0 (latestNumber last k on u) && not (hasSlot cells (dueRow task) (latestSlot k on u))
+setApart cells last k task on u = ltb 0 (latestNumber last k on u) && not (hasSlot cells (taskRow task) (latestSlot k on u))
 
 abbrev pub bitOf : Bool → ℕ
 bitOf true = 1

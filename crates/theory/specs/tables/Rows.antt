@@ -14,8 +14,8 @@ use Rattle.theory.specs.fillings.Completion.{bit}
 abbrev pub rowCount : ℕ
 rowCount = 81
 
-abbrev pub dueRow : ℕ → ℕ
-dueRow t = t
+abbrev pub taskRow : ℕ → ℕ
+taskRow t = t
 
 abbrev pub semaphoreRow : ℕ → ℕ
 semaphoreRow s = 16 + s
@@ -38,21 +38,21 @@ cell w b r c = getD b (r * w + c) 0
 abbrev pub joinsActed : ℕ → List ℕ → ℕ → ℕ → Bool
 joinsActed w b k on = eqb k (kind Op.join) && ltb 0 (cell w b actedRow on)
 
--- the row that an act of a kind hears beside its own task's, and that own row where there is none: a take hears its semaphore, a look
--- its flag, and a join the ended task, whose next act has heard what its acts knew, if there were any
-abbrev pub heardRow : ℕ → ℕ → ℕ → Bool → ℕ
-heardRow k task on joins =
-    cond (eqb k (kind Op.take)) (semaphoreRow on) (cond (eqb k (kind Op.look)) (flagRow on) (cond joins (dueRow on) (dueRow task)))
+-- the row that an act of a kind acquires beside its own task's, and that own row where there is none: a take acquires its semaphore, a look
+-- its flag, and a join the ended task, whose next act has acquired what its acts knew, if there were any
+abbrev pub acquiredRow : ℕ → ℕ → ℕ → Bool → ℕ
+acquiredRow k task on joins =
+    cond (eqb k (kind Op.take)) (semaphoreRow on) (cond (eqb k (kind Op.look)) (flagRow on) (cond joins (taskRow on) (taskRow task)))
 
--- the row that it tells beside its own task's: a give tells its semaphore, a set its flag, a start the task's next act
-abbrev pub toldRow : ℕ → ℕ → ℕ → ℕ
-toldRow k task on =
+-- the row that it releases to beside its own task's: a give releases to its semaphore, a set its flag, a start the task's next act
+abbrev pub releasedRow : ℕ → ℕ → ℕ → ℕ
+releasedRow k task on =
     cond (eqb k (kind Op.give)) (semaphoreRow on)
-    (cond (eqb k (kind Op.set)) (flagRow on) (cond (eqb k (kind Op.start)) (dueRow on) (dueRow task)))
+    (cond (eqb k (kind Op.set)) (flagRow on) (cond (eqb k (kind Op.start)) (taskRow on) (taskRow task)))
 
--- what is told to an object is told to the hub as well, in a table whose marks ask it
-abbrev pub alsoTold : Bool → ℕ → ℕ → ℕ
-alsoTold asked told task = cond (ltb told (semaphoreRow 0) || not asked) (dueRow task) hub
+-- what is released to an object is released to the hub as well, in a table whose marks ask it
+abbrev pub alsoReleased : Bool → ℕ → ℕ → ℕ
+alsoReleased asked released task = cond (ltb released (semaphoreRow 0) || not asked) (taskRow task) hub
 
 -- what row `from` knows is known to row `to` as well
 abbrev pub joinCell : (ℕ → ℕ → ℕ) → ℕ → ℕ → ℕ → ℕ → List ℕ → List ℕ
@@ -73,17 +73,17 @@ unfoldable pub joinWith : (ℕ → ℕ → ℕ) → ℕ → ℕ → List ℕ →
 joinWith j w to row b = turns w (joinWithCell j w to row) b
 
 -- such a row with what row `from` knows, too
-unfoldable pub heardWith : (ℕ → ℕ → ℕ) → ℕ → ℕ → List ℕ → List ℕ → List ℕ
-heardWith j w from row b = turns w (λ c x. set x c (j (getD row c 0) (cell w b from c))) (replicate w 0)
+unfoldable pub acquiredWith : (ℕ → ℕ → ℕ) → ℕ → ℕ → List ℕ → List ℕ → List ℕ
+acquiredWith j w from row b = turns w (λ c x. set x c (j (getD row c 0) (cell w b from c))) (replicate w 0)
 
 -- row `to` with the cells of such a row
 unfoldable pub putRow : ℕ → ℕ → List ℕ → List ℕ → List ℕ
 putRow w to row b = turns w (λ c b. set b (to * w + c) (getD row c 0)) b
 
--- order over an act of a task: its next act knows what the heard row knows, and it is passed on
+-- order over an act of a task: its next act knows what the acquired row knows, and it is passed on
 unfoldable pub flow : (ℕ → ℕ → ℕ) → ℕ → Bool → ℕ → ℕ → ℕ → List ℕ → List ℕ
-flow j w asked heard told task b =
-    joinRow j w (alsoTold asked told task) (dueRow task) (joinRow j w told (dueRow task) (joinRow j w (dueRow task) heard b))
+flow j w asked acquired released task b =
+    joinRow j w (alsoReleased asked released task) (taskRow task) (joinRow j w released (taskRow task) (joinRow j w (taskRow task) acquired b))
 
 -- the task has acted
 abbrev pub noteActed : ℕ → ℕ → List ℕ → List ℕ
@@ -91,33 +91,33 @@ noteActed w task b = set b (actedRow * w + task) 1
 
 -- a table after an act whose own part is in it already
 abbrev pub onward : (ℕ → ℕ → ℕ) → ℕ → Bool → ℕ → ℕ → ℕ → List ℕ → List ℕ
-onward j w asked k task on b = flow j w asked (heardRow k task on (joinsActed w b k on)) (toldRow k task on) task b
+onward j w asked k task on b = flow j w asked (acquiredRow k task on (joinsActed w b k on)) (releasedRow k task on) task b
 
 -- the row, or the hub in its place, which joined with itself stays as it is
 abbrev pub rowOrHub : Bool → ℕ → ℕ
 rowOrHub true r = r
 rowOrHub false r = hub
 
--- what a mark's lost records can hear comes to the hub: the named tasks' next acts, and any object, which it knows already
+-- what a mark's lost records can acquire comes to the hub: the named tasks' next acts, and any object, which it knows already
 unfoldable pub gather : (ℕ → ℕ → ℕ) → ℕ → ℕ → List ℕ → List ℕ
-gather j w mask b = turns 16 (λ t b. joinRow j w hub (rowOrHub (bit mask t) (dueRow t)) b) b
+gather j w mask b = turns 16 (λ t b. joinRow j w hub (rowOrHub (bit mask t) (taskRow t)) b) b
 
--- what they can tell, by rows: the named tasks' next acts and the objects
-abbrev pub isTold : ℕ → ℕ → Bool
-isTold mask r = cond (ltb r (semaphoreRow 0)) (bit mask r) true
+-- what they can release to, by rows: the named tasks' next acts and the objects
+abbrev pub isReleased : ℕ → ℕ → Bool
+isReleased mask r = cond (ltb r (semaphoreRow 0)) (bit mask r) true
 
--- each row that they can tell knows what the hub knows then, which has heard what the row knew, and nothing else
+-- each row that they can release to knows what the hub knows then, which has acquired what the row knew, and nothing else
 unfoldable pub spread : ℕ → ℕ → List ℕ → List ℕ
-spread w mask b = turns hub (λ r x. putRow w (rowOrHub (isTold mask r) r) (rowOf w hub b) x) b
+spread w mask b = turns hub (λ r x. putRow w (rowOrHub (isReleased mask r) r) (rowOf w hub b) x) b
 
 -- the named tasks have acted
 unfoldable pub noteNamed : ℕ → ℕ → List ℕ → List ℕ
 noteNamed w mask b = turns 16 (λ t b. set b (actedRow * w + t) (cond (bit mask t) 1 (cell w b actedRow t))) b
 
--- the fullest filling of a mark, in closed form: whatever a lost record can hear goes on to all that one can tell
+-- the fullest filling of a mark, in closed form: whatever a lost record can acquire goes on to all that one can release to
 unfoldable pub mix : (ℕ → ℕ → ℕ) → ℕ → ℕ → List ℕ → List ℕ
 mix j w mask b = noteNamed w mask (spread w mask (gather j w mask b))
 
--- a mark whose lost records of these tasks are filled in; where there are none, nobody is told
+-- a mark whose lost records of these tasks are filled in; where there are none, nothing is released
 abbrev pub mark : (ℕ → ℕ → ℕ) → ℕ → ℕ → List ℕ → List ℕ
 mark j w mask b = cond (eqb mask 0) b (mix j w mask b)

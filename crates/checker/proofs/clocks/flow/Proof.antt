@@ -10,15 +10,15 @@ use borrow.Author.Needs.{needs}
 use Rattle.checker.proofs.clocks.flow.Statement.{statement}
 use Rattle.checker.proofs.clocks.flow.Tie as tie
 
--- the own row alone is told
-own-told : (asked : Bool) (heard : ℕ) {told task : ℕ} (b : List ℕ) {x : List ℕ} → told ≡ task → task < 16 → x ≡ joinRow max 16 task heard b →
-    x ≡ flow max 16 asked heard told task b
+-- the own row alone is released to
+own-released : (asked : Bool) (acquired : ℕ) {released task : ℕ} (b : List ℕ) {x : List ℕ} → released ≡ task → task < 16 → x ≡ joinRow max 16 task acquired b →
+    x ≡ flow max 16 asked acquired released task b
 unfolding flow
-own-told asked heard {task = t} b {x} e h q = rw (e, lt-ltb t 16 h, ← q, ← join-self same-max 16 t x) (join-self same-max 16 t x)
+own-released asked acquired {task = t} b {x} e h q = rw (e, lt-ltb t 16 h, ← q, ← join-self same-max 16 t x) (join-self same-max 16 t x)
 
 returns : tie.Need-returns
 returns c =
-    let b = c .before .before .before in own-told (b .args .asked) (b .args .heard) (b .args .cells .now) (c .if1 .taken) (b .pre .2) (c .before .join-row .ensures)
+    let b = c .before .before .before in own-released (b .args .asked) (b .args .acquired) (b .args .cells .now) (c .if1 .taken) (b .pre .2) (c .before .join-row .ensures)
 
 returns-2 : tie.Need-returns-2
 unfolding flow

@@ -1,4 +1,4 @@
--- A mark mixes the fullest sets; an act goes to both tables, and an access hears and tells no other row.
+-- A mark mixes the fullest sets; an act goes to both tables, and an access acquires from and releases to no other row.
 use mathlib.Core.Path.{_≡_, sym, ap, _∙_}
 use mathlib.Core.Bool.{Bool, true, false}
 use mathlib.Core.List.{List}

@@ -1,4 +1,4 @@
--- Three joins, one after the other; the last is one of a row with itself where no object is told.
+-- Three joins, one after the other; the last is one of a row with itself where no object is released to.
 use mathlib.Core.Path.{sym, _∙_}
 use Rattle.theory.specs.tables.Rows.{flow}
 use Rattle.theory.proofs.tables.Rows.{same-or, join-self}

@@ -1,9 +1,9 @@
--- The row that a mark tells in turn r, by the two ranges of rows.
+-- The row that a mark releases to in turn r, by the two ranges of rows.
 use mathlib.Core.Path.{sym, _∙_}
 use borrow.Author.Tests.{lt-ltb, le-ltb}
 use borrow.Author.Needs.{needs}
-use Rattle.checker.proofs.rows.told_by.Statement.{statement}
-use Rattle.checker.proofs.rows.told_by.Tie as tie
+use Rattle.checker.proofs.rows.released_by.Statement.{statement}
+use Rattle.checker.proofs.rows.released_by.Tie as tie
 
 returns : tie.Need-returns
 returns c = (simp (lt-ltb _ _ (c .before .before .if1 .taken), sym (c .before .has-bit .ensures) ∙ c .if2 .taken), search needs)
@@ -14,6 +14,6 @@ returns-2 c = (simp (lt-ltb _ _ (c .before .before .if1 .taken), sym (c .before 
 returns-3 : tie.Need-returns-3
 returns-3 c = (simp (le-ltb _ _ (c .if1 .left)), search needs)
 
-pub told-by-spec : {M : Type 1} → statement M
-told-by-spec = tie.close (tie.spec
+pub released-by-spec : {M : Type 1} → statement M
+released-by-spec = tie.close (tie.spec
     (λ c. search needs) (λ c κs. search needs) returns returns-2 returns-3)
