@@ -6,13 +6,13 @@ use crate::rows::has_bit;
 use theory::Control;
 use theory::GIVE;
 use theory::JOIN;
+use theory::KINDS;
 use theory::LAST_FLAG;
 use theory::LAST_SEMAPHORE;
 use theory::LAST_TASK;
 use theory::LAST_VARIABLE;
 use theory::LOOK;
 use theory::LOST;
-use theory::READ;
 use theory::RECORDS;
 use theory::Record;
 use theory::SET;
@@ -186,10 +186,11 @@ fn act_refusal(control: &Control, r: Record) -> u32
 pub fn refusal(control: &Control, r: Record) -> u32
     ensures { λ n. ⌜ n ≡ refusalIn (now (control .entry)) r ⌝ }
 {
-    let kind = r.kind;
-    match kind {
-        READ..=JOIN => act_refusal(control, r),
-        LOST => mark_refusal(control, r),
-        _ => 1,
+    if KINDS <= r.kind {
+        return 1;
     }
+    if r.kind == LOST {
+        return mark_refusal(control, r);
+    }
+    act_refusal(control, r)
 }
