@@ -28,7 +28,7 @@ fn compare(tally: &mut Tally, name: &str, records: &[Numbers]) {
     let reading = read(records);
     for (&(kind, task, on), fate) in records.iter().zip(&reading.fates) {
         match fate {
-            Fate::Refused(row) if kind > oracle::LOST || task.max(on) > SAYABLE => tally.see(&format!("unsayable, refused {row}"), 1),
+            Fate::Refused(row) if kind > oracle::last_kind() || task.max(on) > SAYABLE => tally.see(&format!("unsayable, refused {row}"), 1),
             _ => {}
         }
     }
@@ -46,7 +46,7 @@ fn each_kind(tally: &mut Tally) {
 }
 
 fn any(random: &mut Random) -> Numbers {
-    let kinds = if random.percent(70) { oracle::LOST as usize + 1 } else { 256 };
+    let kinds = if random.percent(70) { oracle::last_kind() as usize + 1 } else { 256 };
     let kind = random.below(kinds) as u8;
     let number = random.next() as u32;
     let task = if random.percent(90) { random.pick(&TASKS) } else { number };
