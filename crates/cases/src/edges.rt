@@ -4,6 +4,7 @@ use crate::records::GIVE;
 use crate::records::JOIN;
 use crate::records::LOOK;
 use crate::records::LOST;
+use crate::records::NONE;
 use crate::records::READ;
 use crate::records::SET;
 use crate::records::START;
@@ -21,7 +22,7 @@ fn row(name: &[u8], kind: u8, task: u32, on: u32) {
 
 // Rows 1 to 9 but row 5, which full.rt has.
 pub(crate) fn rows() {
-    row(b"row 1", 9, 0, 1);
+    row(b"row 1", NONE, 0, 1);
     once(255, 0, 1);
     row(b"row 2", READ, 16, 1);
     row(b"row 3", TAKE, 0, 32);
@@ -35,7 +36,7 @@ pub(crate) fn rows() {
 // Rows 1, 2 and 3 each before all after it; row 6 before 7 and 8; a join of an unseen task.
 pub(crate) fn first_row() {
     line(b"the first row that applies");
-    once(9, 16, 64);
+    once(NONE, 16, 64);
     once(READ, 16, 64);
     once(TAKE, 1, 32);
     once(START, 1, 0);

@@ -3,6 +3,7 @@ use crate::records::GIVE;
 use crate::records::JOIN;
 use crate::records::LOOK;
 use crate::records::LOST;
+use crate::records::NONE;
 use crate::records::READ;
 use crate::records::SET;
 use crate::records::START;
@@ -11,9 +12,6 @@ use crate::records::WRITE;
 use crate::records::record;
 use theory::Record;
 ghost use Prim.Native.Nat.{_+_, _*_, _≤_};
-
-// A kind number of none of the nine.
-const NONE: u8 = 255;
 
 fn kind_of(sign: u8) -> u8 {
     match sign {

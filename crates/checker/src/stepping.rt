@@ -1,4 +1,4 @@
-// The step over all nine kinds of records, by the clocks, and the same by the sets. In place, on tables that the caller lends, and by value.
+// The step over all kinds of records, by the clocks, and the same by the sets. In place, on tables that the caller lends, and by value.
 use crate::clocks::advance_clocks;
 use crate::clocks::clock_masks;
 use crate::control::COUNT;

@@ -94,7 +94,7 @@ n when b = record { number = n; applies = b }
 -- the rows for a record, in the order in which they are looked at
 abbrev pub rows : Standing → Record → List Row
 rows s r =
-    -- the op is none of the nine
+    -- the op is none of the kinds
     (1 when leb (length kinds) (r .kind))
     -- acting task above 15
     ∷ (2 when (isAct r && leb tasks (r .task)))
