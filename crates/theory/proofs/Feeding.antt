@@ -16,7 +16,7 @@ use Rattle.theory.specs.Recording.{Op, Event, act, lost, kind, lossMark,
 use Rattle.theory.specs.Completion.{names, Named, arrived, full, Filling}
 use Rattle.theory.specs.Acceptance.{isLive, phase, Standing, standing, refusal, joined, fedAfter}
 use Rattle.theory.specs.Control.{controlAfter}
-use Rattle.theory.specs.History.{lastAfter}
+use Rattle.theory.specs.History.{slots, lastAfter}
 use Rattle.theory.specs.Reckonings.{clocksBy, setsBy, clockMask, setMask, clockMasks, setMasks}
 use Rattle.theory.specs.Step.{nextNumber, answeredBy, stepOf, stepBy, setStepOf, setStepBy, freshControl, freshState, freshSets}
 use Rattle.theory.specs.Decide.{partner}
@@ -213,7 +213,7 @@ after-all {c = c} x es s (r ∷ rs) h = after-all x (joined es r (refusal es r))
 
 -- Clocks and sets are such
 
-fresh-base : Base [] freshControl (replicate 2048 0)
+fresh-base : Base [] freshControl (replicate slots 0)
 fresh-base = record { control-exact = fresh-control; history = fresh-history; ranged = fresh-ranged; seen = fresh-seen }
 
 pub clocks-simulate : Simulates byClocks Represents

@@ -12,7 +12,7 @@ use Rattle.theory.specs.Limits.{tasks}
 use Rattle.theory.specs.Recording.{lossMark, accesses}
 use Rattle.theory.specs.Completion.{bit, Filling}
 use Rattle.theory.specs.Tables.{rowCount, dueRow, cell, noteActed, onward, mark}
-use Rattle.theory.specs.History.{slot, latestSlot, latestNumber, underEach}
+use Rattle.theory.specs.History.{slot, slots, latestSlot, latestNumber, underEach}
 
 -- Clocks: at row n and column u the number of the last record of task u from which order has come to node n
 
@@ -30,7 +30,7 @@ clocksBy w k task on number b = cond (eqb k lossMark) (mark max tasks (w on) b) 
 
 -- so many words a row
 abbrev pub slotWords : ℕ
-slotWords = 64
+slotWords = slots / 32
 
 -- the word of a slot, and its place there
 abbrev pub slotWord : ℕ → ℕ

@@ -17,8 +17,10 @@ use Rattle.theory.specs.declared.masks.Masks.{Masks}
 use Rattle.theory.specs.Completion.{arrived, full}
 use Rattle.theory.specs.Control.{countIn, refusalIn, controlAfter}
 use Rattle.theory.specs.Recording.{accesses}
-use Rattle.theory.specs.History.{latestNumber, lastAfter}
-use Rattle.theory.specs.Reckonings.{clocksBy, setsBy, masksBy, clockMasks, setMasks, lowestTask}
+use Rattle.theory.specs.Limits.{tasks}
+use Rattle.theory.specs.Tables.{cellCount}
+use Rattle.theory.specs.History.{slots, latestNumber, lastAfter}
+use Rattle.theory.specs.Reckonings.{slotWords, clocksBy, setsBy, masksBy, clockMasks, setMasks, lowestTask}
 
 abbrev pub recordNumber : ℕ → RecordNumber
 recordNumber n = record { 0 = n }
@@ -118,7 +120,7 @@ abbrev pub freshControl : List ℕ
 freshControl = set (replicate 17 0) 0 1
 
 unfoldable pub freshState : State
-freshState = record { control = freshControl; last = replicate 2048 0; clocks = replicate 1312 0; fullclocks = replicate 1312 0 }
+freshState = record { control = freshControl; last = replicate slots 0; clocks = replicate (cellCount tasks) 0; fullclocks = replicate (cellCount tasks) 0 }
 
 unfoldable pub freshSets : SetState
-freshSets = record { control = freshControl; last = replicate 2048 0; sets = replicate 5248 0; fullsets = replicate 5248 0 }
+freshSets = record { control = freshControl; last = replicate slots 0; sets = replicate (cellCount slotWords) 0; fullsets = replicate (cellCount slotWords) 0 }
