@@ -1,5 +1,6 @@
 -- Three joins, one after the other; the last is one of a row with itself where no object is told.
 use borrow.Author.Tests.{lt-ltb, le-ltb}
+use Rattle.theory.specs.Reckonings.{slotWords}
 use Rattle.theory.specs.Tables.{flow}
 use Rattle.theory.proofs.Tables.{same-or, join-self}
 use borrow.Author.Needs.{needs}
@@ -9,7 +10,7 @@ use Rattle.checker.proofs.sets.flow.Tie as tie
 returns : tie.Need-returns
 unfolding flow
 returns c =
-    rw (lt-ltb _ _ (c .if1 .taken), ← c .before .before .before .join-row .ensures, ← c .before .join-row2 .ensures) (join-self same-or 64 _ _)
+    rw (lt-ltb _ _ (c .if1 .taken), ← c .before .before .before .join-row .ensures, ← c .before .join-row2 .ensures) (join-self same-or slotWords _ _)
 
 returns-2 : tie.Need-returns-2
 unfolding flow

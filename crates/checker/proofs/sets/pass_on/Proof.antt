@@ -1,6 +1,7 @@
 -- The rows that an act hears and tells are in the table, and order flows over them.
 use mathlib.Core.Path.{sym, _∙_, subst}
 use Prim.Native.Nat.{ℕ, _<_}
+use Rattle.theory.specs.Reckonings.{slotWords}
 use Rattle.theory.specs.Recording.{seriesOf}
 use Rattle.theory.proofs.Ranges.{heard-fits, told-fits, row-fits, joins-kind}
 use borrow.Author.Needs.{needs}
@@ -15,7 +16,7 @@ flow-requires c κs =
     let s = c .before .before .before in
     let f = s .before .before .pre in
     let a = s .before .before .args in (
-      row-fits (c .before .heard-row .ensures) (heard-fits f (λ e. joins-kind 64 (a .cells .now) (a .kind) (a .on) (sym (s .joins-acted .ensures) ∙ e))),
+      row-fits (c .before .heard-row .ensures) (heard-fits f (λ e. joins-kind slotWords (a .cells .now) (a .kind) (a .on) (sym (s .joins-acted .ensures) ∙ e))),
       row-fits (c .told-row .ensures) (told-fits f),
       f .task-fits,
     )

@@ -1,6 +1,7 @@
 -- A copy of the hub is put into what a mark can tell, row by row.
 use Prim.Native.Nat.{_≤_, _-_}
 use native.Mathlib.Omega.{arith}
+use Rattle.theory.specs.Reckonings.{slotWords}
 use Rattle.theory.specs.Tables.{putRow, isTold, rowOrHub, spread}
 use Rattle.theory.proofs.Turns.{Turned, no-turn, one-turn, all-turns}
 use borrow.Author.Needs.{needs}
@@ -8,7 +9,7 @@ use Rattle.checker.proofs.sets.spread.Statement.{statement}
 use Rattle.checker.proofs.sets.spread.Tie as tie
 
 abbrev Inv-loop : tie.InvT-loop
-Inv-loop cells₀ mask hub r₀ cells r = (r ≤ 80) × Turned (λ q x. putRow 64 (rowOrHub (isTold mask q) q) hub x) cells₀ r cells
+Inv-loop cells₀ mask hub r₀ cells r = (r ≤ 80) × Turned (λ q x. putRow slotWords (rowOrHub (isTold mask q) q) hub x) cells₀ r cells
 
 abbrev μ-loop : tie.MeasureT-loop
 μ-loop cells₀ mask hub r₀ cells r = 80 - r
