@@ -23,6 +23,7 @@ use theory::History;
 use theory::JOIN;
 use theory::LOST;
 use theory::Masks;
+use theory::SLOT_WORDS;
 use theory::Sets;
 use theory::TASKS;
 use theory::Task;
@@ -43,7 +44,7 @@ ghost use Rattle.theory.specs.order.Recording.{Op, kind as number};
 ghost use Rattle.theory.specs.acceptance.Table.{Fitting, Proper};
 
 // Where the row of what has acted begins.
-const ACTED: usize = 5184;
+const ACTED: usize = 81 * SLOT_WORDS;
 
 // A word with all its bits.
 const ALL: u32 = 4_294_967_295;
@@ -57,34 +58,34 @@ fn join_row(cells: &mut Sets, to: usize, from: usize)
         return;
     }
     let mut c = 0;
-    while c < 64 {
-        cells[to * 64 + c] = cells[to * 64 + c] | cells[from * 64 + c];
+    while c < SLOT_WORDS {
+        cells[to * SLOT_WORDS + c] = cells[to * SLOT_WORDS + c] | cells[from * SLOT_WORDS + c];
         c += 1;
     }
 }
 
 // A row by itself.
-fn row_of(cells: &Sets, from: usize) -> [u32; 64]
+fn row_of(cells: &Sets, from: usize) -> [u32; SLOT_WORDS]
     requires { ⌜ from < 82 ⌝ }
     ensures { λ r. ⌜ r ≡ rowOf slotWords from (now (cells .entry)) ⌝ }
 {
-    let mut row = [0u32; 64];
+    let mut row = [0u32; SLOT_WORDS];
     let mut c = 0;
-    while c < 64 {
-        row[c] = cells[from * 64 + c];
+    while c < SLOT_WORDS {
+        row[c] = cells[from * SLOT_WORDS + c];
         c += 1;
     }
     row
 }
 
 // What a row that stands by itself knows is known to row `to` as well.
-fn join_with(cells: &mut Sets, to: usize, row: &[u32; 64])
+fn join_with(cells: &mut Sets, to: usize, row: &[u32; SLOT_WORDS])
     requires { ⌜ to < 82 ⌝ }
     ensures { λ _. ⌜ now (cells .exit) ≡ joinWith bitOr slotWords to (now (row .entry)) (now (cells .entry)) ⌝ }
 {
     let mut c = 0;
-    while c < 64 {
-        cells[to * 64 + c] = cells[to * 64 + c] | row[c];
+    while c < SLOT_WORDS {
+        cells[to * SLOT_WORDS + c] = cells[to * SLOT_WORDS + c] | row[c];
         c += 1;
     }
 }
@@ -103,13 +104,13 @@ fn join_copied(cells: &mut Sets, to: usize, from: usize)
 }
 
 // Row `to` with the cells of a row that stands by itself.
-fn put_row(cells: &mut Sets, to: usize, row: &[u32; 64])
+fn put_row(cells: &mut Sets, to: usize, row: &[u32; SLOT_WORDS])
     requires { ⌜ to < 82 ⌝ }
     ensures { λ _. ⌜ now (cells .exit) ≡ putRow slotWords to (now (row .entry)) (now (cells .entry)) ⌝ }
 {
     let mut c = 0;
-    while c < 64 {
-        cells[to * 64 + c] = row[c];
+    while c < SLOT_WORDS {
+        cells[to * SLOT_WORDS + c] = row[c];
         c += 1;
     }
 }
@@ -187,7 +188,7 @@ fn clear_slot(cells: &mut Sets, s: usize)
     let others = all_but((s % 32) as u32);
     let mut r = 0;
     while r < 81 {
-        cells[r * 64 + word] = cells[r * 64 + word] & others;
+        cells[r * SLOT_WORDS + word] = cells[r * SLOT_WORDS + word] & others;
         r += 1;
     }
 }
@@ -197,7 +198,7 @@ fn add_slot(cells: &mut Sets, r: usize, s: usize)
     requires { ⌜ (r < 82) × (s < slots) ⌝ }
     ensures { λ _. ⌜ now (cells .exit) ≡ addSlot r s (now (cells .entry)) ⌝ }
 {
-    let at = r * 64 + s / 32;
+    let at = r * SLOT_WORDS + s / 32;
     cells[at] = cells[at] | weight((s % 32) as u32);
 }
 
@@ -293,7 +294,7 @@ fn known_slots(cells: &Sets, r: usize, a: usize, v: u32) -> u32
     ensures { λ q. ⌜ q ≡ knownSlots (now (cells .entry)) r a v ⌝ }
 {
     let s = slot(a, Variable(v), Task(0));
-    cells[r * 64 + s / 32] >> (s % 32) as u32
+    cells[r * SLOT_WORDS + s / 32] >> (s % 32) as u32
 }
 
 // Whether order from task u's latest conflicting access has not come to a row, by what the row knows of them. From its own it has.

@@ -43,6 +43,7 @@ pub use state::Control;
 pub use state::HISTORY_CELLS;
 pub use state::History;
 pub use state::SET_CELLS;
+pub use state::SLOT_WORDS;
 pub use state::SetState;
 pub use state::SetStepped;
 pub use state::Sets;

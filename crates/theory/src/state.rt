@@ -1,4 +1,5 @@
 use crate::answer::Answer;
+use crate::kinds::ASKERS;
 
 // The tables that a state is made of, by their sizes. crates/theory/specs says which cells hold what.
 
@@ -8,17 +9,19 @@ pub const CONTROL_CELLS: usize = 17;
 pub type Control = [u32; CONTROL_CELLS];
 
 // The kept accesses, by variable, task and kind.
-pub const HISTORY_CELLS: usize = 2048;
+pub const HISTORY_CELLS: usize = ASKERS * 64 * 16;
 
 pub type History = [u32; HISTORY_CELLS];
 
 // A row for each node, and one for who has acted; a column for each task.
-pub const CLOCK_CELLS: usize = 1312;
+pub const CLOCK_CELLS: usize = 82 * 16;
 
 pub type Clocks = [u32; CLOCK_CELLS];
 
-// The same rows; a bit for each kept access.
-pub const SET_CELLS: usize = 5248;
+// The same rows; a bit for each kept access, 32 to a word.
+pub const SLOT_WORDS: usize = HISTORY_CELLS / 32;
+
+pub const SET_CELLS: usize = 82 * SLOT_WORDS;
 
 pub type Sets = [u32; SET_CELLS];
 

@@ -213,7 +213,7 @@ after-all {c = c} x es s (r ∷ rs) h = after-all x (recordedAfter es r (refusal
 
 -- Clocks and sets are such
 
-fresh-base : Base [] freshControl (replicate 2048 0)
+fresh-base : Base [] freshControl (replicate slots 0)
 fresh-base = record { control-exact = fresh-control; history = fresh-history; ranged = fresh-ranged; seen = fresh-seen }
 
 pub clocks-simulate : Simulates byClocks Represents

@@ -2,7 +2,8 @@
 use mathlib.Core.Path.{_≡_, refl, sym, _∙_, ap, subst}
 use mathlib.Core.Bool.{Bool, true, false, not, _||_, _&&_}
 use mathlib.Core.Logic.{_≢_}
-use Prim.Native.Nat.{ℕ, zero, suc, _≤_, _<_}
+use mathlib.Core.List.{List, [], _∷_}
+use Prim.Native.Nat.{ℕ, _≤_, _<_}
 use native.Mathlib.Omega.{arith}
 use borrow.Author.Tests.{eqb-true, ne-eqb, le-ltb, not-false}
 use lib.Dec.{ltb, eqb}
@@ -30,29 +31,37 @@ each-number p tried beyond k = decided (at-most (length kinds) k)
 
 -- Accesses
 
-no-other : {a b : Bool} → (a || b) ≡ true → a ≡ false → b ≡ true
-no-other {a} {b} e f = subst (λ (x : Bool). (x || b) ≡ true) f e
-
 negated : (b : Bool) → not b ≡ true → b ≡ false
 negated true e = sym e
 negated false e = refl
 
-accesses-tried : anyBelow (length kinds) (λ k. not ((eqb k (kind read) || eqb k (kind write)) || not (accesses k))) ≡ false
+or-true : (b : Bool) → (b || true) ≡ true
+or-true true = refl
+or-true false = refl
+
+-- k is the kind of none of these ops
+abbrev pub NoneOf : List Op → ℕ → Type 0
+NoneOf [] k = Unit
+NoneOf (o ∷ os) k = (k ≢ kind o) × NoneOf os k
+
+abbrev isOneOf : List Op → ℕ → Bool
+isOneOf [] k = false
+isOneOf (o ∷ os) k = eqb k (kind o) || isOneOf os k
+
+none-is : (os : List Op) (k : ℕ) → NoneOf os k → isOneOf os k ≡ false
+none-is [] k h = refl
+none-is (o ∷ os) k h = rw (ne-eqb k (kind o) (h .0)) (none-is os k (h .1))
+
+accesses-tried : anyBelow (length kinds) (λ k. not (isOneOf askers k || not (accesses k))) ≡ false
 unfolding turns
 accesses-tried = refl
 
--- no kind but these is an access
-pub no-access-else : (k : ℕ) → k ≢ kind read → k ≢ kind write → accesses k ≡ false
-no-access-else k r w =
-    negated (accesses k) (rw (ne-eqb k (kind read) r, ne-eqb k (kind write) w) at
-    (each-number (λ k. (eqb k (kind read) || eqb k (kind write)) || not (accesses k)) accesses-tried beyond k))
+-- no kind but those that ask is an access
+pub no-access-else : (k : ℕ) → NoneOf askers k → accesses k ≡ false
+no-access-else k n = negated (accesses k) (rw (none-is askers k n) at (each-number (λ k. isOneOf askers k || not (accesses k)) accesses-tried beyond k))
   where
-    beyond : (k : ℕ) → length kinds ≤ k → ((eqb k (kind read) || eqb k (kind write)) || not (accesses k)) ≡ true
-    beyond k h = rw (ap accessBy (kind-above k h)) (or-true (eqb k (kind read) || eqb k (kind write)))
-      where
-        or-true : (b : Bool) → (b || true) ≡ true
-        or-true true = refl
-        or-true false = refl
+    beyond : (k : ℕ) → length kinds ≤ k → (isOneOf askers k || not (accesses k)) ≡ true
+    beyond k h = rw (ap accessBy (kind-above k h)) (or-true (isOneOf askers k))
 
 -- what is no access clashes with nothing
 pub no-clash : (k : ℕ) (p : Op) → accesses k ≡ false → false ≡ clashBy (kindAt k) p
@@ -64,28 +73,32 @@ no-clash k p e = of (kindAt k) e
 
 -- Who asks
 
-asks-tried : anyBelow (length kinds) (λ k. not (eqb k (kind write) || eqb (askAt k) 0)) ≡ false
+-- all but the first
+abbrev pub laterAskers : List Op
+laterAskers = drop 1 askers
+
+asks-tried : anyBelow (length kinds) (λ k. not (isOneOf laterAskers k || eqb (askAt k) 0)) ≡ false
 unfolding turns
 asks-tried = refl
 
-pub asks-first : (k : ℕ) → k ≢ kind write → 0 ≡ askAt k
-asks-first k w =
-    sym (eqb-true (askAt k) 0 (rw (ne-eqb k (kind write) w) at (each-number (λ k. eqb k (kind write) || eqb (askAt k) 0) asks-tried beyond k)))
+pub asks-first : (k : ℕ) → NoneOf laterAskers k → 0 ≡ askAt k
+asks-first k n =
+    sym (eqb-true (askAt k) 0 (rw (none-is laterAskers k n) at (each-number (λ k. isOneOf laterAskers k || eqb (askAt k) 0) asks-tried beyond k)))
   where
-    beyond : (k : ℕ) → length kinds ≤ k → (eqb k (kind write) || eqb (askAt k) 0) ≡ true
-    beyond k h = rw (kind-above k h, ne-eqb k (kind write) (λ e. omega arith))
+    beyond : (k : ℕ) → length kinds ≤ k → (isOneOf laterAskers k || eqb (askAt k) 0) ≡ true
+    beyond k h = rw (kind-above k h) (or-true (isOneOf laterAskers k))
 
-pub clash-read : (a : ℕ) → a < length askers → eqb a 1 ≡ clashes read (asker a)
-unfolding rule
-clash-read zero h = refl
-clash-read (suc zero) h = refl
-clash-read (suc (suc a)) h = absurd (omega arith)
+-- with whom an op clashes: tried out
+abbrev pub same : Bool → Bool → Bool
+same true b = b
+same false b = not b
 
-pub clash-write : (a : ℕ) → a < length askers → true ≡ clashes write (asker a)
-unfolding rule
-clash-write zero h = refl
-clash-write (suc zero) h = refl
-clash-write (suc (suc a)) h = absurd (omega arith)
+same-true : (a b : Bool) → same a b ≡ true → a ≡ b
+same-true true b e = sym e
+same-true false b e = sym (negated b e)
+
+pub each-asker : (o : Op) (f : ℕ → Bool) → anyBelow (length askers) (λ a. not (same (f a) (clashes o (asker a)))) ≡ false → (a : ℕ) → a < length askers → f a ≡ clashes o (asker a)
+each-asker o f tried a h = same-true (f a) (clashes o (asker a)) (not-false _ (none-below (length askers) (λ a. not (same (f a) (clashes o (asker a)))) tried a h))
 
 -- Series
 

@@ -134,82 +134,82 @@ clock-own-acted {b} s task number t h l =
 apart-places : {s s′ : ℕ} → s′ ≢ s → s′ / 32 ≡ s / 32 → ¬ (s′ % 32 ≡ s % 32)
 apart-places n e f = n (omega arith)
 
-module _ {b : List ℕ} (t : Sized 64 b) (s : ℕ) (m : s < 2048) where
+module _ {b : List ℕ} (t : Sized slotWords b) (s : ℕ) (m : s < slots) where
   abbrev Cleared : ℕ → List ℕ
-  Cleared n = turns n (λ r x. set x (r * 64 + s / 32) (withoutBit (s % 32) (cell 64 x r (s / 32)))) b
+  Cleared n = turns n (λ r x. set x (r * slotWords + s / 32) (withoutBit (s % 32) (cell slotWords x r (s / 32)))) b
 
-  sized-cleared : (n : ℕ) → Sized 64 (Cleared n)
+  sized-cleared : (n : ℕ) → Sized slotWords (Cleared n)
   sized-cleared n = sized-turns n (λ q x z. sized-set z _ _) t
 
   -- rows that the turns have not come to, and other words
-  clear-later : (n r c : ℕ) → c < 64 → ¬ ((r < n) × (c ≡ s / 32)) → cell 64 (Cleared n) r c ≡ cell 64 b r c
+  clear-later : (n r c : ℕ) → c < slotWords → ¬ ((r < n) × (c ≡ s / 32)) → cell slotWords (Cleared n) r c ≡ cell slotWords b r c
   unfolding turns
   clear-later zero r c l f = refl
   clear-later (suc n) r c l f =
-      cell-set-other 64 (Cleared n) n (s / 32) _ r c (omega arith) l (λ x. f (omega (arith, x .0), x .1))
+      cell-set-other slotWords (Cleared n) n (s / 32) _ r c (omega arith) l (λ x. f (omega (arith, x .0), x .1))
       ∙ clear-later n r c l (λ x. f (omega arith, x .1))
 
-  clear-same : (n r : ℕ) → n ≤ 81 → r < n → cell 64 (Cleared n) r (s / 32) ≡ withoutBit (s % 32) (cell 64 b r (s / 32))
+  clear-same : (n r : ℕ) → n ≤ 81 → r < n → cell slotWords (Cleared n) r (s / 32) ≡ withoutBit (s % 32) (cell slotWords b r (s / 32))
   unfolding turns
   clear-same zero r k h = absurd (omega arith)
   clear-same (suc n) r k h = decided (equal r n) (clear-same n r (omega arith))
     where
-      decided : {p : Bool} → Reflects (r ≡ n) p → (r < n → cell 64 (Cleared n) r (s / 32) ≡ withoutBit (s % 32) (cell 64 b r (s / 32))) →
-          cell 64 (set (Cleared n) (n * 64 + s / 32) (withoutBit (s % 32) (cell 64 (Cleared n) n (s / 32)))) r (s / 32) ≡ withoutBit (s % 32) (cell 64 b r (s / 32))
+      decided : {p : Bool} → Reflects (r ≡ n) p → (r < n → cell slotWords (Cleared n) r (s / 32) ≡ withoutBit (s % 32) (cell slotWords b r (s / 32))) →
+          cell slotWords (set (Cleared n) (n * slotWords + s / 32) (withoutBit (s % 32) (cell slotWords (Cleared n) n (s / 32)))) r (s / 32) ≡ withoutBit (s % 32) (cell slotWords b r (s / 32))
       decided (right e) f =
           rw e (cell-set-same (sized-cleared n) n (s / 32) _ (omega arith) (omega arith) ∙ ap (withoutBit (s % 32)) (clear-later n n (s / 32) (omega arith) (λ x. omega (arith, x .0))))
       decided (wrong d) f =
-          cell-set-other 64 (Cleared n) n (s / 32) _ r (s / 32) (omega arith) (omega arith) (λ x. d (x .0)) ∙ f (omega arith)
+          cell-set-other slotWords (Cleared n) n (s / 32) _ r (s / 32) (omega arith) (omega arith) (λ x. d (x .0)) ∙ f (omega arith)
 
-  sized-clear : Sized 64 (clearSlot s b)
+  sized-clear : Sized slotWords (clearSlot s b)
   unfolding clearSlot
   sized-clear = sized-cleared 81
 
   clear-gone : (r : ℕ) → r < 81 → hasSlot (clearSlot s b) r s ≡ false
   unfolding clearSlot
-  clear-gone r h = rw (clear-same 81 r (omega arith) h, without-bit (s % 32) (s % 32) (cell 64 b r (s / 32)) (omega arith) (omega arith), eq-eqb (s % 32) (s % 32) refl)
+  clear-gone r h = rw (clear-same 81 r (omega arith) h, without-bit (s % 32) (s % 32) (cell slotWords b r (s / 32)) (omega arith) (omega arith), eq-eqb (s % 32) (s % 32) refl)
 
-  clear-kept : (r s′ : ℕ) → r < 81 → s′ < 2048 → s′ ≢ s → hasSlot (clearSlot s b) r s′ ≡ hasSlot b r s′
+  clear-kept : (r s′ : ℕ) → r < 81 → s′ < slots → s′ ≢ s → hasSlot (clearSlot s b) r s′ ≡ hasSlot b r s′
   unfolding clearSlot
   clear-kept r s′ h l n = decided (equal (s′ / 32) (s / 32))
     where
       decided : {p : Bool} → Reflects (s′ / 32 ≡ s / 32) p → hasSlot (Cleared 81) r s′ ≡ hasSlot b r s′
       decided (right e) =
-          rw (e, clear-same 81 r (omega arith) h, without-bit (s % 32) (s′ % 32) (cell 64 b r (s / 32)) (omega arith) (omega arith), ne-eqb (s′ % 32) (s % 32) (apart-places n e))
+          rw (e, clear-same 81 r (omega arith) h, without-bit (s % 32) (s′ % 32) (cell slotWords b r (s / 32)) (omega arith) (omega arith), ne-eqb (s′ % 32) (s % 32) (apart-places n e))
       decided (wrong d) = ap (λ (x : ℕ). bit x (s′ % 32)) (clear-later 81 r (s′ / 32) (omega arith) (λ x. d (x .1)))
 
-  clear-acted : (c : ℕ) → c < 64 → cell 64 (clearSlot s b) 81 c ≡ cell 64 b 81 c
+  clear-acted : (c : ℕ) → c < slotWords → cell slotWords (clearSlot s b) 81 c ≡ cell slotWords b 81 c
   unfolding clearSlot
   clear-acted c l = clear-later 81 81 c l (λ x. omega (arith, x .0))
 
-module _ {b : List ℕ} (t : Sized 64 b) (r₀ s : ℕ) (k : r₀ < 16) (m : s < 2048) where
+module _ {b : List ℕ} (t : Sized slotWords b) (r₀ s : ℕ) (k : r₀ < 16) (m : s < slots) where
   add-same : hasSlot (addSlot r₀ s b) r₀ s ≡ true
   add-same = rw (
-    cell-set-same t r₀ (s / 32) (withBit (s % 32) (cell 64 b r₀ (s / 32))) (omega arith) (omega arith),
-    with-bit (s % 32) (s % 32) (cell 64 b r₀ (s / 32)) (omega arith) (omega arith),
+    cell-set-same t r₀ (s / 32) (withBit (s % 32) (cell slotWords b r₀ (s / 32))) (omega arith) (omega arith),
+    with-bit (s % 32) (s % 32) (cell slotWords b r₀ (s / 32)) (omega arith) (omega arith),
     eq-eqb (s % 32) (s % 32) refl,
   )
 
-  add-row : (r c : ℕ) → c < 64 → ¬ (r ≡ r₀) → cell 64 (addSlot r₀ s b) r c ≡ cell 64 b r c
-  add-row r c l n = cell-set-other 64 b r₀ (s / 32) _ r c (omega arith) l (λ x. n (x .0))
+  add-row : (r c : ℕ) → c < slotWords → ¬ (r ≡ r₀) → cell slotWords (addSlot r₀ s b) r c ≡ cell slotWords b r c
+  add-row r c l n = cell-set-other slotWords b r₀ (s / 32) _ r c (omega arith) l (λ x. n (x .0))
 
-  add-kept : (r s′ : ℕ) → s′ < 2048 → s′ ≢ s → hasSlot (addSlot r₀ s b) r s′ ≡ hasSlot b r s′
+  add-kept : (r s′ : ℕ) → s′ < slots → s′ ≢ s → hasSlot (addSlot r₀ s b) r s′ ≡ hasSlot b r s′
   add-kept r s′ l n = decided (equal r r₀) (equal (s′ / 32) (s / 32))
     where
       decided : {p q : Bool} → Reflects (r ≡ r₀) p → Reflects (s′ / 32 ≡ s / 32) q → hasSlot (addSlot r₀ s b) r s′ ≡ hasSlot b r s′
       decided (wrong d) _ = ap (λ (x : ℕ). bit x (s′ % 32)) (add-row r (s′ / 32) (omega arith) d)
-      decided (right e) (wrong d) = ap (λ (x : ℕ). bit x (s′ % 32)) (cell-set-other 64 b r₀ (s / 32) _ r (s′ / 32) (omega arith) (omega arith) (λ x. d (x .1)))
+      decided (right e) (wrong d) = ap (λ (x : ℕ). bit x (s′ % 32)) (cell-set-other slotWords b r₀ (s / 32) _ r (s′ / 32) (omega arith) (omega arith) (λ x. d (x .1)))
       decided (right e) (right f) = rw (
         e,
         f,
-        cell-set-same t r₀ (s / 32) (withBit (s % 32) (cell 64 b r₀ (s / 32))) (omega arith) (omega arith),
-        with-bit (s % 32) (s′ % 32) (cell 64 b r₀ (s / 32)) (omega arith) (omega arith),
+        cell-set-same t r₀ (s / 32) (withBit (s % 32) (cell slotWords b r₀ (s / 32))) (omega arith) (omega arith),
+        with-bit (s % 32) (s′ % 32) (cell slotWords b r₀ (s / 32)) (omega arith) (omega arith),
         ne-eqb (s′ % 32) (s % 32) (apart-places n f),
       )
 
 -- at its own row the slot is there, at the others it is not, and the other slots are as they were
-module _ {b : List ℕ} (t : Sized 64 b) (task s : ℕ) (h : task < 16) (m : s < 2048) where
-  pub sized-afresh : Sized 64 (addSlot task s (clearSlot s b))
+module _ {b : List ℕ} (t : Sized slotWords b) (task s : ℕ) (h : task < 16) (m : s < slots) where
+  pub sized-afresh : Sized slotWords (addSlot task s (clearSlot s b))
   sized-afresh = sized-set (sized-clear t s m) _ _
 
   pub afresh-own : hasSlot (addSlot task s (clearSlot s b)) task s ≡ true
@@ -218,8 +218,8 @@ module _ {b : List ℕ} (t : Sized 64 b) (task s : ℕ) (h : task < 16) (m : s <
   pub afresh-cleared : (r : ℕ) → r < 81 → r ≢ task → hasSlot (addSlot task s (clearSlot s b)) r s ≡ false
   afresh-cleared r l n = ap (λ (x : ℕ). bit x (s % 32)) (add-row (sized-clear t s m) task s h m r (s / 32) (omega arith) n) ∙ clear-gone t s m r l
 
-  pub afresh-other : (r s′ : ℕ) → r < 81 → s′ < 2048 → s′ ≢ s → hasSlot (addSlot task s (clearSlot s b)) r s′ ≡ hasSlot b r s′
+  pub afresh-other : (r s′ : ℕ) → r < 81 → s′ < slots → s′ ≢ s → hasSlot (addSlot task s (clearSlot s b)) r s′ ≡ hasSlot b r s′
   afresh-other r s′ l k n = add-kept (sized-clear t s m) task s h m r s′ k n ∙ clear-kept t s m r s′ l k n
 
-  pub afresh-acted : (c : ℕ) → c < 64 → cell 64 (addSlot task s (clearSlot s b)) 81 c ≡ cell 64 b 81 c
+  pub afresh-acted : (c : ℕ) → c < slotWords → cell slotWords (addSlot task s (clearSlot s b)) 81 c ≡ cell slotWords b 81 c
   afresh-acted c l = add-row (sized-clear t s m) task s h m 81 c l (λ e. omega arith) ∙ clear-acted t s m c l

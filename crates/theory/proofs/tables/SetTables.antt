@@ -37,11 +37,11 @@ abbrev pub HasBit : ℕ → ℕ → Type 0
 HasBit s x = T (bit x (s % 32))
 
 pub record ExactSets (w : Filling) (es : List Event) (b : List ℕ) : Type 0 where
-  pub sized : Sized 64 b
-  pub column : (s : ℕ) → s < slots → Exact (HasBit s) w (KeptIn s) es 64 b 0 (s / 32)
-  pub acting : ExactActed w es 64 b
+  pub sized : Sized slotWords b
+  pub column : (s : ℕ) → s < slots → Exact (HasBit s) w (KeptIn s) es slotWords b 0 (s / 32)
+  pub acting : ExactActed w es slotWords b
 
-word-below : {s : ℕ} → s < slots → s / 32 < 64
+word-below : {s : ℕ} → s < slots → s / 32 < slotWords
 word-below h = omega arith
 
 -- Acts
@@ -57,7 +57,7 @@ keeps s x e after = (λ k. (λ q. k .1 (snoc-last after x q), (k .0, λ q. k .1 
 module _ {w : Filling} {es : List Event} {b : List ℕ} {t n : ℕ} (o : Op) (x : ExactSets w es b) (ht : t < 16) (hn : n < series o) where
   -- a slot that the act is not in
   unowned : {b′ : List ℕ} (s : ℕ) → s < slots → ¬ InSlot s (act o t n) → ((r : ℕ) → r < 81 → hasSlot b′ r s ≡ hasSlot b r s) →
-      Owned (HasBit s) w (KeptIn s) (¬ InSlot s (act o t n)) es (act o t n) t 64 b′ 0 (s / 32)
+      Owned (HasBit s) w (KeptIn s) (¬ InSlot s (act o t n)) es (act o t n) t slotWords b′ 0 (s / 32)
   unowned {b′} s l out same =
       record {
         cells = λ m r. (λ a. inl (out, x .column s l .cells m r .0 (known (row m) (near r) .0 a)), λ y. known (row m) (near r) .1 (before m r y));
@@ -67,27 +67,27 @@ module _ {w : Filling} {es : List Event} {b : List ℕ} {t n : ℕ} (o : Op) (x 
       near : {m : Node} → InRange m → row m < 81
       near r = let h = row-below r in omega arith
 
-      known : (r : ℕ) → r < 81 → Knows (HasBit s) 64 b′ r (s / 32) ↔ Knows (HasBit s) 64 b r (s / 32)
+      known : (r : ℕ) → r < 81 → Knows (HasBit s) slotWords b′ r (s / 32) ↔ Knows (HasBit s) slotWords b r (s / 32)
       known r h = (λ a. record { knows = subst T (same r h) (a .knows) }, λ a. record { knows = subst T (sym (same r h)) (a .knows) })
 
-      before : (m : Node) → InRange m → ((¬ InSlot s (act o t n)) × Came w (KeptIn s) es 0 m) ⊎ (Newly (KeptIn s) es (act o t n) 0 × (m ≡ due t)) → Knows (HasBit s) 64 b (row m) (s / 32)
+      before : (m : Node) → InRange m → ((¬ InSlot s (act o t n)) × Came w (KeptIn s) es 0 m) ⊎ (Newly (KeptIn s) es (act o t n) 0 × (m ≡ due t)) → Knows (HasBit s) slotWords b (row m) (s / 32)
       before m r (inl (_, d)) = x .column s l .cells m r .1 d
       before m r (inr ((_, (q, _)), e)) = absurd (out q)
 
   -- a slot that the act is in starts anew: its own row has it, and no other
   own-slot : {b′ : List ℕ} (s : ℕ) → s < slots → InSlot s (act o t n) → hasSlot b′ t s ≡ true → ((r : ℕ) → r < 81 → r ≢ t → hasSlot b′ r s ≡ false) →
-      Owned (HasBit s) w (KeptIn s) (¬ InSlot s (act o t n)) es (act o t n) t 64 b′ 0 (s / 32)
+      Owned (HasBit s) w (KeptIn s) (¬ InSlot s (act o t n)) es (act o t n) t slotWords b′ 0 (s / 32)
   own-slot {b′} s l inside here elsewhere =
       record { cells = λ m r. decided m r (equal (row m) t); hub = λ _. (λ y. absurd (cleared 80 (omega arith) (λ e. omega arith) y), λ y. absurd (y .0 inside)) }
     where
       newly : Newly (KeptIn s) es (act o t n) 0
       newly = (zero-le, (inside, λ q. elim q [ ]))
 
-      cleared : (r : ℕ) → r < 81 → ¬ (r ≡ t) → ¬ Knows (HasBit s) 64 b′ r (s / 32)
+      cleared : (r : ℕ) → r < 81 → ¬ (r ≡ t) → ¬ Knows (HasBit s) slotWords b′ r (s / 32)
       cleared r h apart y = subst T (elsewhere r h apart) (y .knows)
 
       decided : {c : Bool} (m : Node) → InRange m → Reflects (row m ≡ t) c →
-          Knows (HasBit s) 64 b′ (row m) (s / 32) ↔ (((¬ InSlot s (act o t n)) × Came w (KeptIn s) es 0 m) ⊎ (Newly (KeptIn s) es (act o t n) 0 × (m ≡ due t)))
+          Knows (HasBit s) slotWords b′ (row m) (s / 32) ↔ (((¬ InSlot s (act o t n)) × Came w (KeptIn s) es 0 m) ⊎ (Newly (KeptIn s) es (act o t n) 0 × (m ≡ due t)))
       decided m r (right q) = (λ y. inr (newly, row-one r (due-in ht) q), λ y. record { knows = rw q (subst T (sym here) tt) })
       decided m r (wrong apart) = (λ y. let h = row-below r in absurd (cleared (row m) (omega arith) apart y), λ y. absurd (none y))
         where
@@ -104,8 +104,8 @@ module _ {w : Filling} {es : List Event} {b : List ℕ} {t n : ℕ} (o : Op) (x 
 
   -- a table of its size, in which those who had acted have
   record Whole (b′ : List ℕ) : Type 0 where
-    sized : Sized 64 b′
-    acted : (u : ℕ) → u < 16 → cell 64 b′ 81 u ≡ cell 64 b 81 u
+    sized : Sized slotWords b′
+    acted : (u : ℕ) → u < 16 → cell slotWords b′ 81 u ≡ cell slotWords b 81 u
 
   record Begun (s : ℕ) (b′ : List ℕ) : Type 0 where
     here : hasSlot b′ t s ≡ true
@@ -136,21 +136,21 @@ module _ {w : Filling} {es : List Event} {b : List ℕ} {t n : ℕ} (o : Op) (x 
       below a ha c = slot-below ha (kept-on o a hn c) ht
 
   record Own (b′ : List ℕ) : Type 0 where
-    sized : Sized 64 b′
-    column : (s : ℕ) → s < slots → Owned (HasBit s) w (KeptIn s) (¬ InSlot s (act o t n)) es (act o t n) t 64 b′ 0 (s / 32)
-    acted : (u : ℕ) → u < 16 → cell 64 b′ 81 u ≡ cell 64 b 81 u
+    sized : Sized slotWords b′
+    column : (s : ℕ) → s < slots → Owned (HasBit s) w (KeptIn s) (¬ InSlot s (act o t n)) es (act o t n) t slotWords b′ 0 (s / 32)
+    acted : (u : ℕ) → u < 16 → cell slotWords b′ 81 u ≡ cell slotWords b 81 u
 
   own-part : Own own-table
   own-part = record { sized = wrote 0 (omega arith) .0 .sized; column = λ s l. of s l (wrote s l .1); acted = wrote 0 (omega arith) .0 .acted }
     where
       of : (s : ℕ) → s < slots →
           (Under afresh (kind o) n t (length askers) s × Begun s own-table) ⊎ ((¬ Under afresh (kind o) n t (length askers) s) × Kept s own-table) →
-          Owned (HasBit s) w (KeptIn s) (¬ InSlot s (act o t n)) es (act o t n) t 64 own-table 0 (s / 32)
+          Owned (HasBit s) w (KeptIn s) (¬ InSlot s (act o t n)) es (act o t n) t slotWords own-table 0 (s / 32)
       of s l (inl (y, z)) = own-slot s l (under-in o ht hn y) (z .here) (z .elsewhere)
       of s l (inr (y, z)) = unowned s l (λ q. y (in-under q)) (z .same)
 
   -- noting it changes no other row
-  noted : {b′ : List ℕ} → Own b′ → (s : ℕ) → s < slots → Owned (HasBit s) w (KeptIn s) (¬ InSlot s (act o t n)) es (act o t n) t 64 (noteActed 64 t b′) 0 (s / 32)
+  noted : {b′ : List ℕ} → Own b′ → (s : ℕ) → s < slots → Owned (HasBit s) w (KeptIn s) (¬ InSlot s (act o t n)) es (act o t n) t slotWords (noteActed slotWords t b′) 0 (s / 32)
   noted {b′} y s l =
       record {
         cells = λ m r. (λ a. y .column s l .cells m r .0 (same (row m) (near r) .0 a), λ d. same (row m) (near r) .1 (y .column s l .cells m r .1 d));
@@ -160,13 +160,13 @@ module _ {w : Filling} {es : List Event} {b : List ℕ} {t n : ℕ} (o : Op) (x 
       near : {m : Node} → InRange m → ¬ (row m ≡ 81)
       near r e = let h = row-below r in omega arith
 
-      same : (r : ℕ) → ¬ (r ≡ 81) → Knows (HasBit s) 64 (noteActed 64 t b′) r (s / 32) ↔ Knows (HasBit s) 64 b′ r (s / 32)
-      same r d = knows-same (note-other 64 b′ t r (s / 32) (omega arith) (omega arith) d)
+      same : (r : ℕ) → ¬ (r ≡ 81) → Knows (HasBit s) slotWords (noteActed slotWords t b′) r (s / 32) ↔ Knows (HasBit s) slotWords b′ r (s / 32)
+      same r d = knows-same (note-other slotWords b′ t r (s / 32) (omega arith) (omega arith) d)
 
-  own-sized : Sized 64 (setOwn (kind o) t n b)
+  own-sized : Sized slotWords (setOwn (kind o) t n b)
   own-sized = sized-note (own-part .sized) t
 
-  own-acting : ExactActed w (es ++ (act o t n ∷ [])) 64 (setOwn (kind o) t n b)
+  own-acting : ExactActed w (es ++ (act o t n ∷ [])) slotWords (setOwn (kind o) t n b)
   own-acting = acted-act o t n (λ u hu. note-cell (own-part .sized) t u (omega arith) (omega arith) ∙ ap (cond (eqb u t) 1) (own-part .acted u hu)) (x .acting)
 
   pub sets-act : ((u : ℕ) → Releases (act o t n) (due u) → (u ≡ t) ⊎ (¬ Acted w u es)) → ExactSets w (es ++ (act o t n ∷ [])) (setAct (fills w) (kind o) t n b)
@@ -189,5 +189,5 @@ sets-mark {w} mask asked f x =
 
 -- The fresh table
 
-pub fresh-sets : {w : Filling} → ExactSets w [] (replicate 5248 0)
-fresh-sets = record { sized = sized-fresh 64; column = λ s l. fresh-exact (joins-or (s % 32) .nothing) (word-below l); acting = fresh-acted 64 (omega arith) }
+pub fresh-sets : {w : Filling} → ExactSets w [] (replicate (cellCount slotWords) 0)
+fresh-sets = record { sized = sized-fresh slotWords; column = λ s l. fresh-exact (joins-or (s % 32) .nothing) (word-below l); acting = fresh-acted slotWords (omega arith) }

@@ -121,4 +121,4 @@ pub slot-known : (b : List ℕ) (r k v u : ℕ) → u < 16 → hasSlot b r (slot
 slot-known b r k v u h =
     let w : slotWord (slot k v u) ≡ slotWord (slot k v 0) = omega arith in
     let p : slotPlace (slot k v u) ≡ slotPlace (slot k v 0) + u = omega arith in
-    rw (w, p) (ap (λ (n : ℕ). eqb (n % 2) 1) (sym (shr-shr (cell 64 b r (slotWord (slot k v 0))) (slotPlace (slot k v 0)) u)))
+    rw (w, p) (ap (λ (n : ℕ). eqb (n % 2) 1) (sym (shr-shr (cell slotWords b r (slotWord (slot k v 0))) (slotPlace (slot k v 0)) u)))

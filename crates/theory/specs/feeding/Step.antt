@@ -118,7 +118,7 @@ abbrev pub freshControl : List ℕ
 freshControl = set (replicate 17 0) 0 1
 
 unfoldable pub freshState : State
-freshState = record { control = freshControl; last = replicate 2048 0; clocks = replicate 1312 0; fullclocks = replicate 1312 0 }
+freshState = record { control = freshControl; last = replicate slots 0; clocks = replicate (cellCount tasks) 0; fullclocks = replicate (cellCount tasks) 0 }
 
 unfoldable pub freshSets : SetState
-freshSets = record { control = freshControl; last = replicate 2048 0; sets = replicate 5248 0; fullsets = replicate 5248 0 }
+freshSets = record { control = freshControl; last = replicate slots 0; sets = replicate (cellCount slotWords) 0; fullsets = replicate (cellCount slotWords) 0 }

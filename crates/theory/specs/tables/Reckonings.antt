@@ -30,7 +30,7 @@ clocksBy w k task on number b = cond (eqb k lossMark) (mark max tasks (w on) b) 
 
 -- so many words a row
 abbrev pub slotWords : ℕ
-slotWords = 64
+slotWords = slots / 32
 
 -- the word of a slot, and its place there
 abbrev pub slotWord : ℕ → ℕ

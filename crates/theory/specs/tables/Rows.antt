@@ -30,6 +30,10 @@ hub = 80
 abbrev pub actedRow : ℕ
 actedRow = 81
 
+-- so many cells has a table of a width
+abbrev pub cellCount : ℕ → ℕ
+cellCount w = (rowCount + 1) * w
+
 -- the cell of row r and column c in a table of a width
 abbrev pub cell : ℕ → List ℕ → ℕ → ℕ → ℕ
 cell w b r c = getD b (r * w + c) 0

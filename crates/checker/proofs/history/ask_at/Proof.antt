@@ -9,7 +9,7 @@ returns : tie.Need-returns
 returns c = rw (c .match .keys1) (search needs)
 
 returns-2 : tie.Need-returns-2
-returns-2 c = (asks-first _ (c .match .rest .1), lit< tt)
+returns-2 c = (asks-first (c .before .args .kind) (search needs), lit< tt)
 
 pub ask-at-spec : {M : Type 1} → statement M
 ask-at-spec = tie.close (tie.spec returns returns-2)

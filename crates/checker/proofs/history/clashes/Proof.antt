@@ -6,15 +6,17 @@ use Rattle.checker.proofs.history.clashes.Statement.{statement}
 use Rattle.checker.proofs.history.clashes.Tie as tie
 
 returns : tie.Need-returns
-returns c = rw (c .match .keys1) (clash-read _ (c .before .pre))
+unfolding turns rule
+returns c = rw (c .match .keys1) (each-asker Op.read (λ a. eqb a 1) refl _ (c .before .pre))
 
 returns-2 : tie.Need-returns-2
-returns-2 c = rw (c .match .keys2) (clash-write _ (c .before .pre))
+unfolding turns rule
+returns-2 c = rw (c .match .keys2) (each-asker Op.write (λ a. true) refl _ (c .before .pre))
 
 returns-3 : tie.Need-returns-3
 returns-3 c =
     let x = c .before .args in
-    no-clash (x .kind) (asker (x .a)) (no-access-else (x .kind) (c .match .rest .0 .1) (c .match .rest .1))
+    no-clash (x .kind) (asker (x .a)) (no-access-else (x .kind) (search needs))
 
 pub clashes-spec : {M : Type 1} → statement M
 clashes-spec = tie.close (tie.spec returns returns-2 returns-3)

@@ -1,4 +1,4 @@
--- No kind but the two is an access.
+-- No kind but these is an access.
 use mathlib.Core.Path.{sym}
 use Rattle.theory.proofs.order.Numbered.{no-access-else}
 use borrow.Author.Needs.{needs}
@@ -12,7 +12,7 @@ returns-2 : tie.Need-returns-2
 returns-2 c = rw (c .match .keys2)
 
 returns-3 : tie.Need-returns-3
-returns-3 c = sym (no-access-else _ (c .match .rest .0 .1) (c .match .rest .1))
+returns-3 c = sym (no-access-else (c .before .args .kind) (search needs))
 
 pub is-access-spec : {M : Type 1} → statement M
 is-access-spec = tie.close (tie.spec returns returns-2 returns-3)

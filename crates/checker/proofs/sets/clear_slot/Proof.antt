@@ -12,7 +12,7 @@ use Rattle.checker.proofs.sets.clear_slot.Statement.{statement}
 use Rattle.checker.proofs.sets.clear_slot.Tie as tie
 
 abbrev Inv-loop : tie.InvT-loop
-Inv-loop cells₀ s word others r₀ cells r = (r ≤ 81) × Turned (λ q b. set b (q * 64 + word) (bitAnd (cell 64 b q word) others)) cells₀ r cells
+Inv-loop cells₀ s word others r₀ cells r = (r ≤ 81) × Turned (λ q b. set b (q * slotWords + word) (bitAnd (cell slotWords b q word) others)) cells₀ r cells
 
 abbrev μ-loop : tie.MeasureT-loop
 μ-loop cells₀ s word others r₀ cells r = 81 - r

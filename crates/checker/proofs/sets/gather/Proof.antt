@@ -10,7 +10,7 @@ use Rattle.checker.proofs.sets.gather.Statement.{statement}
 use Rattle.checker.proofs.sets.gather.Tie as tie
 
 abbrev Inv-loop : tie.InvT-loop
-Inv-loop cells₀ mask t₀ cells t = (t ≤ 16) × Turned (λ q b. joinRow bitOr 64 80 (rowOrHub (bit mask q) q) b) cells₀ t cells
+Inv-loop cells₀ mask t₀ cells t = (t ≤ 16) × Turned (λ q b. joinRow bitOr slotWords 80 (rowOrHub (bit mask q) q) b) cells₀ t cells
 
 abbrev μ-loop : tie.MeasureT-loop
 μ-loop cells₀ mask t₀ cells t = 16 - t
