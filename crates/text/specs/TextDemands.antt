@@ -1,7 +1,7 @@
 -- Demand 1, for texts: every text of any content is refused whole, by row 11, or each of its lines is answered, once and in order.
 -- proofs/TextDemands.antt proves it of the definitions that the C entry's contract names.
 use mathlib.Core.Path.{_≡_}
-use Prim.Native.Nat.{ℕ, zero, suc, _-_, _*_, _^_, _≤_, _<_}
+use Prim.Native.Nat.{ℕ, suc, _-_, _*_, _^_, _≤_, _<_}
 use mathlib.Core.Bool.{true, false}
 use mathlib.Core.List.{List, [], _∷_, _++_}
 use lib.ListN.{length, drop}

@@ -1,5 +1,5 @@
 -- The refusal table: which of its rows can apply to an act and to a mark, and what is known of a record that passes them all. Assumes nothing.
-use mathlib.Core.Path.{_≡_, refl, sym, _∙_, ap}
+use mathlib.Core.Path.{_≡_, refl, sym, _∙_}
 use mathlib.Core.Bool.{Bool, true, false, cond, not, _&&_, _||_, or-false}
 use mathlib.Mathlib.Data.Bool.Basic.{and-elim-left, and-elim-right, or-eq-false-eq-eq-false-and-eq-false}
 use mathlib.Core.Logic.{_≢_}

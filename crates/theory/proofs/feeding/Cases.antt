@@ -1,14 +1,9 @@
 -- The answers of a step by cases, from its definition: a refusal's number is that of a row, and an accepted access gets a verdict.
 -- Assumes nothing.
-use mathlib.Core.Bool.{Bool, true, false, cond}
-use mathlib.Core.List.{List, [], _∷_}
-use Prim.Native.Nat.{ℕ, suc, _+_, _≤_, zero-le}
-use native.Mathlib.Omega.{arith}
+use mathlib.Core.Bool.{Bool, true, false}
+use mathlib.Core.List.{List}
+use Prim.Native.Nat.{ℕ}
 use lib.Dec.{eqb}
-use lib.ListN.{length}
-use Rattle.theory.specs.declared.record.Record.{Record}
-use Rattle.theory.specs.declared.answer.Answer.{Answer}
-use Rattle.theory.specs.acceptance.Table.{rows, firstRow, refusalBy}
 use Rattle.theory.specs.feeding.Step.{verdictBy, judgedBy}
 use Rattle.theory.specs.feeding.Feeding.{says-clear, says-race, says-doubt, Judged}
 

@@ -22,7 +22,7 @@ use Rattle.theory.specs.tables.Turns.{turns}
 use Rattle.theory.specs.order.Path.{rule}
 use Rattle.theory.specs.fillings.Completion.{rounds, round, part, onEach}
 use Rattle.theory.specs.verdicts.Examples.{Example, table}
-use Rattle.theory.specs.feeding.Feeding.{recordOf, verdictsOf, FedExamples, Says, says-clear, says-race, says-doubt, isRefusal, acceptedOf, Got, got-now, got-later, got-refused, EachAccess, FedDemand2, FedDemand3, FedPartner, FedAcceptance, refusalNumber, refusalNumbers, refusalsAfter, verdictAnswer, acceptedAnswer, answerBy, answerTo, answersFrom, AnswersByTable, Checker, fedBy, fed, setFed, Demanded, Judged, GetsVerdict, Demand1, Handled, refused, access-taken, other-taken}
+use Rattle.theory.specs.feeding.Feeding.{recordOf, verdictsOf, Says, says-clear, says-race, says-doubt, isRefusal, acceptedOf, Got, got-now, got-later, got-refused, EachAccess, FedDemand2, FedDemand3, FedPartner, FedAcceptance, refusalNumber, refusalNumbers, refusalsAfter, verdictAnswer, acceptedAnswer, answerBy, answersFrom, AnswersByTable, Checker, fedBy, fed, setFed, Demanded, Judged, GetsVerdict, Demand1, Handled, refused, access-taken, other-taken}
 use Rattle.theory.proofs.basics.Reflects.{by-test, is-true}
 use Rattle.theory.proofs.order.Places.{Ends, ends, onward, at-ends}
 use Rattle.theory.proofs.verdicts.Demands.{Ruling, judge-ruling, ruling-firm, ruling-with, firm-unmarked}

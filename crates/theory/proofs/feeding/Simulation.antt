@@ -6,7 +6,7 @@ use Prim.Native.Nat.{ℕ, zero, suc, _+_, _/_, _%_, _^_, _<_}
 use native.Mathlib.Nat.{pow-suc}
 use native.Mathlib.Omega.{arith}
 use borrow.Author.Tests.{eq-eqb}
-use lib.Dec.{T, eqb}
+use lib.Dec.{T}
 use lib.Pow.{shr-shr}
 use lib.ListN.{length, replicate}
 use Rattle.theory.specs.declared.record.Record.{Record}
@@ -16,7 +16,7 @@ use Rattle.theory.specs.order.Recording.{Op, Event, act, lost, kind, los
 use Rattle.theory.specs.fillings.Completion.{names, Named, arrived, full, Filling}
 use Rattle.theory.specs.acceptance.Table.{isLive, phase, Standing, standing, refusal, recordedAfter, fedAfter}
 use Rattle.theory.specs.acceptance.Control.{controlAfter}
-use Rattle.theory.specs.history.History.{lastAfter}
+use Rattle.theory.specs.history.History.{slots, lastAfter}
 use Rattle.theory.specs.tables.Reckonings.{clocksBy, setsBy, clockMask, setMask, clockMasks, setMasks}
 use Rattle.theory.specs.feeding.Step.{nextNumber, answeredBy, stepOf, stepBy, setStepOf, setStepBy, freshControl, freshState, freshSets}
 use Rattle.theory.specs.verdicts.Search.{partner}

@@ -10,7 +10,7 @@ use Rattle.theory.specs.order.Limits.{tasks, semaphores, flags}
 use Rattle.theory.specs.tables.Turns.{turns}
 use Rattle.theory.specs.acceptance.Table.{anyBelow}
 use Rattle.theory.specs.order.Recording.{take, give, look, set, Event, act, lost}
-use Rattle.theory.specs.fillings.Completion.{bit, names, Named, filler, fillWith, nothing, round, rounds, Filling, arrived, filling}
+use Rattle.theory.specs.fillings.Completion.{bit, Named, filler, fillWith, nothing, round, rounds, Filling, arrived, filling}
 use Rattle.theory.proofs.basics.Reflects.{by-test, both, at-most, passed}
 use Rattle.theory.proofs.acceptance.Rows.{none-below}
 use Rattle.theory.proofs.order.Leads.{Leads}

@@ -1,17 +1,17 @@
 -- Kinds by their numbers, as the code decides by them: what holds of every kind but some is tried out. Assumes nothing.
-use mathlib.Core.Path.{_≡_, refl, sym, _∙_, ap, subst}
-use mathlib.Core.Bool.{Bool, true, false, not, _||_, _&&_}
+use mathlib.Core.Path.{_≡_, refl, sym, ap}
+use mathlib.Core.Bool.{Bool, true, false, not, _||_}
 use mathlib.Core.Logic.{_≢_}
 use mathlib.Core.List.{List, [], _∷_}
 use Prim.Native.Nat.{ℕ, _≤_, _<_}
 use native.Mathlib.Omega.{arith}
 use borrow.Author.Tests.{eqb-true, ne-eqb, le-ltb, not-false}
 use lib.Dec.{ltb, eqb}
-use lib.ListN.{length, List·getD-eq-default}
+use lib.ListN.{length, drop, List·getD-eq-default}
 use Rattle.theory.specs.order.Limits.{variables}
 use Rattle.theory.specs.tables.Turns.{turns}
-use Rattle.theory.specs.order.Recording.{Op, read, write, kind, Kind, of-op, of-mark, kinds, kindAt, accessBy, accesses, isAccess, lossMark, seriesOf}
-use Rattle.theory.specs.order.Path.{rule, clashes}
+use Rattle.theory.specs.order.Recording.{Op, kind, Kind, of-op, of-mark, kinds, kindAt, accessBy, accesses, lossMark, seriesOf}
+use Rattle.theory.specs.order.Path.{clashes}
 use Rattle.theory.specs.acceptance.Table.{anyBelow}
 use Rattle.theory.specs.history.History.{askers, asker, askAt, clashBy}
 use Rattle.theory.proofs.basics.Reflects.{Reflects, right, wrong, at-most}

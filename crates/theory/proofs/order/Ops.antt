@@ -1,7 +1,7 @@
 -- Ops by their kind numbers, and by role: the six that carry order, and plain ones, which are acts and nothing more to the order. What
 -- holds of every op is computed over the list of kinds. Assumes nothing.
 use mathlib.Core.Path.{_≡_, refl, sym, _∙_, ap, subst}
-use mathlib.Core.Bool.{Bool, true, false, cond, not, _&&_, _||_, true≢false}
+use mathlib.Core.Bool.{Bool, true, false, not, _&&_, _||_, true≢false}
 use mathlib.Mathlib.Data.Bool.Basic.{and-elim-left, and-elim-right}
 use mathlib.Core.List.{List, [], _∷_}
 use mathlib.Core.Logic.{_≢_}
@@ -9,9 +9,8 @@ use Prim.Native.Nat.{ℕ, zero, suc, _<_}
 use borrow.Author.Tests.{ne-eqb, eqb-true, not-false}
 use lib.Dec.{T, eqb}
 use lib.ListN.{length, getD}
-use Rattle.theory.specs.declared.record.Record.{Record}
 use Rattle.theory.specs.order.Limits.{variables}
-use Rattle.theory.specs.order.Recording.{Op, read, write, take, give, look, set, start, join, Effect, keeps, begins, ends, about, kind, series, isAccess, lossMark, Kind, of-op, of-mark, kinds, kindAt, opBy, opOf, accessBy, accesses, seriesOf, eventOf, Event, act, _is_}
+use Rattle.theory.specs.order.Recording.{Op, read, write, take, give, look, set, start, join, Effect, keeps, begins, ends, about, kind, series, isAccess, lossMark, Kind, of-op, of-mark, kinds, kindAt, opBy, opOf, accessBy, accesses, seriesOf, eventOf, act, _is_}
 use Rattle.theory.specs.acceptance.Table.{Fitting, anyBelow}
 use Rattle.theory.specs.tables.Turns.{turns}
 use Rattle.theory.proofs.acceptance.Rows.{none-below}

@@ -9,10 +9,11 @@ use native.Mathlib.Omega.{arith}
 use borrow.Author.Tests.{lt-ltb, eq-eqb, ne-eqb}
 use lib.Dec.{ltb, eqb}
 use lib.ListN.{set}
+use Rattle.theory.specs.history.History.{slots}
 use Rattle.theory.specs.tables.Turns.{turns}
 use Rattle.theory.specs.fillings.Completion.{bit}
 use Rattle.theory.specs.tables.Rows.{cell, joinRow, alsoReleased, flow, noteActed}
-use Rattle.theory.specs.tables.Reckonings.{clockOwn, hasSlot, withBit, withoutBit, clearSlot, addSlot}
+use Rattle.theory.specs.tables.Reckonings.{slotWords, clockOwn, hasSlot, withBit, withoutBit, clearSlot, addSlot}
 use Rattle.theory.proofs.basics.Reflects.{Reflects, right, wrong, equal}
 use Rattle.theory.proofs.tables.Rows.{Sized, Same, Joins, Knows, sized-set, sized-turns, sized-join, cell-set-same, cell-set-other, join-self, join-cell-other, join-knows}
 use Rattle.theory.proofs.tables.Words.{with-bit, without-bit}

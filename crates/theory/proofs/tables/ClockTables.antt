@@ -9,7 +9,7 @@ use native.Mathlib.Omega.{arith}
 use lib.Dec.{T}
 use lib.ListN.{length, replicate}
 use Rattle.theory.specs.order.Recording.{Op, Event, act, lost, series, kind, ActsIn, acts}
-use Rattle.theory.specs.fillings.Completion.{Named, Filling, arrived, full, fills}
+use Rattle.theory.specs.fillings.Completion.{Filling, fills}
 use Rattle.theory.specs.tables.Rows.{mark, cell}
 use Rattle.theory.specs.tables.Reckonings.{clockOwn, clockAct}
 use Rattle.theory.proofs.basics.Reflects.{Reflects, right, wrong, equal, at-most, both}

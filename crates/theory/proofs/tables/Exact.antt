@@ -10,7 +10,7 @@ use borrow.Author.Tests.{lt-ltb, le-ltb, ne-eqb}
 use lib.Dec.{T, ltb, eqb, lit<}
 use lib.ListN.{replicate}
 use Rattle.theory.specs.order.Recording.{Op, Event, act, lost, series, kind}
-use Rattle.theory.specs.fillings.Completion.{bit, Named, Filling, arrived, full, fills}
+use Rattle.theory.specs.fillings.Completion.{bit, Named, Filling, fills}
 use Rattle.theory.specs.tables.Rows.{cell, joinsActed, acquiredRow, releasedRow, alsoReleased, onward, isReleased, mix, mark}
 use Rattle.theory.proofs.order.Carry.{Node, due, acted, semaphore, flag, Acquires, own, Releases, own-next}
 use Rattle.theory.proofs.fillings.Fullest.{Acquired, Released, named-task}

@@ -13,7 +13,6 @@ use Rattle.theory.specs.verdicts.Search.{judged, judge, partner}
 use Rattle.theory.specs.feeding.Step.{verdictBy, judgedBy}
 use Rattle.theory.specs.feeding.Feeding.{verdictAnswer}
 use Rattle.theory.proofs.basics.Reflects.{Reflects, right, wrong, by-test}
-use Rattle.theory.proofs.tables.Bits.{mask-ext}
 use Rattle.theory.proofs.order.Places.{Occurs}
 use Rattle.theory.proofs.verdicts.Search.{Candidate}
 use Rattle.theory.proofs.tables.ClockTables.{ExactClocks}

@@ -1,7 +1,7 @@
 -- Each reckoning on its own says which tasks' latest conflicting access has no path to an access: just where Order has none, in the
 -- recording as it arrived and in the fullest filling. Assumes nothing.
 use mathlib.Core.Path.{_≡_, refl, sym, _∙_, ap, subst}
-use mathlib.Core.Bool.{Bool, true, false, cond, _&&_, not}
+use mathlib.Core.Bool.{Bool, _&&_, not}
 use mathlib.Core.Logic.{_↔_, _⊎_, inl, inr, _≢_}
 use mathlib.Core.List.{List}
 use Prim.Native.Nat.{ℕ, zero, suc, _≤_, _<_, zero-le, _+_, _*_}
@@ -9,7 +9,7 @@ use native.Mathlib.Nat.{le-refl}
 use native.Mathlib.Omega.{arith}
 use lib.ListN.{getD}
 use lib.Dec.{T, ltb}
-use Rattle.theory.specs.order.Recording.{Op, read, write, Event, act, lost, kind, ActsIn, acts, isAccess}
+use Rattle.theory.specs.order.Recording.{Op, Event, act, lost, kind, ActsIn, acts, isAccess}
 use Rattle.theory.specs.order.Path.{Conflict, conflict}
 use Rattle.theory.specs.fillings.Completion.{bit, fillWith, Filling, filling}
 use Rattle.theory.specs.tables.Rows.{cell}
@@ -27,8 +27,6 @@ use Rattle.theory.proofs.fillings.Came.{Came}
 use Rattle.theory.proofs.tables.ClockTables.{ExactClocks, OfTask}
 use Rattle.theory.proofs.tables.SetTables.{ExactSets, KeptIn}
 use Rattle.theory.proofs.history.Slots.{InSlot, in-slot, ExactHistory, slot-one}
-use Rattle.theory.proofs.history.Numbers.{latest-below, occurs-same, number-final, final-number}
-use Rattle.theory.proofs.order.Ops.{Role, a-take, a-give, a-look, a-set, a-start, a-join, plain, role}
 use Rattle.theory.proofs.history.Numbers.{latest-below, occurs-same, number-final, final-number}
 use Rattle.theory.proofs.order.Ops.{Role, a-take, a-give, a-look, a-set, a-start, a-join, plain, role}
 use Rattle.theory.proofs.tables.Words.{slot-known}

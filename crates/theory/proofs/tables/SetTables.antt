@@ -9,10 +9,10 @@ use lib.Bits.{bitOr}
 use lib.Dec.{T, eqb}
 use lib.ListN.{length, replicate}
 use Rattle.theory.specs.order.Recording.{Op, Event, act, lost, series, kind, kindAt}
-use Rattle.theory.specs.fillings.Completion.{bit, Named, Filling, arrived, full, fills}
-use Rattle.theory.specs.tables.Rows.{cell, noteActed, mark}
+use Rattle.theory.specs.fillings.Completion.{bit, Filling, fills}
+use Rattle.theory.specs.tables.Rows.{cellCount, cell, noteActed, mark}
 use Rattle.theory.specs.history.History.{askers, asker, clashBy, slot, slots, underEach}
-use Rattle.theory.specs.tables.Reckonings.{hasSlot, clearSlot, addSlot, setOwn, setAct}
+use Rattle.theory.specs.tables.Reckonings.{slotWords, hasSlot, clearSlot, addSlot, setOwn, setAct}
 use Rattle.theory.proofs.basics.Reflects.{Reflects, right, wrong, equal}
 use Rattle.theory.proofs.order.Carry.{Node, due, Releases}
 use Rattle.theory.proofs.tables.Rows.{Sized, Knows, knows-same, sized-fresh}
@@ -179,7 +179,7 @@ module _ {w : Filling} {es : List Event} {b : List ℕ} {t n : ℕ} (o : Op) (x 
 
 -- Marks
 
-pub sets-mark : {w : Filling} {es : List Event} {b : List ℕ} (mask : ℕ) → (¬ (w mask ≡ 0) → T (fills w)) → Filled-in (w mask) → ExactSets w es b → ExactSets w (es ++ (lost mask ∷ [])) (mark bitOr 64 (w mask) b)
+pub sets-mark : {w : Filling} {es : List Event} {b : List ℕ} (mask : ℕ) → (¬ (w mask ≡ 0) → T (fills w)) → Filled-in (w mask) → ExactSets w es b → ExactSets w (es ++ (lost mask ∷ [])) (mark bitOr slotWords (w mask) b)
 sets-mark {w} mask asked f x =
     record {
       sized = sized-mark (x .sized) bitOr (w mask);

@@ -15,7 +15,7 @@ use Rattle.theory.specs.fillings.Completion.{bit}
 use Rattle.theory.specs.acceptance.Table.{anyBelow}
 use Rattle.theory.specs.history.History.{slot}
 use Rattle.theory.specs.tables.Rows.{cell}
-use Rattle.theory.specs.tables.Reckonings.{slotWord, slotPlace, hasSlot, knownSlots, withBit, withoutBit}
+use Rattle.theory.specs.tables.Reckonings.{slotWords, slotWord, slotPlace, hasSlot, knownSlots, withBit, withoutBit}
 use Rattle.theory.proofs.basics.Reflects.{Reflects, right, wrong, equal}
 use Rattle.theory.proofs.acceptance.Rows.{none-below}
 use Rattle.theory.proofs.tables.Rows.{Joins, same-or}

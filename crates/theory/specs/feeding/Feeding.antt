@@ -11,7 +11,6 @@ use Rattle.theory.specs.declared.record.Record.{Record}
 use Rattle.theory.specs.declared.answer.Answer.{Answer}
 use Rattle.theory.specs.declared.answer.Answer.the-variants.{Refused, Accepted}
 use Rattle.theory.specs.declared.answer.Answer.the-variants as the
-use Rattle.theory.specs.declared.numbers.RecordNumber.{RecordNumber}
 use Rattle.theory.specs.declared.state.State.{State}
 use Rattle.theory.specs.declared.state.SetState.{SetState}
 use Rattle.theory.specs.order.Recording.{Event, act, lost, kind, lossMark, Unmarked, eventOf, accesses}

@@ -16,9 +16,11 @@ use Rattle.theory.specs.declared.state.SetStepped.{SetStepped}
 use Rattle.theory.specs.declared.masks.Masks.{Masks}
 use Rattle.theory.specs.fillings.Completion.{arrived, full}
 use Rattle.theory.specs.acceptance.Control.{countIn, refusalIn, controlAfter}
+use Rattle.theory.specs.order.Limits.{tasks}
 use Rattle.theory.specs.order.Recording.{accesses}
-use Rattle.theory.specs.history.History.{latestNumber, lastAfter}
-use Rattle.theory.specs.tables.Reckonings.{clocksBy, setsBy, masksBy, clockMasks, setMasks, lowestTask}
+use Rattle.theory.specs.tables.Rows.{cellCount}
+use Rattle.theory.specs.history.History.{slots, latestNumber, lastAfter}
+use Rattle.theory.specs.tables.Reckonings.{slotWords, clocksBy, setsBy, masksBy, clockMasks, setMasks, lowestTask}
 
 abbrev pub recordNumber : ℕ → RecordNumber
 recordNumber n = record { 0 = n }

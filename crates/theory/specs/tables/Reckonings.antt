@@ -12,7 +12,7 @@ use Rattle.theory.specs.order.Limits.{tasks}
 use Rattle.theory.specs.order.Recording.{lossMark, accesses}
 use Rattle.theory.specs.fillings.Completion.{bit, Filling, fills}
 use Rattle.theory.specs.tables.Rows.{rowCount, taskRow, cell, noteActed, onward, mark}
-use Rattle.theory.specs.history.History.{slot, latestSlot, latestNumber, underEach}
+use Rattle.theory.specs.history.History.{slot, slots, latestSlot, latestNumber, underEach}
 
 -- Clocks: at row n and column u the number of the last record of task u from which order has come to node n
 

@@ -1,6 +1,12 @@
 -- The rule of conflict for each kind of access; what is no access clashes with nothing.
+use mathlib.Core.Path.{refl}
+use mathlib.Core.Bool.{true}
+use lib.Dec.{eqb}
+use Rattle.theory.specs.tables.Turns.{turns}
+use Rattle.theory.specs.order.Recording.{Op}
+use Rattle.theory.specs.order.Path.{rule}
 use Rattle.theory.specs.history.History.{asker}
-use Rattle.theory.proofs.order.Numbered.{no-access-else, no-clash, clash-read, clash-write}
+use Rattle.theory.proofs.order.Numbered.{no-access-else, no-clash, each-asker}
 use borrow.Author.Needs.{needs}
 use Rattle.checker.proofs.history.clashes.Statement.{statement}
 use Rattle.checker.proofs.history.clashes.Tie as tie

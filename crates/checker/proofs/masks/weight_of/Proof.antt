@@ -1,7 +1,7 @@
 -- The weight of a bit in both halves of a word, or nothing.
-use mathlib.Core.Path.{sym, _∙_}
+use mathlib.Core.Path.{sym}
 use Prim.Native.Nat.{_^_, _+_, _*_}
-use native.Mathlib.Nat.{zero-mul, one-mul}
+use native.Mathlib.Nat.{zero-mul}
 use native.Mathlib.Omega.{arith}
 use lib.Pow.{pow-lt}
 use borrow.Author.Needs.{needs}

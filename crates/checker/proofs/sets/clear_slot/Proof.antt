@@ -5,7 +5,7 @@ use native.Mathlib.Omega.{arith}
 use lib.Bits.{bitAnd}
 use lib.ListN.{set}
 use Rattle.theory.specs.tables.Rows.{cell}
-use Rattle.theory.specs.tables.Reckonings.{clearSlot}
+use Rattle.theory.specs.tables.Reckonings.{slotWords, clearSlot}
 use Rattle.theory.proofs.basics.Turns.{Turned, no-turn, one-turn, all-turns}
 use borrow.Author.Needs.{needs}
 use Rattle.checker.proofs.sets.clear_slot.Statement.{statement}

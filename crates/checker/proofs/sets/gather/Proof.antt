@@ -5,6 +5,7 @@ use lib.Bits.{bitOr}
 use Rattle.theory.specs.fillings.Completion.{bit}
 use Rattle.theory.specs.tables.Rows.{joinRow, rowOrHub, gather}
 use Rattle.theory.proofs.basics.Turns.{Turned, no-turn, one-turn, all-turns}
+use Rattle.theory.specs.tables.Reckonings.{slotWords}
 use borrow.Author.Needs.{needs}
 use Rattle.checker.proofs.sets.gather.Statement.{statement}
 use Rattle.checker.proofs.sets.gather.Tie as tie

@@ -1,6 +1,7 @@
 -- A row of the sets joined with the copy of another; a row with itself is as it was.
 use mathlib.Core.Path.{_∙_}
 use Rattle.theory.proofs.tables.Rows.{same-or, join-self, join-copy}
+use Rattle.theory.specs.tables.Reckonings.{slotWords}
 use borrow.Author.Needs.{needs}
 use Rattle.checker.proofs.sets.join_copied.Statement.{statement}
 use Rattle.checker.proofs.sets.join_copied.Tie as tie

@@ -6,6 +6,7 @@ use lib.Bits.{bitOr}
 use Rattle.theory.specs.tables.Rows.{joinCell, joinRow}
 use Rattle.theory.proofs.basics.Turns.{Turned, no-turn, one-turn, all-turns}
 use Rattle.theory.proofs.tables.Rows.{same-or, join-self}
+use Rattle.theory.specs.tables.Reckonings.{slotWords}
 use borrow.Author.Needs.{needs}
 use Rattle.checker.proofs.sets.join_row.Statement.{statement}
 use Rattle.checker.proofs.sets.join_row.Tie as tie

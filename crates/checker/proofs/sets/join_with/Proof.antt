@@ -5,6 +5,7 @@ use native.Mathlib.Omega.{arith}
 use lib.Bits.{bitOr}
 use Rattle.theory.specs.tables.Rows.{joinWithCell, joinWith}
 use Rattle.theory.proofs.basics.Turns.{Turned, no-turn, one-turn, all-turns}
+use Rattle.theory.specs.tables.Reckonings.{slotWords}
 use borrow.Author.Needs.{needs}
 use Rattle.checker.proofs.sets.join_with.Statement.{statement}
 use Rattle.checker.proofs.sets.join_with.Tie as tie

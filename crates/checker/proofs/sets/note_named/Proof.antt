@@ -6,6 +6,7 @@ use lib.ListN.{set}
 use Rattle.theory.specs.fillings.Completion.{bit}
 use Rattle.theory.specs.tables.Rows.{cell, noteNamed}
 use Rattle.theory.proofs.basics.Turns.{Turned, no-turn, one-turn, all-turns}
+use Rattle.theory.specs.tables.Reckonings.{slotWords}
 use borrow.Author.Needs.{needs}
 use Rattle.checker.proofs.sets.note_named.Statement.{statement}
 use Rattle.checker.proofs.sets.note_named.Tie as tie

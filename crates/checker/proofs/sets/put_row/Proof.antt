@@ -5,6 +5,7 @@ use native.Mathlib.Omega.{arith}
 use lib.ListN.{set, getD}
 use Rattle.theory.specs.tables.Rows.{putRow}
 use Rattle.theory.proofs.basics.Turns.{Turned, no-turn, one-turn, all-turns}
+use Rattle.theory.specs.tables.Reckonings.{slotWords}
 use borrow.Author.Needs.{needs}
 use Rattle.checker.proofs.sets.put_row.Statement.{statement}
 use Rattle.checker.proofs.sets.put_row.Tie as tie

@@ -1,5 +1,4 @@
 -- A refused record leaves all as it was; of an accepted one the calls' equations are put together.
-use native.Mathlib.Omega.{arith}
 use Rattle.theory.specs.feeding.Step.{setStepOf}
 use Rattle.theory.proofs.acceptance.Accepted.{Accepts, accepts, set-refused}
 use borrow.Author.Needs.{needs}

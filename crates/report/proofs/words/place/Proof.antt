@@ -1,13 +1,12 @@
 -- `report::words::place`: the words before a place are passed. Assumes nothing.
 use mathlib.Core.Path.{_≡_, sym, ap, _∙_}
-use mathlib.Core.Bool.{Bool}
 use mathlib.Core.List.{List}
 use Prim.Native.Nat.{ℕ, _+_, _-_, _≤_}
 use native.Mathlib.Omega.{arith}
 use lib.ListN.{length, drop}
 use borrow.Author.Needs.{needs}
 use Rattle.text.specs.Bytes.{isWord}
-use Rattle.text.specs.LineForm.{words, placeOf, wordOf}
+use Rattle.text.specs.LineForm.{words, placeOf}
 use Rattle.text.proofs.LineForm.{word-passed, word-found, words-ended}
 use Rattle.text.proofs.Ops.{opening-room, opening-word}
 use Rattle.report.proofs.words.place.Statement.{statement}
