@@ -1,10 +1,13 @@
-// Standard input in blocks and standard output: here is only what moves the bytes.
+// Standard input in blocks, each fed in pieces to `report_piece`, which is proved; here is only what moves the bytes.
 use libc::STDERR_FILENO;
 use libc::STDIN_FILENO;
 use libc::STDOUT_FILENO;
+use report::report_piece;
 use text::Progress;
+use theory::Clocks;
+use theory::Control;
+use theory::History;
 ghost use Prim.Native.Nat.{_<_, _≤_};
-ghost use lib.ListN.{length};
 ghost use Rattle.io.specs.Counts.{Counts};
 
 // A piece is so short that the report of its lines has room beside a block of output that waits to be written.
@@ -14,21 +17,16 @@ const PIECE: usize = 1024;
 const WAITING: usize = 65_536;
 
 // What `at` is once nothing more can be written; a piece is then refused.
-pub(crate) const CLOSED: usize = 18_446_744_073_709_551_615;
+const CLOSED: usize = 18_446_744_073_709_551_615;
 
-// Reads one block, and says how much of it. A read may bring less than a block; none at all is the end of the input.
-pub(crate) fn read_block(block: &mut [u8]) -> usize
-    ensures { λ r. ⌜ Counts r (now (block .exit)) ⌝ }
-{
-    let got = libc::read(STDIN_FILENO, block);
-    if got < 0 {
-        io::write_all(STDERR_FILENO, b"order: the input cannot be read\n");
-    }
-    io::count(got, block)
+// What one block of the input came to: whether there may be more, and how far the report is.
+pub(crate) struct Turn {
+    pub more: bool,
+    pub now: Progress,
 }
 
 // Where the piece that begins at a place ends.
-pub(crate) fn piece_end(from: usize, len: usize) -> usize
+fn piece_end(from: usize, len: usize) -> usize
     requires { ⌜ from < len ⌝ }
     ensures { λ r. ⌜ (from < r) × (r ≤ len) ⌝ }
 {
@@ -51,7 +49,7 @@ fn waiting(out: &[u8], progress: Progress) -> usize
 }
 
 // Writes the report so far. Where the output is closed, nothing more is taken in.
-pub(crate) fn write_out(out: &[u8], now: Progress) -> Progress {
+fn write_out(out: &[u8], now: Progress) -> Progress {
     let n = waiting(out, now);
     let written = io::write_all(STDOUT_FILENO, &out[..n]);
     let at = if written { 0 } else { CLOSED };
@@ -63,9 +61,136 @@ pub(crate) fn write_out(out: &[u8], now: Progress) -> Progress {
 }
 
 // Writes the report so far, once there is a block of it.
-pub(crate) fn write_some(out: &[u8], now: Progress) -> Progress {
+fn write_some(out: &[u8], now: Progress) -> Progress {
     if now.at < WAITING {
         return now;
     }
     write_out(out, now)
+}
+
+// Feeds one piece.
+fn answer_piece(
+    out: &mut [u8],
+    piece: &[u8],
+    held: &mut [u8],
+    begun: Progress,
+    control: &mut Control,
+    last: &mut History,
+    clocks: &mut Clocks,
+    fullclocks: &mut Clocks,
+) -> Progress {
+    let now = report_piece(out, piece, held, begun, control, last, clocks, fullclocks);
+    write_some(out, now)
+}
+
+// Feeds a block, piece by piece.
+fn answer_block(
+    out: &mut [u8],
+    block: &[u8],
+    held: &mut [u8],
+    begun: Progress,
+    control: &mut Control,
+    last: &mut History,
+    clocks: &mut Clocks,
+    fullclocks: &mut Clocks,
+) -> Progress {
+    let mut now = begun;
+    let mut p: usize = 0;
+    while p < block.len() {
+        let e = piece_end(p, block.len());
+        now = answer_piece(
+            out,
+            &block[p..e],
+            held,
+            now,
+            control,
+            last,
+            clocks,
+            fullclocks,
+        );
+        p = e;
+    }
+    now
+}
+
+// Reads one block and feeds it. A read may bring less than a block; none at all is the end of the input.
+fn answer_read(
+    out: &mut [u8],
+    block: &mut [u8],
+    held: &mut [u8],
+    begun: Progress,
+    control: &mut Control,
+    last: &mut History,
+    clocks: &mut Clocks,
+    fullclocks: &mut Clocks,
+) -> Turn {
+    let got = libc::read(STDIN_FILENO, block);
+    if got < 0 {
+        io::write_all(STDERR_FILENO, b"order: the input cannot be read\n");
+    }
+    let n = io::count(got, block);
+    let now = answer_block(
+        out,
+        &block[..n],
+        held,
+        begun,
+        control,
+        last,
+        clocks,
+        fullclocks,
+    );
+    Turn {
+        more: n > 0 && now.at < CLOSED,
+        now,
+    }
+}
+
+// Feeds the whole input. A proved loop has to end, and nothing says that an input does: it counts turns that no run uses up.
+pub(crate) fn answer_input(
+    out: &mut [u8],
+    held: &mut [u8],
+    begun: Progress,
+    control: &mut Control,
+    last: &mut History,
+    clocks: &mut Clocks,
+    fullclocks: &mut Clocks,
+) -> Progress {
+    let mut block = io::large_buffer();
+    let mut now = begun;
+    let mut more = true;
+    let mut turns = u64::MAX;
+    while turns > 0 && more {
+        let turn = answer_read(
+            out,
+            &mut block,
+            held,
+            now,
+            control,
+            last,
+            clocks,
+            fullclocks,
+        );
+        now = turn.now;
+        more = turn.more;
+        turns -= 1;
+    }
+    now
+}
+
+// Answers a rest without LF, as if LF ended it, and writes what waits.
+pub(crate) fn finish(
+    out: &mut [u8],
+    held: &mut [u8],
+    begun: Progress,
+    control: &mut Control,
+    last: &mut History,
+    clocks: &mut Clocks,
+    fullclocks: &mut Clocks,
+) {
+    if begun.held == 0 {
+        write_out(out, begun);
+        return;
+    }
+    let now = report_piece(out, b"\n", held, begun, control, last, clocks, fullclocks);
+    write_out(out, now);
 }

@@ -1,0 +1,21 @@
+-- `answer_block` is safe and ends: each piece leaves less of the block.
+use mathlib.Core.Path.{_≡_}
+use Prim.Native.Nat.{_≤_, _-_}
+use lib.ListN.{length}
+use borrow.Author.Needs.{needs}
+use Rattle.order.proofs.blocks.answer_block.Statement.{statement}
+use Rattle.order.proofs.blocks.answer_block.Tie as tie
+
+abbrev Inv-loop : tie.InvT-loop
+Inv-loop out₀ block held₀ control₀ last₀ clocks₀ fullclocks₀ now₀ p₀ out held control last clocks fullclocks now p =
+    (p ≤ length block) × (length out ≡ length out₀) × (length held ≡ length held₀)
+
+abbrev μ-loop : tie.MeasureT-loop
+μ-loop out₀ block held₀ control₀ last₀ clocks₀ fullclocks₀ now₀ p₀ out held control last clocks fullclocks now p =
+    length block - p
+
+pub answer-block-spec : {M : Type 1} → statement M
+answer-block-spec =
+    tie.close (tie.spec
+    Inv-loop μ-loop (λ c. search needs) (λ c κs. search needs) (λ c. search needs) (λ c. search needs) (λ c. search needs)
+    (λ c κs. search needs) (λ c. search needs) (λ c. search needs) (λ c. search needs) (λ c. search needs) (λ c. search needs))
