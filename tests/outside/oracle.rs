@@ -264,27 +264,38 @@ pub fn fullest(mask: u32) -> Vec<Act> {
     list
 }
 
-/// An accepted read or write.
+/// A read or a write.
+pub fn is_access(op: Op) -> bool {
+    matches!(op, Read | Write)
+}
+
+/// Two accesses of which one writes at least.
+fn clash(a: Op, b: Op) -> bool {
+    a == Write || b == Write
+}
+
+/// An accepted access.
 #[derive(Clone, Copy)]
 pub struct Access {
     pub rec: usize,
     pub task: u32,
     pub var: u32,
-    pub writes: bool,
+    pub op: Op,
 }
 
 pub fn accesses(recording: &[Record]) -> Vec<Access> {
     let mut list = Vec::new();
     for (at, record) in recording.iter().enumerate() {
-        if let Record::Act(Act { op: op @ (Read | Write), task, on }) = *record {
-            list.push(Access { rec: at + 1, task, var: on, writes: op == Write });
+        match *record {
+            Record::Act(Act { op, task, on }) if is_access(op) => list.push(Access { rec: at + 1, task, var: on, op }),
+            _ => {}
         }
     }
     list
 }
 
 pub fn conflict(a: &Access, b: &Access) -> bool {
-    a.var == b.var && a.task != b.task && (a.writes || b.writes)
+    a.var == b.var && a.task != b.task && clash(a.op, b.op)
 }
 
 /// Which event has a path to which, asked by places in the list of accesses.
@@ -323,7 +334,7 @@ pub fn paths(events: &[Event]) -> Paths {
             }
         }
     }
-    let places = (0..events.len()).filter(|&at| events[at].rec > 0 && matches!(events[at].act.op, Read | Write)).collect();
+    let places = (0..events.len()).filter(|&at| events[at].rec > 0 && is_access(events[at].act.op)).collect();
     Paths { places, words, bits }
 }
 
