@@ -20,22 +20,23 @@ add-number c = omega (arith, accepted (c .before) .room)
 clock-masks-requires : tie.Need-clock-masks-requires
 clock-masks-requires c κs = accepted (c .before .before .before .before) .proper
 
-take-in-requires : tie.Need-take-in-requires
-take-in-requires c κs = let a = accepted (c .before .before .before .before .before .before .before) in (a .proper, a .room)
-
 advance-clocks-requires : tie.Need-advance-clocks-requires
-advance-clocks-requires c κs = accepted (c .before .before .before .before .before .before .before .before .before .before) .proper
+advance-clocks-requires c κs = accepted (c .before .before .before .before .before .before .before) .proper
+
+take-in-requires : tie.Need-take-in-requires
+take-in-requires c κs = let a = accepted (c .before .before .before .before .before .before .before .before .before .before) in (a .proper, a .room)
 
 returns-2 : tie.Need-returns-2
 unfolding stepOf
 returns-2 c =
-    let at-take-in = c .before .before .before in
-    let at-masks = at-take-in .before .before .before in
+    let at-advance = c .before .before .before in
+    let at-masks = at-advance .before .before .before in
     let at-if1 = at-masks .before .before .before .before .before in
-    let t = at-take-in .take-in .ensures in
-    rw (← at-if1 .before .refusal .ensures, at-if1 .if1 .left, t .1, t .2, t .0, c .advance-clocks .ensures .0, c .advance-clocks .ensures .1, at-masks .clock-masks .ensures)
+    let t = c .take-in .ensures in
+    let tables = at-advance .advance-clocks .ensures in
+    rw (← at-if1 .before .refusal .ensures, at-if1 .if1 .left, t .1, t .2, t .0, tables .0, tables .1, at-masks .clock-masks .ensures)
 
 pub step-in-place-spec : {M : Type 1} → statement M
 step-in-place-spec =
     tie.close (tie.spec
-    (λ c κs. search needs) returns (λ c. search needs) add-number clock-masks-requires take-in-requires advance-clocks-requires returns-2)
+    (λ c κs. search needs) returns (λ c. search needs) add-number clock-masks-requires advance-clocks-requires take-in-requires returns-2)
