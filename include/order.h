@@ -46,20 +46,27 @@ uint64_t order_report(const uint8_t *text, size_t text_len, uint8_t *report, siz
 #define ORDER_RACE 3
 #define ORDER_DOUBT 4
 
+/* How many cells each table of a running state has. */
+#define ORDER_CONTROL_CELLS 17
+#define ORDER_HISTORY_CELLS 2048
+#define ORDER_CLOCK_CELLS 1312
+#define ORDER_SET_CELLS 5248
+
 /* A running state, which the host keeps and lends to each call. Nobody else may write to it between its begin and its last record.
  * What its cells hold is the checker's own affair; there may be as many states as the host likes. */
 struct order_state {
-    uint32_t control[17], last[2048], clocks[1312], fullclocks[1312];
+    uint32_t control[ORDER_CONTROL_CELLS], last[ORDER_HISTORY_CELLS], clocks[ORDER_CLOCK_CELLS], fullclocks[ORDER_CLOCK_CELLS];
 };
 
 /* Makes the lent tables those of a fresh state, whatever they held. */
-void order_begin(uint32_t control[17], uint32_t last[2048], uint32_t clocks[1312], uint32_t fullclocks[1312]);
+void order_begin(uint32_t control[ORDER_CONTROL_CELLS], uint32_t last[ORDER_HISTORY_CELLS], uint32_t clocks[ORDER_CLOCK_CELLS],
+                 uint32_t fullclocks[ORDER_CLOCK_CELLS]);
 
 /* Feeds one record, of any numbers at all, to the state in the lent tables and writes the answer.
  *
  * Here as in order_begin the pointers must be valid for their sizes, aligned and not null, and no two may overlap. */
-void order_feed(uint32_t control[17], uint32_t last[2048], uint32_t clocks[1312], uint32_t fullclocks[1312], uint8_t kind, uint32_t task,
-                uint32_t on, uint32_t answer[3]);
+void order_feed(uint32_t control[ORDER_CONTROL_CELLS], uint32_t last[ORDER_HISTORY_CELLS], uint32_t clocks[ORDER_CLOCK_CELLS],
+                uint32_t fullclocks[ORDER_CLOCK_CELLS], uint8_t kind, uint32_t task, uint32_t on, uint32_t answer[3]);
 
 /* The two with a whole state. */
 static inline void order_state_begin(struct order_state *s) {
@@ -73,13 +80,14 @@ static inline void order_state_feed(struct order_state *s, uint8_t kind, uint32_
 /* The same reckoned by sets in place of clocks, for a host that wants a second opinion: a state of its own, the same answer to each
  * record. */
 struct order_sets {
-    uint32_t control[17], last[2048], sets[5248], fullsets[5248];
+    uint32_t control[ORDER_CONTROL_CELLS], last[ORDER_HISTORY_CELLS], sets[ORDER_SET_CELLS], fullsets[ORDER_SET_CELLS];
 };
 
-void order_sets_begin(uint32_t control[17], uint32_t last[2048], uint32_t sets[5248], uint32_t fullsets[5248]);
+void order_sets_begin(uint32_t control[ORDER_CONTROL_CELLS], uint32_t last[ORDER_HISTORY_CELLS], uint32_t sets[ORDER_SET_CELLS],
+                      uint32_t fullsets[ORDER_SET_CELLS]);
 
-void order_sets_feed(uint32_t control[17], uint32_t last[2048], uint32_t sets[5248], uint32_t fullsets[5248], uint8_t kind, uint32_t task,
-                     uint32_t on, uint32_t answer[3]);
+void order_sets_feed(uint32_t control[ORDER_CONTROL_CELLS], uint32_t last[ORDER_HISTORY_CELLS], uint32_t sets[ORDER_SET_CELLS],
+                     uint32_t fullsets[ORDER_SET_CELLS], uint8_t kind, uint32_t task, uint32_t on, uint32_t answer[3]);
 
 static inline void order_sets_state_begin(struct order_sets *s) {
     order_sets_begin(s->control, s->last, s->sets, s->fullsets);

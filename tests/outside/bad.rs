@@ -118,9 +118,7 @@ fn orderly(text: &[u8], report: &[u8]) -> bool {
         let answered = match *fate {
             Fate::Refused(row) => answers.next() == Some(&format!("line={} refused={row}", at + 1)),
             Fate::Accepted(rec) => match reading.recording[rec - 1] {
-                Record::Act(act @ oracle::Act { op: oracle::Op::Read | oracle::Op::Write, .. }) => {
-                    answers.next().is_some_and(|line| is_verdict(line, rec, act))
-                }
+                Record::Act(act) if oracle::is_access(act.op) => answers.next().is_some_and(|line| is_verdict(line, rec, act)),
                 _ => true,
             },
         };

@@ -142,7 +142,7 @@ pub fn expect(tally: &mut Tally, name: &str, records: &[Numbers], reading: &Read
 /// The records of a text. A mark gets any number as its task, which is not looked at; a line that yields no record is one of no known kind.
 pub fn records(text: &[u8]) -> Vec<Numbers> {
     let numbers = |line: &&[u8]| match oracle::read_line(line) {
-        Some(Record::Act(Act { op, task, on })) => (oracle::WORDS.iter().position(|&(_, known)| known == op).unwrap() as u8, task, on),
+        Some(Record::Act(Act { op, task, on })) => (oracle::OPS.iter().find(|known| known.2 == op).unwrap().1, task, on),
         Some(Record::Lost(mask)) => (oracle::LOST, mask.wrapping_mul(0x9e37_79b9), mask),
         None => (u8::MAX - (line.len() % 200) as u8, 0, 0),
     };

@@ -1,6 +1,6 @@
 //! Recordings at random from fixed seeds: sound ones, ones with records to refuse, and damaged text; and random fillings of marks.
 
-use crate::oracle::{fullest, Act, Op};
+use crate::oracle::{fullest, Act, Op, OPS};
 
 /// splitmix64: small, and the same on every machine.
 pub struct Random(u64);
@@ -241,7 +241,7 @@ fn stray(random: &mut Random) -> String {
         let mask = random.pick(&[0, 65_536, 99_999, 65_535, 1, 2, any]);
         return format!("op=lost tasks={mask}");
     }
-    let word = random.pick(&["read", "write", "take", "give", "look", "set", "start", "join"]);
+    let word = random.pick(OPS).0;
     let task = random.pick(&[0, 0, 0, 1, 2, 3, 15, 16, 17, 99_999]);
     let any = random.below(70);
     let on = random.pick(&[task, task, 0, 1, 2, 15, 16, 31, 32, 63, 64, 99_999, any]);

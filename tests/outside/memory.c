@@ -66,7 +66,7 @@ static void fed(const char *name, begin_call *begin, feed_call *feed, size_t siz
                                     ORDER_TAKE,  ORDER_LOOK,  ORDER_READ, ORDER_JOIN, 255};
     static const uint32_t numbers[] = {0, 1, 3, 15, 16, 31, 32, 63, 64, 32768, 65535, 65536, UINT32_MAX};
     enum { KINDS = sizeof kinds, NUMBERS = sizeof numbers / sizeof numbers[0] };
-    uint32_t *control = cells(17), *last = cells(2048), *arrived = cells(size), *full = cells(size);
+    uint32_t *control = cells(ORDER_CONTROL_CELLS), *last = cells(ORDER_HISTORY_CELLS), *arrived = cells(size), *full = cells(size);
     int right = 1;
     begin(control, last, arrived, full);
     for (size_t i = 0; i < KINDS * NUMBERS * NUMBERS; i++) {
@@ -75,7 +75,7 @@ static void fed(const char *name, begin_call *begin, feed_call *feed, size_t siz
         right = right && answer[0] <= ORDER_DOUBT && answer[1] > 0 && (answer[2] > 0) == (answer[0] >= ORDER_RACE);
         free(answer);
     }
-    right = right && sum(control, 17) > 0 && sum(last, 2048) > 0 && sum(arrived, size) > 0 && sum(full, size) > 0;
+    right = right && sum(control, ORDER_CONTROL_CELLS) > 0 && sum(last, ORDER_HISTORY_CELLS) > 0 && sum(arrived, size) > 0 && sum(full, size) > 0;
     if (right) {
         passed++;
     } else {
@@ -101,8 +101,8 @@ int main(void) {
     for (size_t cut = 1; cut < len; cut += 5) around(sample, cut);
     for (size_t cut = 1; cut < len; cut += 23) around(sample + cut, len - cut);
     for (size_t length = 0; length < 64; length++) call("op=read task=0 on=1", 19, length, 0);
-    fed("clocks", order_begin, order_feed, 1312);
-    fed("sets", order_sets_begin, order_sets_feed, 5248);
+    fed("clocks", order_begin, order_feed, ORDER_CLOCK_CELLS);
+    fed("sets", order_sets_begin, order_sets_feed, ORDER_SET_CELLS);
     printf("memory: %d passed, %d failed\n", passed, failed);
     return failed != 0;
 }

@@ -28,7 +28,9 @@ fn compare(tally: &mut Tally, name: &str, records: &[Numbers]) {
     let reading = read(records);
     for (&(kind, task, on), fate) in records.iter().zip(&reading.fates) {
         match fate {
-            Fate::Refused(row) if kind > oracle::LOST || task.max(on) > SAYABLE => tally.see(&format!("unsayable, refused {row}"), 1),
+            Fate::Refused(row) if kind > oracle::last_kind() || task.max(on) > SAYABLE => {
+                tally.see(&format!("unsayable, refused {row}"), 1)
+            }
             _ => {}
         }
     }
@@ -45,8 +47,12 @@ fn each_kind(tally: &mut Tally) {
     }
 }
 
+fn is_access((kind, task, on): Numbers) -> bool {
+    matches!(oracle::record_of(kind, task, on), Some(oracle::Record::Act(act)) if oracle::is_access(act.op))
+}
+
 fn any(random: &mut Random) -> Numbers {
-    let kinds = if random.percent(70) { oracle::LOST as usize + 1 } else { 256 };
+    let kinds = if random.percent(70) { oracle::last_kind() as usize + 1 } else { 256 };
     let kind = random.below(kinds) as u8;
     let number = random.next() as u32;
     let task = if random.percent(90) { random.pick(&TASKS) } else { number };
@@ -84,10 +90,10 @@ fn any_tables(tally: &mut Tally) {
                 let right = match (read(&[record]).fates[0], &answer) {
                     (Fate::Refused(row @ 1..=4), Ok(answer)) => *answer == [0, row, 0],
                     (_, Ok([0, row, with])) => (5..=9).contains(row) && *with == 0,
-                    // The accesses are kinds 0 and 1, and no others have a verdict.
+                    // Accesses have a verdict, and no others.
                     (_, Ok([said, number, _])) => {
                         tally.see("tables of any content, accepted", 1);
-                        (1..=60_000).contains(number) && *said <= 4 && (*said == 1) == (record.0 > 1)
+                        (1..=60_000).contains(number) && *said <= 4 && (*said == 1) == !is_access(record)
                     }
                     (_, Err(_)) => false,
                 };

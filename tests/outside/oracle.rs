@@ -19,11 +19,25 @@ pub enum Op {
 
 use Op::*;
 
-pub const WORDS: [(&str, Op); 8] =
-    [("read", Read), ("write", Write), ("take", Take), ("give", Give), ("look", Look), ("set", Set), ("start", Start), ("join", Join)];
+/// The ops: word, kind number, the highest number of the series that `on` belongs to.
+pub const OPS: &[(&str, u8, Op, u32)] = &[
+    ("read", 0, Read, 63),
+    ("write", 1, Write, 63),
+    ("take", 2, Take, 31),
+    ("give", 3, Give, 31),
+    ("look", 4, Look, 31),
+    ("set", 5, Set, 31),
+    ("start", 6, Start, 15),
+    ("join", 7, Join, 15),
+];
 
 /// The kind number of a loss mark.
 pub const LOST: u8 = 8;
+
+/// The highest kind number.
+pub fn last_kind() -> u8 {
+    OPS.iter().map(|op| op.1).fold(LOST, u8::max)
+}
 
 /// What a task does: the op, the acting task and the number.
 #[derive(Clone, Copy, Debug)]
@@ -58,7 +72,7 @@ pub fn read_line(line: &[u8]) -> Option<Record> {
         ["op=lost", tasks] => Some(Record::Lost(number(tasks.strip_prefix("tasks=")?)?)),
         [op, task, on] => {
             let word = op.strip_prefix("op=")?;
-            let (_, op) = *WORDS.iter().find(|(known, _)| *known == word)?;
+            let op = OPS.iter().find(|op| op.0 == word)?.2;
             let task = number(task.strip_prefix("task=")?)?;
             let on = number(on.strip_prefix("on=")?)?;
             Some(Record::Act(Act { op, task, on }))
@@ -79,10 +93,10 @@ fn number(digits: &str) -> Option<u32> {
     }
 }
 
-/// A record fed without text: its kind by number, `lost` after the words above. A mark has its mask in `on` and no task.
+/// A record fed without text: its kind by number. A mark has its mask in `on` and no task.
 pub fn record_of(kind: u8, task: u32, on: u32) -> Option<Record> {
-    match WORDS.get(kind as usize) {
-        Some(&(_, op)) => Some(Record::Act(Act { op, task, on })),
+    match OPS.iter().find(|op| op.1 == kind) {
+        Some(&(_, _, op, _)) => Some(Record::Act(Act { op, task, on })),
         None => (kind == LOST).then_some(Record::Lost(on)),
     }
 }
@@ -114,11 +128,7 @@ fn named(mask: u32) -> impl Iterator<Item = u32> {
 
 /// The highest number of the series that an op's `on` belongs to.
 fn highest(op: Op) -> u32 {
-    match op {
-        Read | Write => 63,
-        Take | Give | Look | Set => 31,
-        Start | Join => 15,
-    }
+    OPS.iter().find(|known| known.2 == op).unwrap().3
 }
 
 /// The first of rows 1 to 9 that applies.
@@ -254,27 +264,38 @@ pub fn fullest(mask: u32) -> Vec<Act> {
     list
 }
 
-/// An accepted read or write.
+/// A read or a write.
+pub fn is_access(op: Op) -> bool {
+    matches!(op, Read | Write)
+}
+
+/// Two accesses of which one writes at least.
+fn clash(a: Op, b: Op) -> bool {
+    a == Write || b == Write
+}
+
+/// An accepted access.
 #[derive(Clone, Copy)]
 pub struct Access {
     pub rec: usize,
     pub task: u32,
     pub var: u32,
-    pub writes: bool,
+    pub op: Op,
 }
 
 pub fn accesses(recording: &[Record]) -> Vec<Access> {
     let mut list = Vec::new();
     for (at, record) in recording.iter().enumerate() {
-        if let Record::Act(Act { op: op @ (Read | Write), task, on }) = *record {
-            list.push(Access { rec: at + 1, task, var: on, writes: op == Write });
+        match *record {
+            Record::Act(Act { op, task, on }) if is_access(op) => list.push(Access { rec: at + 1, task, var: on, op }),
+            _ => {}
         }
     }
     list
 }
 
 pub fn conflict(a: &Access, b: &Access) -> bool {
-    a.var == b.var && a.task != b.task && (a.writes || b.writes)
+    a.var == b.var && a.task != b.task && clash(a.op, b.op)
 }
 
 /// Which event has a path to which, asked by places in the list of accesses.
@@ -313,7 +334,7 @@ pub fn paths(events: &[Event]) -> Paths {
             }
         }
     }
-    let places = (0..events.len()).filter(|&at| events[at].rec > 0 && matches!(events[at].act.op, Read | Write)).collect();
+    let places = (0..events.len()).filter(|&at| events[at].rec > 0 && is_access(events[at].act.op)).collect();
     Paths { places, words, bits }
 }
 

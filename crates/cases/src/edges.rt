@@ -4,6 +4,7 @@ use crate::records::GIVE;
 use crate::records::JOIN;
 use crate::records::LOOK;
 use crate::records::LOST;
+use crate::records::NONE;
 use crate::records::READ;
 use crate::records::SET;
 use crate::records::START;
@@ -20,8 +21,8 @@ fn row(name: &[u8], kind: u8, task: u32, on: u32) {
 }
 
 // Rows 1 to 9 but row 5, which full.rt has.
-pub fn rows() {
-    row(b"row 1", 9, 0, 1);
+pub(crate) fn rows() {
+    row(b"row 1", NONE, 0, 1);
     once(255, 0, 1);
     row(b"row 2", READ, 16, 1);
     row(b"row 3", TAKE, 0, 32);
@@ -33,9 +34,9 @@ pub fn rows() {
 }
 
 // Rows 1, 2 and 3 each before all after it; row 6 before 7 and 8; a join of an unseen task.
-pub fn first_row() {
+pub(crate) fn first_row() {
     line(b"the first row that applies");
-    once(9, 16, 64);
+    once(NONE, 16, 64);
     once(READ, 16, 64);
     once(TAKE, 1, 32);
     once(START, 1, 0);
@@ -51,7 +52,7 @@ fn last_and_next(kind: u8, last: u32)
     once(kind, 0, last + 1);
 }
 
-pub fn series() {
+pub(crate) fn series() {
     line(b"variables 63 and 64");
     last_and_next(READ, 63);
     last_and_next(WRITE, 63);
@@ -68,7 +69,7 @@ pub fn series() {
     once(READ, 16, 1);
 }
 
-pub fn huge() {
+pub(crate) fn huge() {
     line(b"4294967295");
     once(READ, HUGE, 1);
     once(READ, 0, HUGE);
@@ -77,7 +78,7 @@ pub fn huge() {
     once(255, HUGE, HUGE);
 }
 
-pub fn masks() {
+pub(crate) fn masks() {
     line(b"masks 0, 65535 and 65536");
     once(LOST, 0, 0);
     last_and_next(LOST, 65_535);

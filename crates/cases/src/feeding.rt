@@ -35,23 +35,23 @@ fn by_sets(source: Source, text: &[u8]) {
 }
 
 // Twice over, so that the reckonings are seen to agree.
-pub fn run_source(name: &[u8], source: Source, text: &[u8]) {
+pub(crate) fn run_source(name: &[u8], source: Source, text: &[u8]) {
     run_clocks(name, source, text);
     io::write_all(1, name);
     line(b" sets");
     by_sets(source, text);
 }
 
-pub fn run(name: &[u8], text: &[u8]) {
+pub(crate) fn run(name: &[u8], text: &[u8]) {
     run_source(name, Source::Text, text);
 }
 
-pub fn run_clocks(name: &[u8], source: Source, text: &[u8]) {
+pub(crate) fn run_clocks(name: &[u8], source: Source, text: &[u8]) {
     line(name);
     by_clocks(source, text);
 }
 
-pub fn run_by_value(name: &[u8], text: &[u8]) {
+pub(crate) fn run_by_value(name: &[u8], text: &[u8]) {
     line(name);
     let mut state = checker::fresh();
     for n in 0..text::count(text) {
@@ -63,6 +63,6 @@ pub fn run_by_value(name: &[u8], text: &[u8]) {
 }
 
 // One record, of any numbers, fed to a fresh state.
-pub fn once(kind: u8, task: u32, on: u32) {
+pub(crate) fn once(kind: u8, task: u32, on: u32) {
     by_clocks(Source::One(record(kind, task, on)), b"");
 }

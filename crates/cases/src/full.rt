@@ -10,15 +10,15 @@ use theory::Answer;
 use theory::Record;
 
 // With every task live the largest mask is accepted: 15 starts and a mark.
-pub const STARTS: usize = 16;
+pub(crate) const STARTS: usize = 16;
 
 // Row 5: 60,000 records are accepted and no more.
-pub const ROW_5: usize = 60_005;
+pub(crate) const ROW_5: usize = 60_005;
 
 // How many of its answers go before the first that is printed.
 const SILENT: usize = 59_999;
 
-pub fn starts(n: usize) -> Record {
+pub(crate) fn starts(n: usize) -> Record {
     match n {
         0..=14 => record(START, 0, n as u32 + 1),
         _ => record(LOST, 0, 65_535),
@@ -27,7 +27,7 @@ pub fn starts(n: usize) -> Record {
 
 // Reads of variable 1, of which one is too many. Then a semaphore and a mask that rows 3 and 4 refuse, as these come before row 5;
 // then a mark and a task that is not live, as row 5 comes before row 6.
-pub fn row_5(n: usize) -> Record {
+pub(crate) fn row_5(n: usize) -> Record {
     match n {
         60_001 => record(TAKE, 0, 32),
         60_002 => record(LOST, 0, 0),
@@ -37,7 +37,7 @@ pub fn row_5(n: usize) -> Record {
     }
 }
 
-pub fn tell_row_5(n: usize, a: Answer) {
+pub(crate) fn tell_row_5(n: usize, a: Answer) {
     if SILENT <= n {
         tell_numbered(a);
     }

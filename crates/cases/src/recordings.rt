@@ -6,7 +6,7 @@ use crate::feeding::run_source;
 use crate::source::Source;
 
 // Short recordings without loss.
-pub fn short() {
+pub(crate) fn short() {
     run(b"K1", b"");
     run(b"K2", b"0+1 0w5 1r5");
     run(b"K3", b"0w5 0+1 1r5");
@@ -17,7 +17,7 @@ pub fn short() {
 }
 
 // Short recordings with loss.
-pub fn lossy() {
+pub(crate) fn lossy() {
     run(b"K8", b"0+1 0w5 1w5 _?3");
     run(b"K9", b"0+1 0w5 _?3 1w5");
     run(b"K10", b"0+1 0w5 _?2 1w5");
@@ -29,21 +29,21 @@ pub fn lossy() {
 
 // A task that is joined without having acted passes no order on, but a lost act of it may have. An older access is not forgotten.
 // The report's example of document 01.
-pub fn longer() {
+pub(crate) fn longer() {
     run(b"idle task", b"0+2 0w5 0+1 2-1 2r5");
     run(b"idle task with a loss", b"0+2 0w5 0+1 _?2 2-1 2r5");
     run(b"older access", b"0+1 0+2 1w5 2w5 2g4 0t4 0w5");
     run(b"report", b"0+1 0w5 0g2 0w6 _?2 1r5 1r6 1t2 1w5 2r5");
 }
 
-pub fn by_value() {
+pub(crate) fn by_value() {
     run_by_value(b"K9 by value", b"0+1 0w5 _?3 1w5");
     run_by_value(b"K12 by value", b"0+1 0w5 _?1 _?2 1w5");
     run_by_value(b"K12 reversed by value", b"0+1 0w5 _?2 _?1 1w5");
 }
 
 // Refused records between accepted ones.
-pub fn refused() {
+pub(crate) fn refused() {
     run_clocks(
         b"refused records are not counted",
         Source::Numbered,
@@ -52,7 +52,7 @@ pub fn refused() {
     run_clocks(b"an ended task", Source::Text, b"0+1 0-1 1r5 0+1 0-1 _?2");
 }
 
-pub fn full() {
+pub(crate) fn full() {
     run_clocks(b"every task, then a mark of all", Source::Starts, b"");
     run_source(b"row 5", Source::Row5, b"");
 }

@@ -11,7 +11,7 @@ use theory::Answer;
 use theory::Record;
 
 // The records of the text, told without their numbers or with them; one record; the recordings of full.rt.
-pub enum Source {
+pub(crate) enum Source {
     Text,
     Numbered,
     One(Record),
@@ -19,7 +19,7 @@ pub enum Source {
     Row5,
 }
 
-pub fn count(source: Source, text: &[u8]) -> usize {
+pub(crate) fn count(source: Source, text: &[u8]) -> usize {
     match source {
         Source::One(_) => 1,
         Source::Starts => STARTS,
@@ -28,7 +28,7 @@ pub fn count(source: Source, text: &[u8]) -> usize {
     }
 }
 
-pub fn nth(source: Source, text: &[u8], n: usize) -> Record {
+pub(crate) fn nth(source: Source, text: &[u8], n: usize) -> Record {
     match source {
         Source::One(r) => r,
         Source::Starts => starts(n),
@@ -38,7 +38,7 @@ pub fn nth(source: Source, text: &[u8], n: usize) -> Record {
 }
 
 // Prints the answer to the n-th record as its source wants it.
-pub fn tell_nth(source: Source, n: usize, a: Answer) {
+pub(crate) fn tell_nth(source: Source, n: usize, a: Answer) {
     match source {
         Source::Numbered => tell_numbered(a),
         Source::Row5 => tell_row_5(n, a),

@@ -2,7 +2,7 @@
 use theory::Answer;
 use theory::RecordNumber;
 
-pub fn line(text: &[u8]) {
+pub(crate) fn line(text: &[u8]) {
     io::write_all(1, text);
     io::write_all(1, b"\n");
 }
@@ -18,7 +18,7 @@ fn told(word: &[u8], n: u32) {
     io::write_all(1, b"\n");
 }
 
-pub fn tell(a: Answer) {
+pub(crate) fn tell(a: Answer) {
     match a {
         Answer::Refused(row) => told(b"refused ", row),
         Answer::Accepted(_) => line(b"accepted"),
@@ -39,7 +39,7 @@ fn number_of(a: Answer) -> u32 {
 }
 
 // The same after the record's own number; a refused one has none.
-pub fn tell_numbered(a: Answer) {
+pub(crate) fn tell_numbered(a: Answer) {
     let n = number_of(a);
     if n != 0 {
         number(n);

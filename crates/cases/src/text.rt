@@ -3,6 +3,7 @@ use crate::records::GIVE;
 use crate::records::JOIN;
 use crate::records::LOOK;
 use crate::records::LOST;
+use crate::records::NONE;
 use crate::records::READ;
 use crate::records::SET;
 use crate::records::START;
@@ -11,9 +12,6 @@ use crate::records::WRITE;
 use crate::records::record;
 use theory::Record;
 ghost use Prim.Native.Nat.{_+_, _*_, _≤_};
-
-// A kind number of none of the nine.
-const NONE: u8 = 255;
 
 fn kind_of(sign: u8) -> u8 {
     match sign {
@@ -38,14 +36,14 @@ fn digit(b: u8) -> u32 {
 }
 
 // How many records a text has: the last one has no byte after it.
-pub fn count(text: &[u8]) -> usize
+pub(crate) fn count(text: &[u8]) -> usize
     ensures { λ r. do ⌜ r * 4 ≤ (← ⟦text.len()⟧ .entry) + 1 ⌝ }
 {
     text.len() / 4 + text.len() % 4 / 3
 }
 
 // The n-th record, from 0, and one of no kind where there is none.
-pub fn nth(text: &[u8], n: usize) -> Record {
+pub(crate) fn nth(text: &[u8], n: usize) -> Record {
     if n < count(text) {
         let i = n * 4;
         return record(kind_of(text[i + 1]), digit(text[i]), digit(text[i + 2]));

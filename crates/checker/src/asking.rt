@@ -3,20 +3,25 @@
 use crate::clocks::clock_masks;
 use crate::refusals::refusal;
 use crate::sets::set_masks;
+use theory::Clocks;
+use theory::Control;
+use theory::History;
 use theory::Masks;
 use theory::Record;
+use theory::Sets;
 ghost use mathlib.Core.Path.{_≡_};
-ghost use Rattle.theory.specs.Step.{stateOf, setsOf, apartByClocks, apartBySets};
+ghost use Rattle.theory.specs.feeding.Step.{apartByClocks, apartBySets};
+ghost use Rattle.theory.specs.feeding.Lent.{tables, setTables};
 
 // By the clocks.
 pub fn apart_by_clocks(
-    control: &[u32; 17],
-    last: &[u32; 2048],
-    clocks: &[u32; 1312],
-    fullclocks: &[u32; 1312],
+    control: &Control,
+    last: &History,
+    clocks: &Clocks,
+    fullclocks: &Clocks,
     r: Record,
 ) -> Masks
-    ensures { λ m. ⌜ m ≡ apartByClocks (stateOf (now (control .entry)) (now (last .entry)) (now (clocks .entry)) (now (fullclocks .entry))) r ⌝ }
+    ensures { λ m. ⌜ m ≡ apartByClocks ((tables control last clocks fullclocks) .entry) r ⌝ }
 {
     let refused = refusal(control, r);
     if refused != 0 {
@@ -30,13 +35,13 @@ pub fn apart_by_clocks(
 
 // By the sets.
 pub fn apart_by_sets(
-    control: &[u32; 17],
-    last: &[u32; 2048],
-    sets: &[u32; 5248],
-    fullsets: &[u32; 5248],
+    control: &Control,
+    last: &History,
+    sets: &Sets,
+    fullsets: &Sets,
     r: Record,
 ) -> Masks
-    ensures { λ m. ⌜ m ≡ apartBySets (setsOf (now (control .entry)) (now (last .entry)) (now (sets .entry)) (now (fullsets .entry))) r ⌝ }
+    ensures { λ m. ⌜ m ≡ apartBySets ((setTables control last sets fullsets) .entry) r ⌝ }
 {
     let refused = refusal(control, r);
     if refused != 0 {

@@ -1,26 +1,36 @@
 // Clocks: a table of 81 rows and a column for each task, and one row more that says which tasks have acted. A cell has the number of the
 // task's last record from which order has come to the row's node. One table is for the recording as it arrived, one for the fullest filling.
+use crate::history::ask_at;
 use crate::history::is_access;
-use crate::history::latest_number;
-use crate::kinds::JOIN;
-use crate::kinds::LOST;
+use crate::history::slot;
+use crate::masks::lower_half;
 use crate::masks::weight_of;
+use crate::refusals::either;
 use crate::rows::HUB;
+use crate::rows::acquired_row;
 use crate::rows::acted_after;
 use crate::rows::has_bit;
-use crate::rows::heard_row;
 use crate::rows::named_row;
-use crate::rows::told_by;
-use crate::rows::told_row;
+use crate::rows::released_by;
+use crate::rows::released_row;
+use theory::Clocks;
+use theory::History;
+use theory::JOIN;
+use theory::LOST;
 use theory::Masks;
 use theory::Task;
+use theory::Variable;
 ghost use mathlib.Core.Path.{_≡_};
-ghost use mathlib.Core.Bool.{false};
-ghost use lib.Dec.{eqb};
-ghost use Prim.Native.Nat.{_<_, max};
-ghost use Rattle.theory.specs.Tables.{joinRow, rowOf, joinWith, heardWith, putRow, flow, joinsActed, onward, gather, spread, noteNamed, mix};
-ghost use Rattle.theory.specs.Reckonings.{clockOwn, clocksArrived, clocksFull, clockApart, clockMask, clockMasks, masksBy};
-ghost use Rattle.theory.specs.Acceptance.{Fitting};
+ghost use Prim.Native.Nat.{_<_, _≤_, _+_, _%_, _^_, max};
+ghost use lib.Dec.{ltb};
+ghost use lib.ListN.{getD};
+ghost use Rattle.theory.specs.history.History.{slots};
+ghost use Rattle.theory.specs.tables.Rows.{joinRow, rowOf, joinWith, acquiredWith, putRow, flow, joinsActed, onward, gather, spread, noteNamed, mix};
+ghost use Rattle.theory.specs.fillings.Completion.{arrived, full};
+ghost use Rattle.theory.specs.tables.Reckonings.{clockOwn, clocksBy, maskOf, clockMasks};
+ghost use Rattle.theory.specs.order.Limits.{tasks, variables};
+ghost use Rattle.theory.specs.order.Recording.{Op, kind as number};
+ghost use Rattle.theory.specs.acceptance.Table.{Fitting, Proper};
 
 // Where the row of what has acted begins.
 const ACTED: usize = 1296;
@@ -32,9 +42,9 @@ fn greater(a: u32, b: u32) -> u32
 }
 
 // What row `from` knows is known to row `to` as well.
-fn join_row(cells: &mut [u32; 1312], to: usize, from: usize)
+fn join_row(cells: &mut Clocks, to: usize, from: usize)
     requires { ⌜ (to < 82) × (from < 82) ⌝ }
-    ensures { λ _. ⌜ now (cells .exit) ≡ joinRow max 16 to from (now (cells .entry)) ⌝ }
+    ensures { λ _. ⌜ now (cells .exit) ≡ joinRow max tasks to from (now (cells .entry)) ⌝ }
 {
     if to == from {
         return;
@@ -47,9 +57,9 @@ fn join_row(cells: &mut [u32; 1312], to: usize, from: usize)
 }
 
 // A row by itself.
-fn row_of(cells: &[u32; 1312], from: usize) -> [u32; 16]
+fn row_of(cells: &Clocks, from: usize) -> [u32; 16]
     requires { ⌜ from < 82 ⌝ }
-    ensures { λ r. ⌜ r ≡ rowOf 16 from (now (cells .entry)) ⌝ }
+    ensures { λ r. ⌜ r ≡ rowOf tasks from (now (cells .entry)) ⌝ }
 {
     let mut row = [0u32; 16];
     let mut c = 0;
@@ -61,9 +71,9 @@ fn row_of(cells: &[u32; 1312], from: usize) -> [u32; 16]
 }
 
 // What a row that stands by itself knows is known to row `to` as well.
-fn join_with(cells: &mut [u32; 1312], to: usize, row: &[u32; 16])
+fn join_with(cells: &mut Clocks, to: usize, row: &[u32; 16])
     requires { ⌜ to < 82 ⌝ }
-    ensures { λ _. ⌜ now (cells .exit) ≡ joinWith max 16 to (now (row .entry)) (now (cells .entry)) ⌝ }
+    ensures { λ _. ⌜ now (cells .exit) ≡ joinWith max tasks to (now (row .entry)) (now (cells .entry)) ⌝ }
 {
     let mut c = 0;
     while c < 16 {
@@ -73,9 +83,9 @@ fn join_with(cells: &mut [u32; 1312], to: usize, row: &[u32; 16])
 }
 
 // Row `to` with the cells of a row that stands by itself.
-fn put_row(cells: &mut [u32; 1312], to: usize, row: &[u32; 16])
+fn put_row(cells: &mut Clocks, to: usize, row: &[u32; 16])
     requires { ⌜ to < 82 ⌝ }
-    ensures { λ _. ⌜ now (cells .exit) ≡ putRow 16 to (now (row .entry)) (now (cells .entry)) ⌝ }
+    ensures { λ _. ⌜ now (cells .exit) ≡ putRow tasks to (now (row .entry)) (now (cells .entry)) ⌝ }
 {
     let mut c = 0;
     while c < 16 {
@@ -84,28 +94,28 @@ fn put_row(cells: &mut [u32; 1312], to: usize, row: &[u32; 16])
     }
 }
 
-// Order over an act: the task's next act knows what the heard row knows; from a copy that stays in registers it is passed on, to an object
+// Order over an act: the task's next act knows what the acquired row knows; from a copy that stays in registers it is passed on, to an object
 // and to the hub alike.
-fn flow(cells: &mut [u32; 1312], heard: usize, told: usize, task: usize)
-    requires { ⌜ (heard < 82) × (told < 82) × (task < 16) ⌝ }
-    ensures { λ _. ⌜ now (cells .exit) ≡ flow max 16 heard told task (now (cells .entry)) ⌝ }
+fn flow(cells: &mut Clocks, asked: bool, acquired: usize, released: usize, task: usize)
+    requires { ⌜ (acquired < 82) × (released < 82) × (task < tasks) ⌝ }
+    ensures { λ _. ⌜ now (cells .exit) ≡ flow max tasks asked acquired released task (now (cells .entry)) ⌝ }
 {
-    join_row(cells, task, heard);
-    if told == task {
+    join_row(cells, task, acquired);
+    if released == task {
         return;
     }
     let row = row_of(cells, task);
-    join_with(cells, told, &row);
-    if told < 16 {
+    join_with(cells, released, &row);
+    if either(released < 16, !asked) {
         return;
     }
     join_with(cells, HUB, &row);
 }
 
 // A row by itself with what row `from` knows, too.
-fn heard_with(cells: &[u32; 1312], from: usize, row: &[u32; 16]) -> [u32; 16]
+fn acquired_with(cells: &Clocks, from: usize, row: &[u32; 16]) -> [u32; 16]
     requires { ⌜ from < 82 ⌝ }
-    ensures { λ r. ⌜ r ≡ heardWith max 16 from (now (row .entry)) (now (cells .entry)) ⌝ }
+    ensures { λ r. ⌜ r ≡ acquiredWith max tasks from (now (row .entry)) (now (cells .entry)) ⌝ }
 {
     let mut next = [0u32; 16];
     let mut c = 0;
@@ -116,29 +126,29 @@ fn heard_with(cells: &[u32; 1312], from: usize, row: &[u32; 16]) -> [u32; 16]
     next
 }
 
-// What a mark's lost records can hear comes to the hub, by way of a row that stays in registers.
-fn gather(cells: &mut [u32; 1312], mask: u32)
-    ensures { λ _. ⌜ now (cells .exit) ≡ gather max 16 mask (now (cells .entry)) ⌝ }
+// What a mark's lost records can acquire comes to the hub, by way of a row that stays in registers.
+fn gather(cells: &mut Clocks, mask: u32)
+    ensures { λ _. ⌜ now (cells .exit) ≡ gather max tasks mask (now (cells .entry)) ⌝ }
 {
     let mut known = [0u32; 16];
     let mut t = 0;
     while t < 16 {
-        let next = heard_with(cells, named_row(mask, t), &known);
+        let next = acquired_with(cells, named_row(mask, t), &known);
         known = next;
         t += 1;
     }
     join_with(cells, HUB, &known);
 }
 
-// What the hub knows, all that they can tell knows, from a copy that stays in the processor's registers. Every object is told, so that
+// What the hub knows, all that they can release to knows, from a copy that stays in the processor's registers. Every object is released to, so that
 // nothing is asked of the rows after the tasks'.
-fn spread(cells: &mut [u32; 1312], mask: u32)
-    ensures { λ _. ⌜ now (cells .exit) ≡ spread 16 mask (now (cells .entry)) ⌝ }
+fn spread(cells: &mut Clocks, mask: u32)
+    ensures { λ _. ⌜ now (cells .exit) ≡ spread tasks mask (now (cells .entry)) ⌝ }
 {
     let hub = row_of(cells, HUB);
     let mut r = 0;
     while r < 16 {
-        put_row(cells, told_by(mask, r), &hub);
+        put_row(cells, released_by(mask, r), &hub);
         r += 1;
     }
     while r < HUB {
@@ -148,8 +158,8 @@ fn spread(cells: &mut [u32; 1312], mask: u32)
 }
 
 // The tasks that the mask names have acted.
-fn note_named(cells: &mut [u32; 1312], mask: u32)
-    ensures { λ _. ⌜ now (cells .exit) ≡ noteNamed 16 mask (now (cells .entry)) ⌝ }
+fn note_named(cells: &mut Clocks, mask: u32)
+    ensures { λ _. ⌜ now (cells .exit) ≡ noteNamed tasks mask (now (cells .entry)) ⌝ }
 {
     let mut t = 0;
     while t < 16 {
@@ -159,8 +169,8 @@ fn note_named(cells: &mut [u32; 1312], mask: u32)
 }
 
 // The fullest filling of a mark.
-fn mix(cells: &mut [u32; 1312], mask: u32)
-    ensures { λ _. ⌜ now (cells .exit) ≡ mix max 16 mask (now (cells .entry)) ⌝ }
+fn mix(cells: &mut Clocks, mask: u32)
+    ensures { λ _. ⌜ now (cells .exit) ≡ mix max tasks mask (now (cells .entry)) ⌝ }
 {
     gather(cells, mask);
     spread(cells, mask);
@@ -168,9 +178,9 @@ fn mix(cells: &mut [u32; 1312], mask: u32)
 }
 
 // An act joins a task that has acted.
-fn joins_acted(cells: &[u32; 1312], kind: u8, on: u32) -> bool
-    requires { ⌜ (kind ≡ 7 → on < 16) ⌝ }
-    ensures { λ r. ⌜ r ≡ joinsActed 16 (now (cells .entry)) kind on ⌝ }
+fn joins_acted(cells: &Clocks, kind: u8, on: u32) -> bool
+    requires { ⌜ (kind ≡ number Op.join → on < tasks) ⌝ }
+    ensures { λ r. ⌜ r ≡ joinsActed tasks (now (cells .entry)) kind on ⌝ }
 {
     if kind == JOIN {
         0 < cells[ACTED + on as usize]
@@ -180,22 +190,23 @@ fn joins_acted(cells: &[u32; 1312], kind: u8, on: u32) -> bool
 }
 
 // Order over an act of a kind.
-fn pass_on(cells: &mut [u32; 1312], kind: u8, task: u32, on: u32)
+fn pass_on(cells: &mut Clocks, asked: bool, kind: u8, task: u32, on: u32)
     requires { ⌜ Fitting kind task on ⌝ }
-    ensures { λ _. ⌜ now (cells .exit) ≡ onward max 16 kind task on (now (cells .entry)) ⌝ }
+    ensures { λ _. ⌜ now (cells .exit) ≡ onward max tasks asked kind task on (now (cells .entry)) ⌝ }
 {
     let joins = joins_acted(cells, kind, on);
     flow(
         cells,
-        heard_row(kind, Task(task), on, joins),
-        told_row(kind, Task(task), on),
+        asked,
+        acquired_row(kind, Task(task), on, joins),
+        released_row(kind, Task(task), on),
         task as usize,
     );
 }
 
 // An act's own part: the task's own cell is the act's number, and the task has acted.
-fn own(cells: &mut [u32; 1312], task: u32, number: u32)
-    requires { ⌜ task < 16 ⌝ }
+fn own(cells: &mut Clocks, task: u32, number: u32)
+    requires { ⌜ task < tasks ⌝ }
     ensures { λ _. ⌜ now (cells .exit) ≡ clockOwn task number (now (cells .entry)) ⌝ }
 {
     let t = task as usize;
@@ -203,18 +214,18 @@ fn own(cells: &mut [u32; 1312], task: u32, number: u32)
     cells[ACTED + t] = 1;
 }
 
-// Both tables after an accepted record. An access hears and tells no other row.
+// Both tables after an accepted record. An access acquires from and releases to no other row.
 pub(crate) fn advance_clocks(
-    clocks: &mut [u32; 1312],
-    fullclocks: &mut [u32; 1312],
+    clocks: &mut Clocks,
+    fullclocks: &mut Clocks,
     kind: u8,
     task: u32,
     on: u32,
     number: u32,
 )
-    requires { ⌜ (eqb kind 8 ≡ false → Fitting kind task on) ⌝ }
-    ensures { λ _. ⌜ (now (clocks .exit) ≡ clocksArrived kind task on number (now (clocks .entry)))
-        × (now (fullclocks .exit) ≡ clocksFull kind task on number (now (fullclocks .entry))) ⌝ }
+    requires { ⌜ Proper kind task on ⌝ }
+    ensures { λ _. ⌜ (now (clocks .exit) ≡ clocksBy arrived kind task on number (now (clocks .entry)))
+        × (now (fullclocks .exit) ≡ clocksBy full kind task on number (now (fullclocks .entry))) ⌝ }
 {
     if kind == LOST {
         mix(fullclocks, on);
@@ -225,58 +236,44 @@ pub(crate) fn advance_clocks(
     if is_access(kind) {
         return;
     }
-    pass_on(clocks, kind, task, on);
-    pass_on(fullclocks, kind, task, on);
+    pass_on(clocks, false, kind, task, on);
+    pass_on(fullclocks, true, kind, task, on);
 }
 
-// Whether task u's latest conflicting access is not known to the acting task. Of its own the task knows.
-fn apart(cells: &[u32; 1312], last: &[u32; 2048], kind: u8, task: u32, on: u32, u: u32) -> bool
-    requires { ⌜ (task < 16) × (on < 64) × (u < 16) ⌝ }
-    ensures { λ r. ⌜ r ≡ clockApart (now (cells .entry)) (now (last .entry)) kind task on u ⌝ }
+// The mask of an access in one filling, twice in a word, from the task's row of clocks and from what the history has for its kind: the tasks whose latest
+// conflicting access the row does not know.
+fn mask(cells: &Clocks, last: &History, row: usize, from: usize) -> u32
+    requires { ⌜ (row + tasks ≤ 1312) × (from + tasks ≤ slots) ⌝ }
+    ensures { λ r. ⌜ r % 2 ^ 16 ≡ maskOf (λ u. ltb (getD (now (cells .entry)) (row + u) 0) (getD (now (last .entry)) (from + u) 0)) ⌝ }
 {
-    cells[task as usize * 16 + u as usize] < latest_number(last, kind, on, u)
-}
-
-// Both masks of an access. Sums of weights that grow upward, of both tables in one loop, are what the compiler makes vector code of.
-fn masks(
-    clocks: &[u32; 1312],
-    fullclocks: &[u32; 1312],
-    last: &[u32; 2048],
-    kind: u8,
-    task: u32,
-    on: u32,
-) -> Masks
-    requires { ⌜ (task < 16) × (on < 64) ⌝ }
-    ensures { λ r. ⌜ r ≡ masksBy (clockMask (now (fullclocks .entry)) (now (last .entry)) kind task on) (clockMask (now (clocks .entry)) (now (last .entry)) kind task on) ⌝ }
-{
-    let mut full: u32 = 0;
-    let mut arrived: u32 = 0;
-    let mut u: u32 = 0;
+    let mut x: u32 = 0;
+    let mut u: usize = 0;
     while u < 16 {
-        full = full + weight_of(apart(fullclocks, last, kind, task, on, u), u);
-        arrived = arrived + weight_of(apart(clocks, last, kind, task, on, u), u);
+        x = x | weight_of(cells[row + u] < last[from + u], u as u32);
         u += 1;
     }
-    Masks {
-        full: full as u16,
-        arrived: arrived as u16,
-    }
+    x
 }
 
 // The masks of the tasks whose latest conflicting access has no path to this access; empty for any other record.
 pub(crate) fn clock_masks(
-    clocks: &[u32; 1312],
-    fullclocks: &[u32; 1312],
-    last: &[u32; 2048],
+    clocks: &Clocks,
+    fullclocks: &Clocks,
+    last: &History,
     kind: u8,
     task: u32,
     on: u32,
 ) -> Masks
-    requires { ⌜ (eqb kind 8 ≡ false → Fitting kind task on) ⌝ }
+    requires { ⌜ Proper kind task on ⌝ }
     ensures { λ r. ⌜ r ≡ clockMasks (now (clocks .entry)) (now (fullclocks .entry)) (now (last .entry)) kind task on ⌝ }
 {
     if is_access(kind) {
-        return masks(clocks, fullclocks, last, kind, task, on);
+        let row = task as usize * 16;
+        let from = slot(ask_at(kind), Variable(on), Task(0));
+        return Masks {
+            full: lower_half(mask(fullclocks, last, row, from)),
+            arrived: lower_half(mask(clocks, last, row, from)),
+        };
     }
     Masks {
         full: 0,

@@ -1,9 +1,12 @@
-// The control table: each task's phase, then the count of accepted records. crates/theory/specs/Control.antt says the same of the table as a list.
-use crate::kinds::JOIN;
-use crate::kinds::START;
+// The control table: each task's phase, then the count of accepted records. crates/theory/specs/acceptance/Control.antt says the same of the table as a list.
+use theory::Control;
+use theory::JOIN;
+use theory::START;
 ghost use mathlib.Core.Path.{_≡_};
 ghost use Prim.Native.Nat.{_<_};
-ghost use Rattle.theory.specs.Control.{liveIn, unseenIn, countIn, counted, controlAfter};
+ghost use Rattle.theory.specs.order.Limits.{tasks, records};
+ghost use Rattle.theory.specs.acceptance.Table.{NamesTask};
+ghost use Rattle.theory.specs.acceptance.Control.{liveIn, unseenIn, countIn, counted, controlAfter};
 
 const UNSEEN: u32 = 0;
 
@@ -14,32 +17,32 @@ const ENDED: u32 = 2;
 // The place of the count, after the tasks' phases.
 pub(crate) const COUNT: usize = 16;
 
-pub(crate) fn is_live(control: &[u32; 17], t: usize) -> bool
-    requires { ⌜ t < 17 ⌝ }
+pub(crate) fn is_live(control: &Control, t: usize) -> bool
+    requires { ⌜ t < tasks ⌝ }
     ensures { λ r. ⌜ r ≡ liveIn (now (control .entry)) t ⌝ }
 {
     control[t] == LIVE
 }
 
-pub(crate) fn is_unseen(control: &[u32; 17], t: usize) -> bool
-    requires { ⌜ t < 17 ⌝ }
+pub(crate) fn is_unseen(control: &Control, t: usize) -> bool
+    requires { ⌜ t < tasks ⌝ }
     ensures { λ r. ⌜ r ≡ unseenIn (now (control .entry)) t ⌝ }
 {
     control[t] == UNSEEN
 }
 
 // One more accepted record. The bound keeps the sum within its type.
-fn count(control: &mut [u32; 17])
-    requires { ⌜ countIn (now control) < 60_000 ⌝ }
+fn count(control: &mut Control)
+    requires { ⌜ countIn (now control) < records ⌝ }
     ensures { λ _. ⌜ now (control .exit) ≡ counted (now (control .entry)) ⌝ }
 {
     control[COUNT] = control[COUNT] + 1;
 }
 
 // Notes an accepted record. Each arm counts and returns by itself, so that the proof has one table at each return and no join of arms.
-pub(crate) fn note(control: &mut [u32; 17], kind: u8, on: usize)
-    requires { ⌜ (kind ≡ 6 → on < 16) × (kind ≡ 7 → on < 16) ⌝ }
-    requires { ⌜ countIn (now control) < 60_000 ⌝ }
+pub(crate) fn note(control: &mut Control, kind: u8, on: usize)
+    requires { ⌜ NamesTask kind on ⌝ }
+    requires { ⌜ countIn (now control) < records ⌝ }
     ensures { λ _. ⌜ now (control .exit) ≡ controlAfter kind on (now (control .entry)) ⌝ }
 {
     match kind {

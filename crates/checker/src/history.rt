@@ -1,64 +1,86 @@
-// The kept accesses: the latest of each variable, task and kind, by its record number.
-use crate::kinds::ACCESSES;
-use crate::kinds::READ;
-use crate::kinds::WRITE;
+// The kept accesses, by the kind that asks: for each kind of access, variable and task the task's latest access to the variable that clashes
+// with one of that kind, by its record number.
+use theory::ASKERS;
+use theory::History;
+use theory::READ;
 use theory::Task;
 use theory::Variable;
+use theory::WRITE;
 ghost use mathlib.Core.Path.{_≡_};
-ghost use mathlib.Core.Bool.{false};
-ghost use lib.Dec.{eqb};
 ghost use Prim.Native.Nat.{_<_};
-ghost use Rattle.theory.specs.Acceptance.{Fitting};
-ghost use Rattle.theory.specs.History.{accesses, slot, otherKind, otherLater, latestNumber, lastAfter};
+ghost use Rattle.theory.specs.acceptance.Table.{Proper};
+ghost use Rattle.theory.specs.order.Recording.{accesses, kindAt};
+ghost use Rattle.theory.specs.order.Limits.{tasks, variables};
+ghost use mathlib.Core.Bool.{cond};
+ghost use lib.ListN.{set, length};
+ghost use Rattle.theory.specs.history.History.{askers, asker, askAt, clashBy, slot, slots, latestNumber, lastAfter};
 
 pub(crate) fn is_access(kind: u8) -> bool
     ensures { λ r. ⌜ r ≡ accesses kind ⌝ }
 {
-    kind < ACCESSES
+    match kind {
+        READ => true,
+        WRITE => true,
+        _ => false,
+    }
 }
 
-// Where the access of a kind to variable v by task u is kept.
-pub(crate) fn slot(kind: u8, v: Variable, u: Task) -> usize
-    requires { ⌜ (kind < 2) × (v .0 < 64) × (u .0 < 16) ⌝ }
-    ensures { λ r. ⌜ (r ≡ slot kind (v .0) (u .0)) × (r < 2048) ⌝ }
+// The number of a kind of access among those that ask.
+pub(crate) fn ask_at(kind: u8) -> usize
+    ensures { λ r. ⌜ (r ≡ askAt kind) × (r < length askers) ⌝ }
 {
-    (kind as usize * 64 + v.0 as usize) * 16 + u.0 as usize
+    match kind {
+        WRITE => 1,
+        _ => 0,
+    }
 }
 
-// The kind of access beside a write that conflicts with this one: a read with a write, and nothing but a write with a read.
-pub(crate) fn other_kind(kind: u8) -> u8
-    ensures { λ r. ⌜ (r ≡ otherKind kind) × (r < 2) ⌝ }
+// Whether a record of this kind clashes with the kind of access that has number a.
+pub(crate) fn clashes(kind: u8, a: usize) -> bool
+    requires { ⌜ a < length askers ⌝ }
+    ensures { λ r. ⌜ r ≡ clashBy (kindAt kind) (asker a) ⌝ }
 {
-    if kind == WRITE { READ } else { WRITE }
+    match kind {
+        READ => a == 1,
+        WRITE => true,
+        _ => false,
+    }
 }
 
-// Task u's latest access of that kind to v came after its latest write.
-pub(crate) fn other_later(last: &[u32; 2048], kind: u8, v: u32, u: u32) -> bool
-    requires { ⌜ (v < 64) × (u < 16) ⌝ }
-    ensures { λ r. ⌜ r ≡ otherLater (now (last .entry)) kind v u ⌝ }
+// Where it is kept what the kind of access with number a asks of task u, for variable v.
+pub(crate) fn slot(a: usize, v: Variable, u: Task) -> usize
+    requires { ⌜ (a < length askers) × (v .0 < variables) × (u .0 < tasks) ⌝ }
+    ensures { λ r. ⌜ (r ≡ slot a (v .0) (u .0)) × (r < slots) ⌝ }
 {
-    let write = last[slot(WRITE, Variable(v), Task(u))];
-    let other = last[slot(other_kind(kind), Variable(v), Task(u))];
-    write < other
+    (a * 64 + v.0 as usize) * 16 + u.0 as usize
 }
 
-// The record number of task u's latest access to v that conflicts with one of this kind, 0 where there is none. It is the greater of two
-// numbers whatever the kind, so that a loop over the tasks makes vector code of it.
-pub(crate) fn latest_number(last: &[u32; 2048], kind: u8, v: u32, u: u32) -> u32
-    requires { ⌜ (v < 64) × (u < 16) ⌝ }
+// The record number of task u's latest access to v that conflicts with one of this kind, 0 where there is none.
+pub(crate) fn latest_number(last: &History, kind: u8, v: u32, u: u32) -> u32
+    requires { ⌜ (v < variables) × (u < tasks) ⌝ }
     ensures { λ r. ⌜ r ≡ latestNumber (now (last .entry)) kind v u ⌝ }
 {
-    let write = last[slot(WRITE, Variable(v), Task(u))];
-    let other = last[slot(other_kind(kind), Variable(v), Task(u))];
-    if write < other { other } else { write }
+    last[slot(ask_at(kind), Variable(v), Task(u))]
 }
 
-// The history after an accepted record.
-pub(crate) fn keep(last: &mut [u32; 2048], kind: u8, task: u32, on: u32, number: u32)
-    requires { ⌜ (eqb kind 8 ≡ false → Fitting kind task on) ⌝ }
+// An access kept under the kind of access with number a, if it clashes with that.
+fn keep_under(last: &mut History, a: usize, kind: u8, task: u32, on: u32, number: u32)
+    requires { ⌜ (a < length askers) × Proper kind task on ⌝ }
+    ensures { λ _. ⌜ now (last .exit) ≡ cond (clashBy (kindAt kind) (asker a)) (set (now (last .entry)) (slot a on task) number) (now (last .entry)) ⌝ }
+{
+    if clashes(kind, a) {
+        last[slot(a, Variable(on), Task(task))] = number;
+    }
+}
+
+// The history after an accepted record: an access is kept under each kind that it clashes with.
+pub(crate) fn keep(last: &mut History, kind: u8, task: u32, on: u32, number: u32)
+    requires { ⌜ Proper kind task on ⌝ }
     ensures { λ _. ⌜ now (last .exit) ≡ lastAfter kind task on number (now (last .entry)) ⌝ }
 {
-    if is_access(kind) {
-        last[slot(kind, Variable(on), Task(task))] = number;
+    let mut a = 0;
+    while a < ASKERS {
+        keep_under(last, a, kind, task, on, number);
+        a += 1;
     }
 }

@@ -3,8 +3,6 @@ mod asking;
 mod clocks;
 mod control;
 mod history;
-mod kinds;
-mod limits;
 mod masks;
 mod refusals;
 mod rows;

@@ -1,38 +1,40 @@
-// Which records are refused, and by which row of the refusal table. crates/theory/specs/Acceptance.antt has the rows, and each test here is one of them.
+// Which records are refused, and by which row of the refusal table. crates/theory/specs/acceptance/Table.antt has the rows, and each test here is one of them.
 use crate::control::COUNT;
 use crate::control::is_live;
 use crate::control::is_unseen;
-use crate::kinds::GIVE;
-use crate::kinds::JOIN;
-use crate::kinds::LOOK;
-use crate::kinds::LOST;
-use crate::kinds::READ;
-use crate::kinds::SET;
-use crate::kinds::START;
-use crate::kinds::TAKE;
-use crate::limits::LAST_FLAG;
-use crate::limits::LAST_SEMAPHORE;
-use crate::limits::LAST_TASK;
-use crate::limits::LAST_VARIABLE;
-use crate::limits::RECORDS;
-use crate::limits::TASKS;
 use crate::rows::has_bit;
+use theory::Control;
+use theory::GIVE;
+use theory::JOIN;
+use theory::KINDS;
+use theory::LAST_FLAG;
+use theory::LAST_SEMAPHORE;
+use theory::LAST_TASK;
+use theory::LAST_VARIABLE;
+use theory::LOOK;
+use theory::LOST;
+use theory::RECORDS;
 use theory::Record;
+use theory::SET;
+use theory::START;
+use theory::TAKE;
+use theory::TASKS;
 ghost use mathlib.Core.Path.{_≡_};
 ghost use mathlib.Core.Bool.{not, _&&_, _||_};
 ghost use Prim.Native.Nat.{_<_, _^_};
 ghost use lib.Dec.{leb, eqb};
-ghost use Rattle.theory.specs.Limits.{tasks, records};
-ghost use Rattle.theory.specs.Recording.{lossMark, seriesOf};
-ghost use Rattle.theory.specs.Completion.{names};
-ghost use Rattle.theory.specs.Acceptance.{anyBelow};
-ghost use Rattle.theory.specs.Control.{liveIn, unseenIn, countIn, refusalIn};
+ghost use Rattle.theory.specs.order.Limits.{tasks, records};
+ghost use Rattle.theory.specs.order.Recording.{Op, kind as number, lossMark, seriesOf};
+ghost use Rattle.theory.proofs.acceptance.Rows.{OfAct};
+ghost use Rattle.theory.specs.fillings.Completion.{names};
+ghost use Rattle.theory.specs.acceptance.Table.{anyBelow};
+ghost use Rattle.theory.specs.acceptance.Control.{liveIn, unseenIn, countIn, refusalIn};
 
 // Every mask is below this: it has a bit for each task.
 const MASKS: u32 = 1 << TASKS;
 
 // `||` and `&&` as calls, so that no branches are left to join where they stand.
-fn either(a: bool, b: bool) -> bool
+pub(crate) fn either(a: bool, b: bool) -> bool
     ensures { λ r. ⌜ r ≡ (a || b) ⌝ }
 {
     if a { true } else { b }
@@ -69,16 +71,16 @@ fn outside(kind: u8, on: u32) -> bool
 }
 
 // Row 5: no further record is taken.
-fn full(control: &[u32; 17]) -> bool
+fn full(control: &Control) -> bool
     ensures { λ r. ⌜ r ≡ leb records (countIn (now (control .entry))) ⌝ }
 {
     RECORDS <= control[COUNT]
 }
 
 // Row 7: a start of a task that is not unseen.
-fn starts_seen(control: &[u32; 17], kind: u8, on: u32) -> bool
-    requires { ⌜ (kind ≡ 6 → on < tasks) ⌝ }
-    ensures { λ r. ⌜ r ≡ (eqb kind 6 && not (unseenIn (now (control .entry)) on)) ⌝ }
+fn starts_seen(control: &Control, kind: u8, on: u32) -> bool
+    requires { ⌜ (kind ≡ number Op.start → on < tasks) ⌝ }
+    ensures { λ r. ⌜ r ≡ (eqb kind (number Op.start) && not (unseenIn (now (control .entry)) on)) ⌝ }
 {
     if kind == START {
         !is_unseen(control, on as usize)
@@ -89,15 +91,15 @@ fn starts_seen(control: &[u32; 17], kind: u8, on: u32) -> bool
 
 // Row 8: a join of the acting task itself.
 fn joins_itself(kind: u8, task: u32, on: u32) -> bool
-    ensures { λ r. ⌜ r ≡ (eqb kind 7 && eqb on task) ⌝ }
+    ensures { λ r. ⌜ r ≡ (eqb kind (number Op.join) && eqb on task) ⌝ }
 {
     both(kind == JOIN, on == task)
 }
 
 // Row 9: a join of a task that is not live.
-fn joins_dead(control: &[u32; 17], kind: u8, on: u32) -> bool
-    requires { ⌜ (kind ≡ 7 → on < tasks) ⌝ }
-    ensures { λ r. ⌜ r ≡ (eqb kind 7 && not (liveIn (now (control .entry)) on)) ⌝ }
+fn joins_dead(control: &Control, kind: u8, on: u32) -> bool
+    requires { ⌜ (kind ≡ number Op.join → on < tasks) ⌝ }
+    ensures { λ r. ⌜ r ≡ (eqb kind (number Op.join) && not (liveIn (now (control .entry)) on)) ⌝ }
 {
     if kind == JOIN {
         !is_live(control, on as usize)
@@ -107,7 +109,7 @@ fn joins_dead(control: &[u32; 17], kind: u8, on: u32) -> bool
 }
 
 // The mask names the task, and it is not live.
-fn names_dead(control: &[u32; 17], mask: u32, t: u32) -> bool
+fn names_dead(control: &Control, mask: u32, t: u32) -> bool
     requires { ⌜ t < tasks ⌝ }
     ensures { λ r. ⌜ r ≡ (names mask t && not (liveIn (now (control .entry)) t)) ⌝ }
 {
@@ -115,7 +117,7 @@ fn names_dead(control: &[u32; 17], mask: u32, t: u32) -> bool
 }
 
 // Row 9: a mark that names a task that is not live.
-fn names_any_dead(control: &[u32; 17], mask: u32) -> bool
+fn names_any_dead(control: &Control, mask: u32) -> bool
     ensures { λ r. ⌜ r ≡ anyBelow tasks (λ t. names mask t && not (liveIn (now (control .entry)) t)) ⌝ }
 {
     let mut found = false;
@@ -135,7 +137,7 @@ fn no_mask(on: u32) -> bool
 }
 
 // The rows that can apply to a mark.
-fn mark_refusal(control: &[u32; 17], r: Record) -> u32
+fn mark_refusal(control: &Control, r: Record) -> u32
     requires { ⌜ r .kind ≡ lossMark ⌝ }
     ensures { λ n. ⌜ n ≡ refusalIn (now (control .entry)) r ⌝ }
 {
@@ -152,8 +154,8 @@ fn mark_refusal(control: &[u32; 17], r: Record) -> u32
 }
 
 // The rows that can apply to an act. Rows 2 and 3 come first, so that those after them find the tasks in the table.
-fn act_refusal(control: &[u32; 17], r: Record) -> u32
-    requires { ⌜ r .kind < lossMark ⌝ }
+fn act_refusal(control: &Control, r: Record) -> u32
+    requires { ⌜ OfAct r ⌝ }
     ensures { λ n. ⌜ n ≡ refusalIn (now (control .entry)) r ⌝ }
 {
     if TASKS <= r.task {
@@ -181,13 +183,14 @@ fn act_refusal(control: &[u32; 17], r: Record) -> u32
 }
 
 // The number of the first of rows 1 to 9 that applies to the record; 0 where none does.
-pub fn refusal(control: &[u32; 17], r: Record) -> u32
+pub fn refusal(control: &Control, r: Record) -> u32
     ensures { λ n. ⌜ n ≡ refusalIn (now (control .entry)) r ⌝ }
 {
-    let kind = r.kind;
-    match kind {
-        READ..=JOIN => act_refusal(control, r),
-        LOST => mark_refusal(control, r),
-        _ => 1,
+    if KINDS <= r.kind {
+        return 1;
     }
+    if r.kind == LOST {
+        return mark_refusal(control, r);
+    }
+    act_refusal(control, r)
 }

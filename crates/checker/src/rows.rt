@@ -1,32 +1,37 @@
-// Rows of the clocks' and the sets' tables: which row an act hears and tells, and how a row's knowledge goes to another.
-use crate::kinds::GIVE;
-use crate::kinds::LOOK;
-use crate::kinds::SET;
-use crate::kinds::START;
-use crate::kinds::TAKE;
+// Rows of the clocks' and the sets' tables: which row an act acquires and releases to, and how a row's knowledge goes to another.
 use theory::Flag;
+use theory::GIVE;
+use theory::LOOK;
+use theory::SET;
+use theory::START;
 use theory::Semaphore;
+use theory::TAKE;
 use theory::Task;
 ghost use mathlib.Core.Path.{_≡_};
 ghost use mathlib.Core.Bool.{cond};
 ghost use Prim.Native.Nat.{_<_};
-ghost use Rattle.theory.specs.Completion.{bit};
-ghost use Rattle.theory.specs.Tables.{dueRow, semaphoreRow, flagRow, heardRow, toldRow, isTold, rowOrHub};
+ghost use Rattle.theory.specs.order.Limits.{tasks};
+ghost use Rattle.theory.specs.fillings.Completion.{bit};
+ghost use Rattle.theory.specs.tables.Rows.{taskRow, semaphoreRow, flagRow, acquiredRow, releasedRow, isReleased, rowOrHub};
 
 // The row that knows what any semaphore or flag knows.
 pub(crate) const HUB: usize = 80;
 
-fn due_row(t: Task) -> usize
-    ensures { λ r. ⌜ r ≡ dueRow (t .0) ⌝ }
+fn task_row(t: Task) -> usize
+    ensures { λ r. ⌜ r ≡ taskRow (t .0) ⌝ }
 {
     t.0 as usize
 }
 
 // The row of the one task or of the other.
-fn due_row_of(first: bool, one: Task, other: Task) -> usize
-    ensures { λ r. ⌜ r ≡ cond first (dueRow (one .0)) (dueRow (other .0)) ⌝ }
+fn task_row_of(first: bool, one: Task, other: Task) -> usize
+    ensures { λ r. ⌜ r ≡ cond first (taskRow (one .0)) (taskRow (other .0)) ⌝ }
 {
-    if first { due_row(one) } else { due_row(other) }
+    if first {
+        task_row(one)
+    } else {
+        task_row(other)
+    }
 }
 
 fn semaphore_row(s: Semaphore) -> usize
@@ -41,26 +46,26 @@ fn flag_row(f: Flag) -> usize
     48 + f.0 as usize
 }
 
-// The row that an act hears beside its own task's; that own row where there is none. A join reads the ended task's, if that has acted.
-pub(crate) fn heard_row(kind: u8, task: Task, on: u32, joins: bool) -> usize
-    ensures { λ r. ⌜ r ≡ heardRow kind (task .0) on joins ⌝ }
+// The row that an act acquires beside its own task's; that own row where there is none. A join reads the ended task's, if that has acted.
+pub(crate) fn acquired_row(kind: u8, task: Task, on: u32, joins: bool) -> usize
+    ensures { λ r. ⌜ r ≡ acquiredRow kind (task .0) on joins ⌝ }
 {
     match kind {
         TAKE => semaphore_row(Semaphore(on)),
         LOOK => flag_row(Flag(on)),
-        _ => due_row_of(joins, Task(on), task),
+        _ => task_row_of(joins, Task(on), task),
     }
 }
 
-// The row that it tells beside its own task's.
-pub(crate) fn told_row(kind: u8, task: Task, on: u32) -> usize
-    ensures { λ r. ⌜ r ≡ toldRow kind (task .0) on ⌝ }
+// The row that it releases to beside its own task's.
+pub(crate) fn released_row(kind: u8, task: Task, on: u32) -> usize
+    ensures { λ r. ⌜ r ≡ releasedRow kind (task .0) on ⌝ }
 {
     match kind {
         GIVE => semaphore_row(Semaphore(on)),
         SET => flag_row(Flag(on)),
-        START => due_row(Task(on)),
-        _ => due_row(task),
+        START => task_row(Task(on)),
+        _ => task_row(task),
     }
 }
 
@@ -74,16 +79,16 @@ pub(crate) fn has_bit(mask: u32, t: u32) -> bool
 
 // The row of task t's next act where the mask names it, and the hub where not.
 pub(crate) fn named_row(mask: u32, t: usize) -> usize
-    requires { ⌜ t < 16 ⌝ }
+    requires { ⌜ t < tasks ⌝ }
     ensures { λ q. ⌜ (q ≡ rowOrHub (bit mask t) t) × (q < 82) ⌝ }
 {
     if has_bit(mask, t as u32) { t } else { HUB }
 }
 
-// Row r where a mark's lost records can tell it, and the hub where not.
-pub(crate) fn told_by(mask: u32, r: usize) -> usize
+// Row r where a mark's lost records can release to it, and the hub where not.
+pub(crate) fn released_by(mask: u32, r: usize) -> usize
     requires { ⌜ r < 80 ⌝ }
-    ensures { λ q. ⌜ (q ≡ rowOrHub (isTold mask r) r) × (q < 82) ⌝ }
+    ensures { λ q. ⌜ (q ≡ rowOrHub (isReleased mask r) r) × (q < 82) ⌝ }
 {
     if r < 16 {
         if has_bit(mask, r as u32) { r } else { HUB }

@@ -4,7 +4,7 @@ use theory::Answer;
 use theory::Record;
 use theory::State;
 ghost use mathlib.Core.Path.{_≡_};
-ghost use Rattle.theory.specs.Step.{stepOf};
+ghost use Rattle.theory.specs.feeding.Step.{stepOf};
 
 // Feeds a record to the running state, which is changed where it stands. A refused record leaves it as it was.
 pub fn feed(state: &mut State, r: Record) -> Answer

@@ -1,14 +1,23 @@
 // The states before any record.
+use theory::CLOCK_CELLS;
+use theory::CONTROL_CELLS;
+use theory::Clocks;
+use theory::Control;
+use theory::HISTORY_CELLS;
+use theory::History;
+use theory::SET_CELLS;
 use theory::SetState;
+use theory::Sets;
 use theory::State;
 ghost use mathlib.Core.Path.{_≡_};
-ghost use Rattle.theory.specs.Step.{freshControl, stateOf, setsOf, freshState, freshSets};
+ghost use Rattle.theory.specs.feeding.Step.{freshControl, freshState, freshSets};
+ghost use Rattle.theory.specs.feeding.Lent.{tables, setTables};
 
 // Task 0 is live, the others are unseen, and no record is accepted yet.
-fn fresh_control() -> [u32; 17]
+fn fresh_control() -> Control
     ensures { λ r. ⌜ r ≡ freshControl ⌝ }
 {
-    let mut control = [0u32; 17];
+    let mut control = [0u32; CONTROL_CELLS];
     control[0] = 1;
     control
 }
@@ -19,9 +28,9 @@ pub fn fresh() -> State
     let control = fresh_control();
     State {
         control,
-        last: [0; 2048],
-        clocks: [0; 1312],
-        fullclocks: [0; 1312],
+        last: [0; HISTORY_CELLS],
+        clocks: [0; CLOCK_CELLS],
+        fullclocks: [0; CLOCK_CELLS],
     }
 }
 
@@ -31,38 +40,33 @@ pub fn fresh_sets() -> SetState
     let control = fresh_control();
     SetState {
         control,
-        last: [0; 2048],
-        sets: [0; 5248],
-        fullsets: [0; 5248],
+        last: [0; HISTORY_CELLS],
+        sets: [0; SET_CELLS],
+        fullsets: [0; SET_CELLS],
     }
 }
 
 // Makes the lent tables those of a fresh state.
 pub fn begin(
-    control: &mut [u32; 17],
-    last: &mut [u32; 2048],
-    clocks: &mut [u32; 1312],
-    fullclocks: &mut [u32; 1312],
+    control: &mut Control,
+    last: &mut History,
+    clocks: &mut Clocks,
+    fullclocks: &mut Clocks,
 )
-    ensures { λ _. ⌜ stateOf (now (control .exit)) (now (last .exit)) (now (clocks .exit)) (now (fullclocks .exit)) ≡ freshState ⌝ }
+    ensures { λ _. ⌜ (tables control last clocks fullclocks) .exit ≡ freshState ⌝ }
 {
     *control = fresh_control();
-    *last = [0; 2048];
-    *clocks = [0; 1312];
-    *fullclocks = [0; 1312];
+    *last = [0; HISTORY_CELLS];
+    *clocks = [0; CLOCK_CELLS];
+    *fullclocks = [0; CLOCK_CELLS];
 }
 
 // Makes the lent tables those of a fresh state of the sets.
-pub fn begin_sets(
-    control: &mut [u32; 17],
-    last: &mut [u32; 2048],
-    sets: &mut [u32; 5248],
-    fullsets: &mut [u32; 5248],
-)
-    ensures { λ _. ⌜ setsOf (now (control .exit)) (now (last .exit)) (now (sets .exit)) (now (fullsets .exit)) ≡ freshSets ⌝ }
+pub fn begin_sets(control: &mut Control, last: &mut History, sets: &mut Sets, fullsets: &mut Sets)
+    ensures { λ _. ⌜ (setTables control last sets fullsets) .exit ≡ freshSets ⌝ }
 {
     *control = fresh_control();
-    *last = [0; 2048];
-    *sets = [0; 5248];
-    *fullsets = [0; 5248];
+    *last = [0; HISTORY_CELLS];
+    *sets = [0; SET_CELLS];
+    *fullsets = [0; SET_CELLS];
 }

@@ -1,4 +1,4 @@
-// The step over all nine kinds of records, by the clocks, and the same by the sets. In place, on tables that the caller lends, and by value.
+// The step over all kinds of records, by the clocks, and the same by the sets. In place, on tables that the caller lends, and by value.
 use crate::clocks::advance_clocks;
 use crate::clocks::clock_masks;
 use crate::control::COUNT;
@@ -9,24 +9,55 @@ use crate::refusals::refusal;
 use crate::sets::advance_sets;
 use crate::sets::set_masks;
 use theory::Answer;
+use theory::Clocks;
+use theory::Control;
+use theory::History;
+use theory::Masks;
 use theory::Record;
 use theory::SetState;
 use theory::SetStepped;
+use theory::Sets;
 use theory::State;
 use theory::Stepped;
 ghost use mathlib.Core.Path.{_≡_};
-ghost use Rattle.theory.specs.Step.{stepOf, setStepOf, stateOf, setsOf, stateWith, setsWith};
+ghost use Prim.Native.Nat.{_<_};
+ghost use Rattle.theory.specs.order.Limits.{records};
+ghost use Rattle.theory.specs.acceptance.Table.{Proper};
+ghost use Rattle.theory.specs.acceptance.Control.{countIn, controlAfter};
+ghost use Rattle.theory.specs.history.History.{lastAfter};
+ghost use Rattle.theory.specs.feeding.Step.{answeredBy, stepOf, setStepOf};
+ghost use Rattle.theory.specs.feeding.Lent.{seen, tables, setTables};
+
+// What both steps do with an accepted record beside their own tables: it is answered, counted and kept. They hand its number in and advance
+// their tables first, which spares the compiler a second look at the count: 10 of 470 instructions a record.
+fn take_in(
+    control: &mut Control,
+    last: &mut History,
+    kind: u8,
+    task: u32,
+    on: u32,
+    number: u32,
+    masks: Masks,
+) -> Answer
+    requires { ⌜ Proper kind task on × (countIn (now control) < records) ⌝ }
+    ensures { λ a. let c = seen control in let l = seen last in ⌜ (a ≡ answeredBy (l .entry) kind on number masks)
+        × (c .exit ≡ controlAfter kind on (c .entry)) × (l .exit ≡ lastAfter kind task on number (l .entry)) ⌝ }
+{
+    let answer = answered(last, kind, task, on, number, masks);
+    note(control, kind, on as usize);
+    keep(last, kind, task, on, number);
+    answer
+}
 
 // Feeds a record. A refused record leaves every table as it was.
 pub fn step_in_place(
-    control: &mut [u32; 17],
-    last: &mut [u32; 2048],
-    clocks: &mut [u32; 1312],
-    fullclocks: &mut [u32; 1312],
+    control: &mut Control,
+    last: &mut History,
+    clocks: &mut Clocks,
+    fullclocks: &mut Clocks,
     r: Record,
 ) -> Answer
-    ensures { λ a. ⌜ stateWith (now (control .exit)) (now (last .exit)) (now (clocks .exit)) (now (fullclocks .exit)) a
-        ≡ stepOf (stateOf (now (control .entry)) (now (last .entry)) (now (clocks .entry)) (now (fullclocks .entry))) r ⌝ }
+    ensures { λ a. let state = tables control last clocks fullclocks in ⌜ record { state = state .exit; answer = a } ≡ stepOf (state .entry) r ⌝ }
 {
     let refused = refusal(control, r);
     if refused != 0 {
@@ -34,23 +65,19 @@ pub fn step_in_place(
     }
     let number = control[COUNT] + 1;
     let masks = clock_masks(clocks, fullclocks, last, r.kind, r.task, r.on);
-    let answer = answered(last, r.kind, r.task, r.on, number, masks);
-    note(control, r.kind, r.on as usize);
-    keep(last, r.kind, r.task, r.on, number);
     advance_clocks(clocks, fullclocks, r.kind, r.task, r.on, number);
-    answer
+    take_in(control, last, r.kind, r.task, r.on, number, masks)
 }
 
 // The same by the sets, on their own state.
 pub fn set_step_in_place(
-    control: &mut [u32; 17],
-    last: &mut [u32; 2048],
-    sets: &mut [u32; 5248],
-    fullsets: &mut [u32; 5248],
+    control: &mut Control,
+    last: &mut History,
+    sets: &mut Sets,
+    fullsets: &mut Sets,
     r: Record,
 ) -> Answer
-    ensures { λ a. ⌜ setsWith (now (control .exit)) (now (last .exit)) (now (sets .exit)) (now (fullsets .exit)) a
-        ≡ setStepOf (setsOf (now (control .entry)) (now (last .entry)) (now (sets .entry)) (now (fullsets .entry))) r ⌝ }
+    ensures { λ a. let state = setTables control last sets fullsets in ⌜ record { state = state .exit; answer = a } ≡ setStepOf (state .entry) r ⌝ }
 {
     let refused = refusal(control, r);
     if refused != 0 {
@@ -58,11 +85,8 @@ pub fn set_step_in_place(
     }
     let number = control[COUNT] + 1;
     let masks = set_masks(sets, fullsets, last, r.kind, r.task, r.on);
-    let answer = answered(last, r.kind, r.task, r.on, number, masks);
-    note(control, r.kind, r.on as usize);
-    keep(last, r.kind, r.task, r.on, number);
     advance_sets(sets, fullsets, r.kind, r.task, r.on);
-    answer
+    take_in(control, last, r.kind, r.task, r.on, number, masks)
 }
 
 // The same by value: state and record in, state and answer out.

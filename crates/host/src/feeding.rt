@@ -4,9 +4,14 @@ use checker::begin_sets;
 use checker::set_step_in_place;
 use checker::step_in_place;
 use theory::Answer;
+use theory::Clocks;
+use theory::Control;
+use theory::History;
 use theory::Record;
+use theory::Sets;
 ghost use mathlib.Core.Path.{_≡_};
-ghost use Rattle.theory.specs.Step.{answerNumbers, recordOf, stateOf, setsOf, stepOf, setStepOf, freshState, freshSets};
+ghost use Rattle.theory.specs.feeding.Step.{answerNumbers, recordOf, stepOf, setStepOf, freshState, freshSets};
+ghost use Rattle.theory.specs.feeding.Lent.{tables, setTables};
 
 // What an answer is, as the first of its numbers.
 const REFUSED: u32 = 0;
@@ -35,12 +40,12 @@ fn answer_numbers(a: Answer) -> [u32; 3]
 // Makes the lent tables those of a fresh state.
 #[no_mangle]
 pub extern "C" fn order_begin(
-    control: &mut [u32; 17],
-    last: &mut [u32; 2048],
-    clocks: &mut [u32; 1312],
-    fullclocks: &mut [u32; 1312],
+    control: &mut Control,
+    last: &mut History,
+    clocks: &mut Clocks,
+    fullclocks: &mut Clocks,
 )
-    ensures { λ _. ⌜ stateOf (now (control .exit)) (now (last .exit)) (now (clocks .exit)) (now (fullclocks .exit)) ≡ freshState ⌝ }
+    ensures { λ _. ⌜ (tables control last clocks fullclocks) .exit ≡ freshState ⌝ }
 {
     begin(control, last, clocks, fullclocks);
 }
@@ -48,19 +53,17 @@ pub extern "C" fn order_begin(
 // Feeds a record to the running state and writes the answer as three numbers.
 #[no_mangle]
 pub extern "C" fn order_feed(
-    control: &mut [u32; 17],
-    last: &mut [u32; 2048],
-    clocks: &mut [u32; 1312],
-    fullclocks: &mut [u32; 1312],
+    control: &mut Control,
+    last: &mut History,
+    clocks: &mut Clocks,
+    fullclocks: &mut Clocks,
     kind: u8,
     task: u32,
     on: u32,
     answer: &mut [u32; 3],
 )
-    ensures state { λ _. ⌜ stateOf (now (control .exit)) (now (last .exit)) (now (clocks .exit)) (now (fullclocks .exit))
-        ≡ (stepOf (stateOf (now (control .entry)) (now (last .entry)) (now (clocks .entry)) (now (fullclocks .entry))) (recordOf kind task on)) .state ⌝ }
-    ensures answer { λ _. ⌜ now (answer .exit)
-        ≡ answerNumbers ((stepOf (stateOf (now (control .entry)) (now (last .entry)) (now (clocks .entry)) (now (fullclocks .entry))) (recordOf kind task on)) .answer) ⌝ }
+    ensures { λ _. let state = tables control last clocks fullclocks in let stepped = stepOf (state .entry) (recordOf kind task on) in
+        ⌜ (state .exit ≡ stepped .state) × (now (answer .exit) ≡ answerNumbers (stepped .answer)) ⌝ }
 {
     let a = step_in_place(control, last, clocks, fullclocks, Record { kind, task, on });
     *answer = answer_numbers(a);
@@ -69,12 +72,12 @@ pub extern "C" fn order_feed(
 // Makes the lent tables those of a fresh state of the sets.
 #[no_mangle]
 pub extern "C" fn order_sets_begin(
-    control: &mut [u32; 17],
-    last: &mut [u32; 2048],
-    sets: &mut [u32; 5248],
-    fullsets: &mut [u32; 5248],
+    control: &mut Control,
+    last: &mut History,
+    sets: &mut Sets,
+    fullsets: &mut Sets,
 )
-    ensures { λ _. ⌜ setsOf (now (control .exit)) (now (last .exit)) (now (sets .exit)) (now (fullsets .exit)) ≡ freshSets ⌝ }
+    ensures { λ _. ⌜ (setTables control last sets fullsets) .exit ≡ freshSets ⌝ }
 {
     begin_sets(control, last, sets, fullsets);
 }
@@ -82,19 +85,17 @@ pub extern "C" fn order_sets_begin(
 // Feeds a record to the sets and writes the answer as three numbers.
 #[no_mangle]
 pub extern "C" fn order_sets_feed(
-    control: &mut [u32; 17],
-    last: &mut [u32; 2048],
-    sets: &mut [u32; 5248],
-    fullsets: &mut [u32; 5248],
+    control: &mut Control,
+    last: &mut History,
+    sets: &mut Sets,
+    fullsets: &mut Sets,
     kind: u8,
     task: u32,
     on: u32,
     answer: &mut [u32; 3],
 )
-    ensures state { λ _. ⌜ setsOf (now (control .exit)) (now (last .exit)) (now (sets .exit)) (now (fullsets .exit))
-        ≡ (setStepOf (setsOf (now (control .entry)) (now (last .entry)) (now (sets .entry)) (now (fullsets .entry))) (recordOf kind task on)) .state ⌝ }
-    ensures answer { λ _. ⌜ now (answer .exit)
-        ≡ answerNumbers ((setStepOf (setsOf (now (control .entry)) (now (last .entry)) (now (sets .entry)) (now (fullsets .entry))) (recordOf kind task on)) .answer) ⌝ }
+    ensures { λ _. let state = setTables control last sets fullsets in let stepped = setStepOf (state .entry) (recordOf kind task on) in
+        ⌜ (state .exit ≡ stepped .state) × (now (answer .exit) ≡ answerNumbers (stepped .answer)) ⌝ }
 {
     let a = set_step_in_place(control, last, sets, fullsets, Record { kind, task, on });
     *answer = answer_numbers(a);

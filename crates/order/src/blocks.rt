@@ -4,6 +4,9 @@ use libc::STDIN_FILENO;
 use libc::STDOUT_FILENO;
 use report::report_piece;
 use text::Progress;
+use theory::Clocks;
+use theory::Control;
+use theory::History;
 ghost use Prim.Native.Nat.{_<_, _≤_};
 ghost use Rattle.io.specs.Counts.{Counts};
 
@@ -71,10 +74,10 @@ fn answer_piece(
     piece: &[u8],
     held: &mut [u8],
     begun: Progress,
-    control: &mut [u32; 17],
-    last: &mut [u32; 2048],
-    clocks: &mut [u32; 1312],
-    fullclocks: &mut [u32; 1312],
+    control: &mut Control,
+    last: &mut History,
+    clocks: &mut Clocks,
+    fullclocks: &mut Clocks,
 ) -> Progress {
     let now = report_piece(out, piece, held, begun, control, last, clocks, fullclocks);
     write_some(out, now)
@@ -86,10 +89,10 @@ fn answer_block(
     block: &[u8],
     held: &mut [u8],
     begun: Progress,
-    control: &mut [u32; 17],
-    last: &mut [u32; 2048],
-    clocks: &mut [u32; 1312],
-    fullclocks: &mut [u32; 1312],
+    control: &mut Control,
+    last: &mut History,
+    clocks: &mut Clocks,
+    fullclocks: &mut Clocks,
 ) -> Progress {
     let mut now = begun;
     let mut p: usize = 0;
@@ -116,10 +119,10 @@ fn answer_read(
     block: &mut [u8],
     held: &mut [u8],
     begun: Progress,
-    control: &mut [u32; 17],
-    last: &mut [u32; 2048],
-    clocks: &mut [u32; 1312],
-    fullclocks: &mut [u32; 1312],
+    control: &mut Control,
+    last: &mut History,
+    clocks: &mut Clocks,
+    fullclocks: &mut Clocks,
 ) -> Turn {
     let got = libc::read(STDIN_FILENO, block);
     if got < 0 {
@@ -147,10 +150,10 @@ pub(crate) fn answer_input(
     out: &mut [u8],
     held: &mut [u8],
     begun: Progress,
-    control: &mut [u32; 17],
-    last: &mut [u32; 2048],
-    clocks: &mut [u32; 1312],
-    fullclocks: &mut [u32; 1312],
+    control: &mut Control,
+    last: &mut History,
+    clocks: &mut Clocks,
+    fullclocks: &mut Clocks,
 ) -> Progress {
     let mut block = io::large_buffer();
     let mut now = begun;
@@ -179,10 +182,10 @@ pub(crate) fn finish(
     out: &mut [u8],
     held: &mut [u8],
     begun: Progress,
-    control: &mut [u32; 17],
-    last: &mut [u32; 2048],
-    clocks: &mut [u32; 1312],
-    fullclocks: &mut [u32; 1312],
+    control: &mut Control,
+    last: &mut History,
+    clocks: &mut Clocks,
+    fullclocks: &mut Clocks,
 ) {
     if begun.held == 0 {
         write_out(out, begun);

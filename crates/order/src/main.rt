@@ -5,12 +5,15 @@ use blocks::answer_input;
 use blocks::finish;
 use checker::begin;
 use text::Progress;
+use theory::CLOCK_CELLS;
+use theory::CONTROL_CELLS;
+use theory::HISTORY_CELLS;
 
 fn main() {
-    let mut control = [0u32; 17];
-    let mut last = [0u32; 2048];
-    let mut clocks = [0u32; 1312];
-    let mut fullclocks = [0u32; 1312];
+    let mut control = [0u32; CONTROL_CELLS];
+    let mut last = [0u32; HISTORY_CELLS];
+    let mut clocks = [0u32; CLOCK_CELLS];
+    let mut fullclocks = [0u32; CLOCK_CELLS];
     begin(&mut control, &mut last, &mut clocks, &mut fullclocks);
     let mut out = [0u8; 131072];
     let mut held = [0u8; 65];

@@ -6,17 +6,19 @@ use crate::writing::put_answer;
 use crate::writing::put_refused;
 use checker::step_in_place;
 use text::Parsed;
+use theory::Clocks;
+use theory::Control;
+use theory::History;
 ghost use mathlib.Core.Path.{_≡_};
 ghost use mathlib.Core.List.{[]};
 ghost use Prim.Native.Nat.{_<_, _≤_, _+_, _-_, _*_, _^_};
-ghost use lib.ListN.{length, take, drop};
+ghost use lib.ListN.{length, drop};
 ghost use Rattle.theory.specs.declared.record.Record.{Record};
-ghost use Rattle.theory.specs.Step.{stateOf};
+ghost use Rattle.theory.specs.feeding.Lent.{seen, tables};
 ghost use Rattle.text.specs.Lines.{linesOf};
 ghost use Rattle.text.specs.LineForm.{Sayable, parseOf};
-ghost use Rattle.text.specs.Wrote.{Wrote};
-ghost use Rattle.text.specs.Report.{saidFor, stateAfter};
-ghost use Rattle.text.specs.Pieces.{heldMost, kept, saidIn, afterPiece};
+ghost use Rattle.text.specs.Pieces.{kept};
+ghost use Rattle.text.specs.Answers.{LineAnswered, LinesAnswered};
 
 // Feeds what a line says, and writes what the report has for it.
 pub(crate) fn put_parsed(
@@ -24,17 +26,13 @@ pub(crate) fn put_parsed(
     at: usize,
     number: u64,
     parsed: Parsed,
-    control: &mut [u32; 17],
-    last: &mut [u32; 2048],
-    clocks: &mut [u32; 1312],
-    fullclocks: &mut [u32; 1312],
+    control: &mut Control,
+    last: &mut History,
+    clocks: &mut Clocks,
+    fullclocks: &mut Clocks,
 ) -> usize
     requires { ⌜ (at + 64 ≤ length (now out)) × ((r : Record) → parsed ≡ Parsed.Record r → Sayable r) ⌝ }
-    ensures wrote { λ to. ⌜ (to ≤ at + 64) × Wrote (now (out .entry)) at
-        (saidFor number (stateOf (now (control .entry)) (now (last .entry)) (now (clocks .entry)) (now (fullclocks .entry))) parsed)
-        (now (out .exit)) to ⌝ }
-    ensures fed { λ _. ⌜ stateOf (now (control .exit)) (now (last .exit)) (now (clocks .exit)) (now (fullclocks .exit))
-        ≡ stateAfter (stateOf (now (control .entry)) (now (last .entry)) (now (clocks .entry)) (now (fullclocks .entry))) parsed ⌝ }
+    ensures { λ to. ⌜ LineAnswered (seen out) at number (tables control last clocks fullclocks) parsed to ⌝ }
 {
     let Parsed::Record(r) = parsed else {
         return put_refused(out, at, number, 1);
@@ -49,24 +47,20 @@ pub(crate) fn put_line(
     at: usize,
     number: u64,
     line: &[u8],
-    control: &mut [u32; 17],
-    last: &mut [u32; 2048],
-    clocks: &mut [u32; 1312],
-    fullclocks: &mut [u32; 1312],
+    control: &mut Control,
+    last: &mut History,
+    clocks: &mut Clocks,
+    fullclocks: &mut Clocks,
 ) -> usize
     requires { ⌜ at + 64 ≤ length (now out) ⌝ }
-    ensures wrote { λ to. ⌜ (to ≤ at + 64) × Wrote (now (out .entry)) at
-        (saidFor number (stateOf (now (control .entry)) (now (last .entry)) (now (clocks .entry)) (now (fullclocks .entry))) (parseOf (now (line .entry))))
-        (now (out .exit)) to ⌝ }
-    ensures fed { λ _. ⌜ stateOf (now (control .exit)) (now (last .exit)) (now (clocks .exit)) (now (fullclocks .exit))
-        ≡ stateAfter (stateOf (now (control .entry)) (now (last .entry)) (now (clocks .entry)) (now (fullclocks .entry))) (parseOf (now (line .entry))) ⌝ }
+    ensures { λ to. ⌜ LineAnswered (seen out) at number (tables control last clocks fullclocks) (parseOf (now (line .entry))) to ⌝ }
 {
     let parsed = parse_line(line);
     put_parsed(out, at, number, parsed, control, last, clocks, fullclocks)
 }
 
 // How far a piece is answered: the lines so far, the next place in the report, and where what is left of the piece begins.
-pub(crate) struct Answered {
+pub(crate) struct Reached {
     pub lines: u64,
     pub at: usize,
     pub from: usize,
@@ -79,19 +73,14 @@ pub(crate) fn put_lines(
     lines: u64,
     piece: &[u8],
     from: usize,
-    control: &mut [u32; 17],
-    last: &mut [u32; 2048],
-    clocks: &mut [u32; 1312],
-    fullclocks: &mut [u32; 1312],
-) -> Answered
+    control: &mut Control,
+    last: &mut History,
+    clocks: &mut Clocks,
+    fullclocks: &mut Clocks,
+) -> Reached
     requires { ⌜ (from ≤ length (now piece)) × (at + 64 * length (linesOf (drop from (now piece))) ≤ length (now out)) × (lines + (length (now piece) - from) < 2 ^ 64) ⌝ }
-    ensures wrote { λ r. ⌜ Wrote (now (out .entry)) at
-        (saidIn (kept (stateOf (now (control .entry)) (now (last .entry)) (now (clocks .entry)) (now (fullclocks .entry))) lines []) (drop from (now (piece .entry))))
-        (now (out .exit)) (r .at) ⌝ }
-    ensures left { λ r. ⌜ (r .from ≤ length (now (piece .entry)))
-        × (r .at + 64 * length (linesOf (drop (r .from) (now (piece .entry)))) ≤ length (now (out .exit)))
-        × (kept (stateOf (now (control .exit)) (now (last .exit)) (now (clocks .exit)) (now (fullclocks .exit))) (r .lines) (take heldMost (drop (r .from) (now (piece .entry))))
-        ≡ afterPiece (kept (stateOf (now (control .entry)) (now (last .entry)) (now (clocks .entry)) (now (fullclocks .entry))) lines []) (drop from (now (piece .entry)))) ⌝ }
+    ensures { λ r. let state = tables control last clocks fullclocks in
+        ⌜ LinesAnswered (seen out) at (kept (state .entry) lines []) (now (piece .entry)) from (state .exit) (r .lines) (r .at) (r .from) ⌝ }
 {
     let mut at = at;
     let mut number = lines;
@@ -102,7 +91,7 @@ pub(crate) fn put_lines(
         let parsed = next_parsed(piece, &mut p);
         at = put_parsed(out, at, number, parsed, control, last, clocks, fullclocks);
     }
-    Answered {
+    Reached {
         lines: number,
         at,
         from: p,

@@ -1,10 +1,14 @@
 // The C entry: a text and report memory in, the count of bytes written out.
 
 use crate::scan::line_count;
+use crate::streaming::HELD_MOST;
 use crate::streaming::put_piece;
 use crate::streaming::put_rest;
 use checker::begin;
 use text::Progress;
+use theory::CLOCK_CELLS;
+use theory::CONTROL_CELLS;
+use theory::HISTORY_CELLS;
 ghost use mathlib.Core.Path.{_≡_};
 ghost use Prim.Native.Nat.{_≤_, _*_};
 ghost use lib.ListN.{length};
@@ -17,12 +21,12 @@ fn write_report(text: &[u8], report: &mut [u8]) -> usize
     requires { ⌜ 64 * length (linesOf (now text)) ≤ length (now report) ⌝ }
     ensures { λ r. ⌜ Wrote (now (report .entry)) 0 (reportOf (now (text .entry))) (now (report .exit)) r ⌝ }
 {
-    let mut control = [0u32; 17];
-    let mut last = [0u32; 2048];
-    let mut clocks = [0u32; 1312];
-    let mut fullclocks = [0u32; 1312];
+    let mut control = [0u32; CONTROL_CELLS];
+    let mut last = [0u32; HISTORY_CELLS];
+    let mut clocks = [0u32; CLOCK_CELLS];
+    let mut fullclocks = [0u32; CLOCK_CELLS];
     begin(&mut control, &mut last, &mut clocks, &mut fullclocks);
-    let mut held = [0u8; 65];
+    let mut held = [0u8; HELD_MOST];
     let none = Progress {
         lines: 0,
         held: 0,

@@ -1,12 +1,13 @@
 // A line as a record: `op=W task=T on=N`, or `op=lost tasks=M`.
 use crate::scan::place_of;
-use crate::words::LOST;
 use crate::words::SPACE;
 use crate::words::field;
 use crate::words::op;
 use crate::words::op_end;
 use text::Number;
 use text::Parsed;
+use theory::KINDS;
+use theory::LOST;
 use theory::Record;
 ghost use mathlib.Core.Path.{_≡_};
 ghost use Prim.Native.Nat.{suc, _≤_, _<_};
@@ -55,12 +56,12 @@ pub fn parse_line(line: &[u8]) -> Parsed
     ensures { λ r. ⌜ r ≡ parseOf (now (line .entry)) ⌝ }
 {
     let k = op(line);
-    if LOST < k {
+    if KINDS <= k {
         return Parsed::Nothing;
     }
     let p = past(line, op_end(k));
-    if k < LOST {
-        return act(k, &line[p..]);
+    if k == LOST {
+        return mark(&line[p..]);
     }
-    mark(&line[p..])
+    act(k, &line[p..])
 }

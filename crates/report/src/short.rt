@@ -3,30 +3,27 @@ use crate::decimal::read_short;
 use crate::parsing::parse_line;
 use crate::reader::take_line;
 use crate::scan::LF;
-use crate::words::LOST;
 use crate::words::SPACE;
 use crate::words::four;
 use crate::words::known_op;
-use crate::words::op_end;
 use text::Number;
 use text::Parsed;
+use theory::LOST;
 use theory::Record;
 ghost use mathlib.Core.Path.{_≡_};
 ghost use mathlib.Core.Bool.{true};
 ghost use mathlib.Core.List.{List, _∷_};
 ghost use Prim.Native.Nat.{ℕ, _+_, _≤_, _<_};
 ghost use lib.ListN.{length};
-ghost use Rattle.theory.specs.Recording.{lossMark};
+ghost use Rattle.theory.specs.order.Recording.{lossMark};
 ghost use Rattle.text.specs.LineForm.{space, taskName, onName, parseOf};
-ghost use Rattle.text.specs.Places.{Says, FieldAt};
+ghost use Rattle.text.specs.Places.{StandsAt, FieldAt};
 ghost use Rattle.text.specs.Reading.{lineAt, nextAt};
-
-const NONE: u8 = 9;
 
 // A word of four bytes stands at a place: the compiler makes one comparison of it.
 fn has_four(s: &[u8], p: usize, word: &[u8]) -> bool
     requires { ⌜ (p + 4 ≤ length (now s)) × (length (now word) ≡ 4) ⌝ }
-    ensures { λ r. ⌜ (r ≡ true → Says (now (s .entry)) p (now (word .entry))) ⌝ }
+    ensures { λ r. ⌜ (r ≡ true → StandsAt (now (s .entry)) p (now (word .entry))) ⌝ }
 {
     four(s, p) == four(word, 0)
 }
@@ -46,7 +43,7 @@ struct Field {
 // The field whose name stands at a place in so many bytes, if its number has one or two digits: one where the byte `end` follows the first.
 fn field_after(s: &[u8], p: usize, name: usize, end: u8) -> Field
     requires { ⌜ p + name + 2 ≤ length (now s) ⌝ }
-    ensures { λ r. ⌜ (r .len ≤ name + 2) × (0 < r .len → (w : List ℕ) → length w ≡ name → Says (now (s .entry)) p w → FieldAt (now (s .entry)) p w (r .value) (r .len)) ⌝ }
+    ensures { λ r. ⌜ (r .len ≤ name + 2) × (0 < r .len → (w : List ℕ) → length w ≡ name → StandsAt (now (s .entry)) p w → FieldAt (now (s .entry)) p w (r .value) (r .len)) ⌝ }
 {
     let d = p + name;
     let n = one_or_two(s[d + 1], end);
@@ -84,7 +81,7 @@ fn on_at(s: &[u8], p: usize) -> Field
     field_after(s, p, 4, LF)
 }
 
-// What a short line says, and the place after it. Kind 9 says nothing.
+// What a short line says, and the place after it. A loss mark says nothing: it is no short line.
 struct Short {
     kind: u8,
     task: u32,
@@ -93,10 +90,10 @@ struct Short {
 }
 
 fn not_short() -> Short
-    ensures { λ r. ⌜ r .kind ≡ 9 ⌝ }
+    ensures { λ r. ⌜ r .kind ≡ lossMark ⌝ }
 {
     Short {
-        kind: NONE,
+        kind: LOST,
         task: 0,
         on: 0,
         to: 0,
@@ -106,17 +103,17 @@ fn not_short() -> Short
 // The line that begins at a place, if it is short and 24 bytes can be read.
 fn short_line(s: &[u8], p: usize) -> Short
     requires { ⌜ p ≤ length (now s) ⌝ }
-    ensures { λ r. ⌜ (r .kind < lossMark → (parseOf (lineAt (now (s .entry)) p) ≡ Parsed.Record (record { kind = r .kind; task = r .task; on = r .on }))
+    ensures { λ r. ⌜ ((r .kind ≡ lossMark → ⊥) → (parseOf (lineAt (now (s .entry)) p) ≡ Parsed.Record (record { kind = r .kind; task = r .task; on = r .on }))
         × (nextAt (now (s .entry)) p ≡ r .to)) ⌝ }
 {
     if s.len() - p < 24 {
         return not_short();
     }
-    let kind = known_op(s, p);
-    if LOST <= kind {
+    let op = known_op(s, p);
+    if op.kind == LOST {
         return not_short();
     }
-    let e = p + op_end(kind);
+    let e = p + op.len;
     let task = task_at(s, e);
     if task.len == 0 {
         return not_short();
@@ -132,7 +129,7 @@ fn short_line(s: &[u8], p: usize) -> Short
     }
     let to = end + 1;
     Short {
-        kind,
+        kind: op.kind,
         task: task.value,
         on: on.value,
         to,
@@ -146,7 +143,7 @@ pub(crate) fn next_parsed(piece: &[u8], p: &mut usize) -> Parsed
         × (now (p .exit) ≡ nextAt (now (piece .entry)) (now (p .entry))) ⌝ }
 {
     let s = short_line(piece, *p);
-    if s.kind < LOST {
+    if s.kind != LOST {
         *p = s.to;
         return Parsed::Record(Record {
             kind: s.kind,

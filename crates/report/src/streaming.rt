@@ -1,25 +1,27 @@
 // A text that comes in pieces: each is answered as far as its lines have ended, and what is left of a line is held for the next.
-use crate::answering::Answered;
+use crate::answering::Reached;
 use crate::answering::put_line;
 use crate::answering::put_lines;
 use crate::scan::line_end;
 use crate::writing::put_bytes;
 use text::Progress;
+use theory::Clocks;
+use theory::Control;
+use theory::History;
 ghost use mathlib.Core.Path.{_≡_};
-ghost use mathlib.Core.Bool.{cond};
+ghost use mathlib.Core.Bool.{true};
 ghost use mathlib.Core.List.{_++_};
-ghost use Prim.Native.Nat.{_<_, _≤_, _+_, _*_, _^_, min};
+ghost use Prim.Native.Nat.{_<_, _≤_, _+_, _^_, min};
 ghost use lib.ListN.{length, take, drop};
 ghost use lib.Seq.{sets as written};
-ghost use Rattle.theory.specs.Step.{stateOf};
-ghost use Rattle.text.specs.Lines.{linesOf, lineEnd};
+ghost use Rattle.theory.specs.feeding.Lent.{seen, tables};
+ghost use Rattle.text.specs.Lines.{lineEnd};
 ghost use Rattle.text.specs.LineForm.{parseOf};
-ghost use Rattle.text.specs.Wrote.{Wrote};
-ghost use Rattle.text.specs.Report.{saidFor, stateAfter};
-ghost use Rattle.text.specs.Pieces.{heldMost, kept, keptOf, fits, refused, progressAfter, saidIn, afterPiece, saidAtEnd, stateAtEnd};
+ghost use Rattle.text.specs.Pieces.{heldMost, keptOf, fits};
+ghost use Rattle.text.specs.Answers.{LineAnswered, LinesAnswered, PieceFits, PieceAnswered, EndAnswered};
 
 // So many bytes of a line are held at most: a line of more than 64 is refused, whatever else it says.
-const HELD_MOST: usize = 65;
+pub(crate) const HELD_MOST: usize = 65;
 
 fn least(a: usize, b: usize) -> usize
     ensures { λ r. ⌜ (r ≡ min a b) × (r ≤ b) ⌝ }
@@ -45,17 +47,13 @@ fn put_first(
     held: &[u8],
     n: usize,
     s: &[u8],
-    control: &mut [u32; 17],
-    last: &mut [u32; 2048],
-    clocks: &mut [u32; 1312],
-    fullclocks: &mut [u32; 1312],
+    control: &mut Control,
+    last: &mut History,
+    clocks: &mut Clocks,
+    fullclocks: &mut Clocks,
 ) -> usize
     requires { ⌜ (at + 64 ≤ length (now out)) × (n ≤ heldMost) × (heldMost ≤ length (now held)) ⌝ }
-    ensures wrote { λ to. ⌜ (to ≤ at + 64) × Wrote (now (out .entry)) at
-        (saidFor number (stateOf (now (control .entry)) (now (last .entry)) (now (clocks .entry)) (now (fullclocks .entry))) (parseOf (take n (now (held .entry)) ++ now (s .entry))))
-        (now (out .exit)) to ⌝ }
-    ensures fed { λ _. ⌜ stateOf (now (control .exit)) (now (last .exit)) (now (clocks .exit)) (now (fullclocks .exit))
-        ≡ stateAfter (stateOf (now (control .entry)) (now (last .entry)) (now (clocks .entry)) (now (fullclocks .entry))) (parseOf (take n (now (held .entry)) ++ now (s .entry))) ⌝ }
+    ensures { λ to. ⌜ LineAnswered (seen out) at number (tables control last clocks fullclocks) (parseOf (take n (now (held .entry)) ++ now (s .entry))) to ⌝ }
 {
     let mut line = [0u8; 65];
     let begun = put_bytes(&mut line, 0, &held[..n]);
@@ -79,20 +77,14 @@ fn put_ended(
     e: usize,
     held: &[u8],
     begun: Progress,
-    control: &mut [u32; 17],
-    last: &mut [u32; 2048],
-    clocks: &mut [u32; 1312],
-    fullclocks: &mut [u32; 1312],
-) -> Answered
-    requires { ⌜ (begun .at + 64 * length (linesOf (now piece)) ≤ length (now out)) × (begun .held ≤ heldMost) × (heldMost ≤ length (now held))
-        × (begun .lines + length (now piece) < 2 ^ 64) × (e ≡ 0 + lineEnd (drop 0 (now piece))) × (e < length (now piece)) ⌝ }
-    ensures wrote { λ r. ⌜ Wrote (now (out .entry)) (begun .at)
-        (saidIn (keptOf (stateOf (now (control .entry)) (now (last .entry)) (now (clocks .entry)) (now (fullclocks .entry))) begun (now (held .entry))) (now (piece .entry)))
-        (now (out .exit)) (r .at) ⌝ }
-    ensures left { λ r. ⌜ (r .from ≤ length (now (piece .entry)))
-        × (r .at + 64 * length (linesOf (drop (r .from) (now (piece .entry)))) ≤ length (now (out .exit)))
-        × (kept (stateOf (now (control .exit)) (now (last .exit)) (now (clocks .exit)) (now (fullclocks .exit))) (r .lines) (take heldMost (drop (r .from) (now (piece .entry))))
-        ≡ afterPiece (keptOf (stateOf (now (control .entry)) (now (last .entry)) (now (clocks .entry)) (now (fullclocks .entry))) begun (now (held .entry))) (now (piece .entry))) ⌝ }
+    control: &mut Control,
+    last: &mut History,
+    clocks: &mut Clocks,
+    fullclocks: &mut Clocks,
+) -> Reached
+    requires { ⌜ PieceFits (now out) (now piece) (now held) begun × (e ≡ 0 + lineEnd (drop 0 (now piece))) × (e < length (now piece)) ⌝ }
+    ensures { λ r. let state = tables control last clocks fullclocks in
+        ⌜ LinesAnswered (seen out) (begun .at) (keptOf (state .entry) begun (now (held .entry))) (now (piece .entry)) 0 (state .exit) (r .lines) (r .at) (r .from) ⌝ }
 {
     let number = begun.lines + 1;
     let at = put_first(
@@ -126,17 +118,13 @@ pub(crate) fn put_piece(
     piece: &[u8],
     held: &mut [u8],
     begun: Progress,
-    control: &mut [u32; 17],
-    last: &mut [u32; 2048],
-    clocks: &mut [u32; 1312],
-    fullclocks: &mut [u32; 1312],
+    control: &mut Control,
+    last: &mut History,
+    clocks: &mut Clocks,
+    fullclocks: &mut Clocks,
 ) -> Progress
-    requires { ⌜ (begun .at + 64 * length (linesOf (now piece)) ≤ length (now out)) × (begun .held ≤ heldMost) × (heldMost ≤ length (now held))
-        × (begun .lines + length (now piece) < 2 ^ 64) ⌝ }
-    ensures said { λ r. ⌜ (r ≡ progressAfter (keptOf (stateOf (now (control .entry)) (now (last .entry)) (now (clocks .entry)) (now (fullclocks .entry))) begun (now (held .entry))) (begun .at) (now (piece .entry)))
-        × (now (out .exit) ≡ written (now (out .entry)) (begun .at) (saidIn (keptOf (stateOf (now (control .entry)) (now (last .entry)) (now (clocks .entry)) (now (fullclocks .entry))) begun (now (held .entry))) (now (piece .entry)))) ⌝ }
-    ensures keeps { λ _. ⌜ (stateOf (now (control .exit)) (now (last .exit)) (now (clocks .exit)) (now (fullclocks .exit)) ≡ (afterPiece (keptOf (stateOf (now (control .entry)) (now (last .entry)) (now (clocks .entry)) (now (fullclocks .entry))) begun (now (held .entry))) (now (piece .entry))) .state)
-        × (now (held .exit) ≡ written (now (held .entry)) 0 ((afterPiece (keptOf (stateOf (now (control .entry)) (now (last .entry)) (now (clocks .entry)) (now (fullclocks .entry))) begun (now (held .entry))) (now (piece .entry))) .held)) ⌝ }
+    requires { ⌜ PieceFits (now out) (now piece) (now held) begun ⌝ }
+    ensures answered { λ r. ⌜ PieceAnswered true (seen out) (seen held) (tables control last clocks fullclocks) begun (now (piece .entry)) r ⌝ }
     ensures room { λ r. ⌜ (begun .held ≡ 0 → 0 < r .held → r .at + 64 ≤ length (now (out .exit))) ⌝ }
 {
     let e = line_end(piece, 0);
@@ -173,17 +161,13 @@ pub(crate) fn put_rest(
     out: &mut [u8],
     held: &[u8],
     begun: Progress,
-    control: &mut [u32; 17],
-    last: &mut [u32; 2048],
-    clocks: &mut [u32; 1312],
-    fullclocks: &mut [u32; 1312],
+    control: &mut Control,
+    last: &mut History,
+    clocks: &mut Clocks,
+    fullclocks: &mut Clocks,
 ) -> usize
     requires { ⌜ (begun .held ≤ length (now held)) × (0 < begun .held → begun .at + 64 ≤ length (now out)) × (begun .lines + 1 < 2 ^ 64) ⌝ }
-    ensures said { λ to. ⌜ Wrote (now (out .entry)) (begun .at)
-        (saidAtEnd (keptOf (stateOf (now (control .entry)) (now (last .entry)) (now (clocks .entry)) (now (fullclocks .entry))) begun (now (held .entry))))
-        (now (out .exit)) to ⌝ }
-    ensures fed { λ _. ⌜ stateOf (now (control .exit)) (now (last .exit)) (now (clocks .exit)) (now (fullclocks .exit))
-        ≡ stateAtEnd (keptOf (stateOf (now (control .entry)) (now (last .entry)) (now (clocks .entry)) (now (fullclocks .entry))) begun (now (held .entry))) ⌝ }
+    ensures { λ to. ⌜ EndAnswered (seen out) (now (held .entry)) (tables control last clocks fullclocks) begun to ⌝ }
 {
     let n = begun.held;
     if n == 0 {
@@ -232,15 +216,13 @@ pub fn report_piece(
     piece: &[u8],
     held: &mut [u8],
     begun: Progress,
-    control: &mut [u32; 17],
-    last: &mut [u32; 2048],
-    clocks: &mut [u32; 1312],
-    fullclocks: &mut [u32; 1312],
+    control: &mut Control,
+    last: &mut History,
+    clocks: &mut Clocks,
+    fullclocks: &mut Clocks,
 ) -> Progress
-    ensures said { λ r. ⌜ (r ≡ cond (fits (length (now (out .entry))) (length (now (piece .entry))) (length (now (held .entry))) begun) (progressAfter (keptOf (stateOf (now (control .entry)) (now (last .entry)) (now (clocks .entry)) (now (fullclocks .entry))) begun (now (held .entry))) (begun .at) (now (piece .entry))) (refused begun))
-        × (now (out .exit) ≡ cond (fits (length (now (out .entry))) (length (now (piece .entry))) (length (now (held .entry))) begun) (written (now (out .entry)) (begun .at) (saidIn (keptOf (stateOf (now (control .entry)) (now (last .entry)) (now (clocks .entry)) (now (fullclocks .entry))) begun (now (held .entry))) (now (piece .entry)))) (now (out .entry))) ⌝ }
-    ensures keeps { λ _. ⌜ (stateOf (now (control .exit)) (now (last .exit)) (now (clocks .exit)) (now (fullclocks .exit)) ≡ cond (fits (length (now (out .entry))) (length (now (piece .entry))) (length (now (held .entry))) begun) ((afterPiece (keptOf (stateOf (now (control .entry)) (now (last .entry)) (now (clocks .entry)) (now (fullclocks .entry))) begun (now (held .entry))) (now (piece .entry))) .state) (stateOf (now (control .entry)) (now (last .entry)) (now (clocks .entry)) (now (fullclocks .entry))))
-        × (now (held .exit) ≡ cond (fits (length (now (out .entry))) (length (now (piece .entry))) (length (now (held .entry))) begun) (written (now (held .entry)) 0 ((afterPiece (keptOf (stateOf (now (control .entry)) (now (last .entry)) (now (clocks .entry)) (now (fullclocks .entry))) begun (now (held .entry))) (now (piece .entry))) .held)) (now (held .entry))) ⌝ }
+    ensures { λ r. ⌜ PieceAnswered (fits (length (now (out .entry))) (length (now (piece .entry))) (length (now (held .entry))) begun)
+        (seen out) (seen held) (tables control last clocks fullclocks) begun (now (piece .entry)) r ⌝ }
 {
     if !has_room(out.len(), piece.len(), held.len(), begun) {
         return Progress {

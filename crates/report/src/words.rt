@@ -2,19 +2,32 @@
 use crate::decimal::decimal;
 use crate::scan::place_of;
 use text::Number;
+use theory::KINDS;
+use theory::LOST;
 ghost use mathlib.Core.Path.{_≡_};
-ghost use mathlib.Core.List.{_∷_, _++_};
+ghost use mathlib.Core.List.{_++_};
 ghost use Prim.Native.Nat.{_+_, _≤_, _<_};
-ghost use lib.ListN.{length, getD, take, drop};
-ghost use Rattle.theory.specs.Recording.{lossMark};
+ghost use lib.ListN.{length, take, drop};
+ghost use Rattle.theory.specs.order.Recording.{lossMark};
 ghost use Rattle.text.specs.Bytes.{upTo, startsWith, isWord, little};
-ghost use Rattle.text.specs.LineForm.{fieldOf, kindOf, placeOf, words, wordOf, opName, taskName, space};
-ghost use Rattle.text.specs.Places.{Says};
+ghost use Rattle.text.specs.LineForm.{fieldOf, kindOf, placeOf, words, wordOf, opName, space};
+ghost use Rattle.text.specs.Places.{OpAt, openingOf, opBytes};
 
 pub(crate) const SPACE: u8 = 32;
 
-// The kind of a loss mark, the last; the kinds below it are acts.
-pub(crate) const LOST: u8 = 8;
+// The ops by their kinds, each with what follows it in the first eight bytes of an act: its space, and `task=` as far as there is room.
+// This is the one table of words: a new word is a line here, and one of `words` in crates/text/specs/LineForm.antt.
+const OPENINGS: [[u8; 8]; KINDS as usize] = [
+    *b"op=read ",
+    *b"op=write",
+    *b"op=take ",
+    *b"op=give ",
+    *b"op=look ",
+    *b"op=set t",
+    *b"op=start",
+    *b"op=join ",
+    *b"op=lost ",
+];
 
 // The part starts with the word.
 fn starts_with(word: &[u8], s: &[u8]) -> bool
@@ -43,63 +56,39 @@ fn is_word(word: &[u8], s: &[u8]) -> bool
     false
 }
 
-// The number of the op's word among the nine: the kind of its record; 9 where it is none of them.
+// The number of the op's word: the kind of its record; the count of the words where it is none of them.
 fn place(s: &[u8]) -> u8
     ensures { λ r. ⌜ r ≡ placeOf words (now (s .entry)) ⌝ }
 {
-    if is_word(b"read", s) {
-        return 0;
+    let openings = OPENINGS;
+    let mut k: u8 = 0;
+    while k < KINDS {
+        let o = openings[k as usize];
+        let end = op_bytes(&o);
+        if is_word(&o[3..end], s) {
+            return k;
+        }
+        k += 1;
     }
-    if is_word(b"write", s) {
-        return 1;
-    }
-    if is_word(b"take", s) {
-        return 2;
-    }
-    if is_word(b"give", s) {
-        return 3;
-    }
-    if is_word(b"look", s) {
-        return 4;
-    }
-    if is_word(b"set", s) {
-        return 5;
-    }
-    if is_word(b"start", s) {
-        return 6;
-    }
-    if is_word(b"join", s) {
-        return 7;
-    }
-    if is_word(b"lost", s) {
-        return 8;
-    }
-    9
+    KINDS
 }
 
-// The kind that a first word `op=W` names; 9 where it names none.
+// The kind that a first word `op=W` names; the count of the words where it names none.
 pub(crate) fn kind(s: &[u8]) -> u8
     ensures { λ r. ⌜ r ≡ kindOf (now (s .entry)) ⌝ }
 {
     if starts_with(b"op=", s) {
         return place(&s[3..]);
     }
-    9
+    KINDS
 }
 
-// The kind that the first word of a line names; 9 where it names none.
+// The kind that the first word of a line names; the count of the words where it names none.
 pub(crate) fn op(line: &[u8]) -> u8
     ensures { λ r. ⌜ r ≡ kindOf (upTo space (now (line .entry))) ⌝ }
 {
     let e = place_of(line, 0, SPACE);
     kind(&line[..e])
-}
-
-fn byte_at(s: &[u8], i: usize) -> u8
-    requires { ⌜ i < length (now s) ⌝ }
-    ensures { λ r. ⌜ r ≡ getD (now (s .entry)) i 0 ⌝ }
-{
-    s[i]
 }
 
 fn wide(b: u8) -> u64
@@ -131,69 +120,80 @@ pub(crate) fn four(s: &[u8], p: usize) -> u64
     wide(s[p]) + wide(s[p + 1]) * 256 + wide(s[p + 2]) * 65_536 + wide(s[p + 3]) * 16_777_216
 }
 
-// The one kind that a line's first eight bytes can name, by a product of its word's letters. That it is so is not relied on. The product needs
-// the eight bytes as one number, so that they are loaded at once.
-fn guess(bytes: u64) -> u8
-    ensures { λ r. ⌜ r ≤ lossMark ⌝ }
+// How many bytes of an opening are the op's, which has six at least.
+fn op_bytes(o: &[u8; 8]) -> usize
+    ensures { λ r. ⌜ (r ≡ opBytes (now (o .entry))) × (6 ≤ r) × (r ≤ 8) ⌝ }
 {
-    let sum = bytes / 16_777_216 * 323 / 4_294_967_296 % 16;
-    byte_at(
-        b"\x03\x01\x08\x00\x05\x00\x00\x04\x00\x00\x00\x07\x06\x00\x00\x02",
-        sum as usize,
-    )
+    if o[6] == SPACE {
+        return 6;
+    }
+    if o[7] == SPACE { 7 } else { 8 }
+}
+
+// An op by its kind, with its opening as one number, and how many bytes of that are the op's.
+pub(crate) struct Opening {
+    pub(crate) kind: u8,
+    pub(crate) bytes: u64,
+    pub(crate) len: usize,
+}
+
+fn opened(kind: u8, o: &[u8; 8]) -> Opening
+    ensures { λ r. ⌜ r ≡ record { kind = kind; bytes = little (now (o .entry)); len = opBytes (now (o .entry)) } ⌝ }
+{
+    Opening {
+        kind,
+        bytes: eight(o, 0),
+        len: op_bytes(o),
+    }
+}
+
+// A number below 16 that differs from op to op, by the letters of the word. Of two words with one number the later would be read the slow way.
+fn slot(bytes: u64) -> u64 {
+    bytes / 16_777_216 * 2665 / 4_294_967_296 % 16
+}
+
+// The one op that a line's first eight bytes can name. That it is so is not relied on. The compiler makes tables of it, by slots, since the
+// entry is looked for by its slot and not by its place.
+fn guess(bytes: u64) -> Opening
+    ensures { λ r. ⌜ (r .kind < length words) × (r .bytes ≡ little (openingOf (r .kind))) × (r .len ≡ opBytes (openingOf (r .kind))) ⌝ }
+{
+    let at = slot(bytes);
+    let openings = OPENINGS;
+    let mut k: u8 = 0;
+    while k < KINDS {
+        let o = opened(k, &openings[k as usize]);
+        if slot(o.bytes) == at {
+            return o;
+        }
+        k += 1;
+    }
+    opened(0, &openings[0])
 }
 
 // Where the op of a kind ends.
 pub(crate) fn op_end(kind: u8) -> usize
-    requires { ⌜ kind ≤ lossMark ⌝ }
+    requires { ⌜ kind < length words ⌝ }
     ensures { λ r. ⌜ r ≡ length (opName ++ wordOf kind) ⌝ }
 {
-    byte_at(b"\x07\x08\x07\x07\x07\x06\x08\x07\x07", kind as usize) as usize
+    let openings = OPENINGS;
+    op_bytes(&openings[kind as usize])
 }
 
-// The first eight bytes of a line for each kind: where the op and its space are seven, `task=` begins. The compiler makes a table of it.
-fn op_bytes(kind: u8) -> u64
-    requires { ⌜ kind ≤ lossMark ⌝ }
-    ensures { λ r. ⌜ r ≡ little (take 8 (opName ++ (wordOf kind ++ (space ∷ taskName)))) ⌝ }
-{
-    if kind == 0 {
-        return eight(b"op=read ", 0);
-    }
-    if kind == 1 {
-        return eight(b"op=write", 0);
-    }
-    if kind == 2 {
-        return eight(b"op=take ", 0);
-    }
-    if kind == 3 {
-        return eight(b"op=give ", 0);
-    }
-    if kind == 4 {
-        return eight(b"op=look ", 0);
-    }
-    if kind == 5 {
-        return eight(b"op=set t", 0);
-    }
-    if kind == 6 {
-        return eight(b"op=start", 0);
-    }
-    if kind == 7 {
-        return eight(b"op=join ", 0);
-    }
-    eight(b"op=lost ", 0)
-}
-
-// The kind whose op stands at a place, by eight bytes; 9 where that is not known.
-pub(crate) fn known_op(s: &[u8], p: usize) -> u8
+// The act whose op stands at a place, by eight bytes; a loss mark where that is not known.
+pub(crate) fn known_op(s: &[u8], p: usize) -> Opening
     requires { ⌜ p + 8 ≤ length (now s) ⌝ }
-    ensures { λ r. ⌜ (r ≤ lossMark → Says (now (s .entry)) p (opName ++ wordOf r)) ⌝ }
+    ensures { λ r. ⌜ ((r .kind ≡ lossMark → ⊥) → OpAt (now (s .entry)) p (r .kind) (r .len)) ⌝ }
 {
     let bytes = eight(s, p);
-    let k = guess(bytes);
-    if bytes != op_bytes(k) {
-        return 9;
+    let o = guess(bytes);
+    if bytes != o.bytes {
+        return Opening {
+            kind: LOST,
+            bytes,
+            len: 0,
+        };
     }
-    k
+    o
 }
 
 // The number after the name of a field.

@@ -15,8 +15,9 @@ use Rattle.text.specs.declared.progress.Progress.{Progress}
 use Rattle.text.specs.Lines.{lf, linesOf, lineEnd}
 use Rattle.text.specs.LineForm.{parseOf}
 use Rattle.text.specs.Wrote.{Wrote}
+use Rattle.text.specs.Answers.{LineAnswered, LinesAnswered, PieceFits, EndAnswered}
 use Rattle.text.specs.Report.{saidFor, stateAfter, reportOf}
-use Rattle.text.specs.Pieces.{Kept, kept, freshKept, heldMost, saidAt, afterByte, saidIn, afterPiece, saidAtEnd, stateAtEnd, saidInAll, joined, keptOf, progressAfter, fits}
+use Rattle.text.specs.Pieces.{Kept, kept, freshKept, heldMost, saidAt, afterByte, saidIn, afterPiece, saidAtEnd, saidInAll, wholeOf, keptOf, progressAfter, fits}
 use Rattle.text.proofs.Bytes.{Without, and-true}
 use Rattle.text.proofs.Wrote.{sets-append, wrote-nothing, _then_, front, as-long}
 use Rattle.text.proofs.Lines.{lines-of, lines-fit}
@@ -130,17 +131,18 @@ module _ (s : State) (n : ℕ) (h piece : List ℕ) (e : ℕ) (short : length h 
       ap₂ afterPiece (cut-none s n short) first-line ∙ line-after s n h (take e piece) (drop (e + 1) piece) first-without
       ∙ ap (λ (k : ℕ). afterPiece (kept next k []) (drop (e + 1) piece)) (sym (add-one n))
 
-  pub piece-said : {out out₁ out₂ : List ℕ} {at at₁ at₂ : ℕ} {s₁ : State}
-      → Wrote out at (saidFor (n + 1) s (parseOf (h ++ take e piece))) out₁ at₁
-      → s₁ ≡ stateAfter s (parseOf (h ++ take e piece))
-      → Wrote out₁ at₁ (saidIn (kept s₁ (n + 1) []) (drop (e + 1) piece)) out₂ at₂
-      → Wrote out at (saidIn (kept s n h) piece) out₂ at₂
-  piece-said {out₁ = out₁} {out₂} {at₁ = at₁} {at₂} w f v = rw said (w then subst (λ (z : State). Wrote out₁ at₁ (saidIn (kept z (n + 1) []) (drop (e + 1) piece)) out₂ at₂) f v)
-
-  pub piece-kept : {s₁ : State} {last : Kept} → s₁ ≡ stateAfter s (parseOf (h ++ take e piece))
-      → last ≡ afterPiece (kept s₁ (n + 1) []) (drop (e + 1) piece)
-      → last ≡ afterPiece (kept s n h) piece
-  piece-kept f k = k ∙ ap (λ (z : State). afterPiece (kept z (n + 1) []) (drop (e + 1) piece)) f ∙ sym after
+  -- that line, and those that end after it
+  pub lines-answered : {out out₁ out₂ : List ℕ} {at at₁ at₂ lines rest : ℕ} {s₁ s₂ : State}
+      → LineAnswered (record { entry = out; exit = out₁ }) at (n + 1) (record { entry = s; exit = s₁ }) (parseOf (h ++ take e piece)) at₁
+      → LinesAnswered (record { entry = out₁; exit = out₂ }) at₁ (kept s₁ (n + 1) []) piece (e + 1) s₂ lines at₂ rest
+      → LinesAnswered (record { entry = out; exit = out₂ }) at (kept s n h) piece 0 s₂ lines at₂ rest
+  lines-answered {out₁ = out₁} {out₂} {at₁ = at₁} {at₂} a b =
+      record {
+        wrote = rw said (a .wrote then subst (λ (z : State). Wrote out₁ at₁ (saidIn (kept z (n + 1) []) (drop (e + 1) piece)) out₂ at₂) (a .fed) (b .wrote));
+        within = b .within;
+        room = b .room;
+        keeps = b .keeps ∙ ap (λ (z : State). afterPiece (kept z (n + 1) []) (drop (e + 1) piece)) (a .fed) ∙ sym after;
+      }
 
 -- As memory
 
@@ -211,24 +213,23 @@ module _ (k : Kept) (piece : List ℕ) (at : ℕ) {r : Progress} (e : r ≡ prog
 
 module _ (s : State) (begun : Progress) (memory out : List ℕ) where
   -- nothing is held, and nothing is said
-  pub nothing-held : begun .held ≡ 0
-      → Wrote out (begun .at) (saidAtEnd (keptOf s begun memory)) out (begun .at) × (s ≡ stateAtEnd (keptOf s begun memory))
+  pub nothing-held : begun .held ≡ 0 → EndAnswered (record { entry = out; exit = out }) memory (record { entry = s; exit = s }) begun (begun .at)
   nothing-held e =
       let q : length (take (begun .held) memory) ≡ 0 = omega (arith, length-take (begun .held) memory) in
       let t = eq-eqb (length (take (begun .held) memory)) 0 q in
-      (rw t wrote-nothing, rw t)
+      record { wrote = rw t wrote-nothing; fed = rw t }
 
   -- what is held is a line
-  pub line-held : {out′ : List ℕ} {to : ℕ} {s′ : State} → (let line = take (begun .held) memory in
-      begun .held ≤ length memory → (begun .held ≡ 0 → ⊥) → Wrote out (begun .at) (saidFor (begun .lines + 1) s (parseOf line)) out′ to → s′ ≡ stateAfter s (parseOf line)
-      → Wrote out (begun .at) (saidAtEnd (keptOf s begun memory)) out′ to × (s′ ≡ stateAtEnd (keptOf s begun memory)))
+  pub line-held : {out′ : List ℕ} {to : ℕ} {s′ : State} → begun .held ≤ length memory → (begun .held ≡ 0 → ⊥)
+      → LineAnswered (record { entry = out; exit = out′ }) (begun .at) (begun .lines + 1) (record { entry = s; exit = s′ }) (parseOf (take (begun .held) memory)) to
+      → EndAnswered (record { entry = out; exit = out′ }) memory (record { entry = s; exit = s′ }) begun to
   unfolding saidAt afterByte
-  line-held h d w f =
+  line-held h d a =
       let t = ne-eqb (length (take (begun .held) memory)) 0 (λ z. d (counted (begun .held) memory h ∙ z)) in
-      (rw t (rw (add-one (begun .lines)) at w), rw t f)
+      record { wrote = rw t (rw (add-one (begun .lines)) at (a .wrote)); fed = rw t (a .fed) }
 
 whole-text : (text : List ℕ) → reportOf text ≡ saidIn freshKept text ++ saidAtEnd (afterPiece freshKept text)
-unfolding joined saidInAll
+unfolding wholeOf saidInAll
 whole-text text = ap reportOf (sym (append-nil text)) ∙ sym (any-cut (text ∷ []))
 
 -- the whole text as one piece, and what is held at its end
@@ -245,7 +246,7 @@ in-64 lines more b h = omega arith
 
 -- where a piece fits, its lines do, and so does what is held
 pub room-enough : (out piece held : List ℕ) (begun : Progress) → begun .lines < 2 ^ 64 → fits (length out) (length piece) (length held) begun ≡ true
-    → (begun .at + 64 * length (linesOf piece) ≤ length out) × (begun .held ≤ heldMost) × (heldMost ≤ length held) × (begun .lines + length piece < 2 ^ 64)
+    → PieceFits out piece held begun
 room-enough out piece held begun w e =
     let (a, r) = and-true (leb (begun .at) (length out)) _ e in
     let (b, r₁) = and-true (leb (length piece) ((length out - begun .at) / 64)) _ r in
@@ -254,4 +255,9 @@ room-enough out piece held begun w e =
     let h = leb-true (begun .at) (length out) a in
     let k = leb-true (length piece) ((length out - begun .at) / 64) b in
     let l = leb-true (length piece) (2 ^ 64 - 1 - begun .lines) f in
-    (omega (arith, lines-fit piece, h, k), leb-true (begun .held) heldMost d, leb-true heldMost (length held) c, in-64 (begun .lines) (length piece) w l)
+    record {
+      room = omega (arith, lines-fit piece, h, k);
+      short = leb-true (begun .held) heldMost d;
+      holds = leb-true heldMost (length held) c;
+      counted = in-64 (begun .lines) (length piece) w l;
+    }

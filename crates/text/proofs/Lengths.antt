@@ -7,7 +7,7 @@ use lib.ListN.{length, length-append}
 use Rattle.theory.specs.declared.record.Record.{Record}
 use Rattle.theory.specs.declared.answer.Answer.{Answer}
 use Rattle.theory.specs.declared.answer.Answer.the-variants.{Refused, Accepted, Clear, Race, Doubt}
-use Rattle.theory.specs.Feeding.{refusalNumber}
+use Rattle.theory.specs.feeding.Feeding.{refusalNumber}
 use Rattle.text.specs.Printing.{bytes, digitsOf, decimal}
 use Rattle.text.specs.ReportLines.{accessPart, accessLine, refusedLine, reportLine}
 use Rattle.text.proofs.Digits.{decimal-fits}

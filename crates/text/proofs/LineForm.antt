@@ -1,14 +1,16 @@
 -- Words, fields and lines. Assumes nothing.
-use mathlib.Core.Path.{_≡_, refl, ap, _∙_}
+use mathlib.Core.Path.{_≡_, refl, sym, ap, _∙_}
 use mathlib.Core.Bool.{true, false}
 use mathlib.Core.List.{List, [], _∷_}
 use Prim.Native.Nat.{ℕ, suc, _+_, _-_, _≤_, _<_}
+use native.Mathlib.Nat.{add-zero}
+use native.Mathlib.Numerals.{add-one}
 use native.Mathlib.Omega.{arith}
-use lib.ListN.{length, take, drop, length-drop}
-use lib.Seq.{take-all}
-use borrow.Author.Tests.{lt-ltb, le-ltb, eq-eqb, ne-eqb}
+use lib.ListN.{length, getD, take, drop, drop-of-length-le, length-drop}
+use lib.Seq.{drop-cons, take-all}
+use borrow.Author.Tests.{lt-ltb, le-ltb, ne-eqb}
 use Rattle.theory.specs.declared.record.Record.{Record}
-use Rattle.theory.specs.Recording.{lossMark}
+use Rattle.theory.specs.order.Recording.{lossMark}
 use Rattle.text.specs.declared.number.Number.{Number}
 use Rattle.text.specs.declared.parsed.Parsed.{Parsed}
 use Rattle.text.specs.Bytes.{indexOf, upTo, after, startsWith, isWord}
@@ -16,33 +18,39 @@ use Rattle.text.specs.LineForm.{decimalOf, words, opName, taskName, onNa
 
 -- Words
 
-pub word-here : (w : List ℕ) (ws : List (List ℕ)) (s : List ℕ) → isWord w s ≡ true → placeOf (w ∷ ws) s ≡ 0
+word-here : (w : List ℕ) (ws : List (List ℕ)) (s : List ℕ) → isWord w s ≡ true → placeOf (w ∷ ws) s ≡ 0
 unfolding placeOf
 word-here w ws s e = rw e
 
-pub word-later : (w : List ℕ) (ws : List (List ℕ)) (s : List ℕ) → isWord w s ≡ false → placeOf (w ∷ ws) s ≡ suc (placeOf ws s)
+word-later : (w : List ℕ) (ws : List (List ℕ)) (s : List ℕ) → isWord w s ≡ false → placeOf (w ∷ ws) s ≡ suc (placeOf ws s)
 unfolding placeOf
 word-later w ws s e = rw e
 
-pub no-word : (s : List ℕ) → placeOf [] s ≡ 0
+no-word : (s : List ℕ) → placeOf [] s ≡ 0
 unfolding placeOf
 no-word s = refl
 
--- the words before place n are passed: the next one is passed too, or it is the one
-pub past-word : (n : ℕ) {p : ℕ} (w : List ℕ) (ws : List (List ℕ)) (s : List ℕ) → p ≡ n + placeOf (w ∷ ws) s → isWord w s ≡ false → p ≡ suc n + placeOf ws s
-past-word n w ws s h e = omega (arith, word-later w ws s e)
+-- the words before place k are passed: the next one is passed too, or it is the one, or there is none
+module _ (ws : List (List ℕ)) (s : List ℕ) (k : ℕ) (h : placeOf ws s ≡ k + placeOf (drop k ws) s) where
+  pub word-passed : k < length ws → isWord (getD ws k []) s ≡ false → placeOf ws s ≡ (k + 1) + placeOf (drop (k + 1) ws) s
+  word-passed l e =
+      rw (add-one k) (h ∙ ap (λ (vs : List (List ℕ)). k + placeOf vs s) (drop-cons ws k [] l)
+      ∙ ap (λ (n : ℕ). k + n) (word-later (getD ws k []) (drop (suc k) ws) s e) ∙ omega arith)
 
-pub at-word : {n p : ℕ} (w : List ℕ) (ws : List (List ℕ)) (s : List ℕ) → p ≡ n + placeOf (w ∷ ws) s → isWord w s ≡ true → n ≡ p
-at-word w ws s h e = omega (arith, word-here w ws s e)
+  pub word-found : k < length ws → isWord (getD ws k []) s ≡ true → k ≡ placeOf ws s
+  word-found l e =
+      sym (h ∙ ap (λ (vs : List (List ℕ)). k + placeOf vs s) (drop-cons ws k [] l)
+      ∙ ap (λ (n : ℕ). k + n) (word-here (getD ws k []) (drop (suc k) ws) s e) ∙ add-zero k)
 
-pub no-words : (n : ℕ) {p : ℕ} (s : List ℕ) → p ≡ n + placeOf [] s → n ≡ p
-no-words n s h = omega (arith, no-word s)
+  pub words-ended : length ws ≤ k → k ≡ placeOf ws s
+  words-ended l =
+      sym (h ∙ ap (λ (vs : List (List ℕ)). k + placeOf vs s) (drop-of-length-le ws l) ∙ ap (λ (n : ℕ). k + n) (no-word s) ∙ add-zero k)
 
 pub is-op : (s : List ℕ) → startsWith opName s ≡ true → kindOf s ≡ placeOf words (drop 3 s)
 unfolding kindOf
 is-op s e = rw e
 
-pub no-op : (s : List ℕ) → startsWith opName s ≡ false → kindOf s ≡ 9
+pub no-op : (s : List ℕ) → startsWith opName s ≡ false → kindOf s ≡ length words
 unfolding kindOf
 no-op s e = rw e
 
@@ -92,11 +100,11 @@ module _ (s : List ℕ) (e p : ℕ) (cut : e ≡ 0 + indexOf space s) where
 -- What follows the op
 
 module _ (k : ℕ) (s : List ℕ) where
-  pub rest-act : k < lossMark → restOf k s ≡ actOf k s
-  rest-act h = rw (lt-ltb k lossMark h)
+  pub rest-act : k < length words → (k ≡ lossMark → ⊥) → restOf k s ≡ actOf k s
+  rest-act h d = rw (lt-ltb k (length words) h, ne-eqb k lossMark d)
 
   pub rest-mark : k ≡ lossMark → restOf k s ≡ markOf s
-  rest-mark h = rw (le-ltb k lossMark (omega arith), eq-eqb k lossMark h)
+  rest-mark h = rw h
 
-  pub rest-none : lossMark ≤ k → (k ≡ lossMark → ⊥) → restOf k s ≡ Parsed.Nothing
-  rest-none h d = rw (le-ltb k lossMark h, ne-eqb k lossMark d)
+  pub rest-none : length words ≤ k → restOf k s ≡ Parsed.Nothing
+  rest-none h = rw (le-ltb k (length words) h)

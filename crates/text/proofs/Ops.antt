@@ -1,73 +1,83 @@
 -- The op of a line by its first eight bytes, and where it ends. Assumes nothing.
-use mathlib.Core.Path.{_≡_, refl, sym, ap, subst, _∙_}
-use mathlib.Core.Bool.{true}
-use mathlib.Core.List.{List, [], _∷_, _++_}
-use Prim.Native.Nat.{ℕ, _+_, _≤_, _<_}
+use mathlib.Core.Path.{_≡_, refl, sym, ap, ap₂, subst, _∙_}
+use mathlib.Core.List.{List, [], _∷_, _++_, map}
+use Prim.Native.Nat.{ℕ, zero, suc, _+_, _-_, _≤_, _<_}
 use native.Mathlib.Omega.{arith}
 use lib.ListN.{length, getD, take, drop, take-append-drop}
 use lib.Seq.{length-take-le}
-use Rattle.theory.specs.Recording.{lossMark}
+use borrow.Author.Tests.{leb-true, eqb-true}
+use lib.Dec.{leb, eqb}
+use Rattle.theory.specs.tables.Turns.{turns}
 use Rattle.text.specs.declared.parsed.Parsed.{Parsed}
-use Rattle.text.specs.Bytes.{indexOf, upTo, after, little}
-use Rattle.text.specs.LineForm.{opName, taskName, wordOf, space, kindOf, restOf, parseOf}
-use Rattle.text.specs.Places.{Says}
-use Rattle.text.proofs.Bytes.{index-fits, Below, allBelow, all-below}
+use Rattle.text.specs.Bytes.{indexOf, upTo, after, startsWith, isWord, little}
+use Rattle.text.specs.LineForm.{words, opName, wordOf, space, kindOf, restOf, parseOf}
+use Rattle.text.specs.Places.{StandsAt, opening, openingOf, opBytes}
+use Rattle.text.proofs.Bytes.{index-fits, is-the-word, Below, allBelow, all-below}
 use Rattle.text.proofs.LineForm.{rest-none}
 use Rattle.text.proofs.Places.{says-first, says-little}
 use Rattle.text.proofs.RoundTrip.{each-kind, op-is}
 
--- Tables
+-- The openings of the kinds
 
--- the first eight bytes of a line for each kind; where the word and its space are seven, `task=` begins
-abbrev pub firstEight : ℕ → List ℕ
-firstEight k = take 8 (opName ++ (wordOf k ++ (space ∷ taskName)))
+-- they stand in a table as the words do
+pub opening-at : (ws : List (List ℕ)) (k : ℕ) → k < length ws → getD (map opening ws) k [] ≡ opening (getD ws k [])
+opening-at [] k h = absurd (omega arith)
+opening-at (w ∷ ws) zero h = refl
+opening-at (w ∷ ws) (suc k) h = opening-at ws k (omega arith)
 
-first-below : (k : ℕ) → k ≤ lossMark → Below 256 (firstEight k)
-unfolding allBelow
-first-below k h = all-below 256 (firstEight k) (omega arith) (each-kind (λ k. allBelow 256 (firstEight k) ≡ true) refl refl refl refl refl refl refl refl refl k h)
+module _ (k : ℕ) (h : k < length words) where
+  opening-below : Below 256 (openingOf k)
+  unfolding turns allBelow
+  opening-below = all-below 256 (openingOf k) (omega arith) (each-kind (λ k. allBelow 256 (openingOf k)) refl k h)
 
-first-long : (k : ℕ) → k ≤ lossMark → length (firstEight k) ≡ 8
-first-long = each-kind (λ k. length (firstEight k) ≡ 8) refl refl refl refl refl refl refl refl refl
+  opening-long : length (openingOf k) ≡ 8
+  unfolding turns
+  opening-long = eqb-true _ _ (each-kind (λ k. eqb (length (openingOf k)) 8) refl k h)
 
-first-op : (k : ℕ) → k ≤ lossMark → take (length (opName ++ wordOf k)) (firstEight k) ≡ opName ++ wordOf k
-first-op = each-kind (λ k. take (length (opName ++ wordOf k)) (firstEight k) ≡ opName ++ wordOf k) refl refl refl refl refl refl refl refl refl
+  -- and so in the table
+  pub opening-room : length (getD (map opening words) k []) ≡ 8
+  opening-room = ap length (opening-at words k h) ∙ opening-long
 
-pub op-long : (k : ℕ) → k ≤ lossMark → length (opName ++ wordOf k) ≤ 8
-op-long = each-kind (λ k. length (opName ++ wordOf k) ≤ 8) (omega arith) (omega arith) (omega arith) (omega arith) (omega arith) (omega arith) (omega arith) (omega arith) (omega arith)
+  opening-op : take (length (opName ++ wordOf k)) (openingOf k) ≡ opName ++ wordOf k
+  unfolding turns isWord startsWith
+  opening-op = is-the-word _ _ (each-kind (λ k. isWord (opName ++ wordOf k) (take (length (opName ++ wordOf k)) (openingOf k))) refl k h)
 
--- where the ops end
-abbrev pub ends : List ℕ
-ends = 7 ∷ 8 ∷ 7 ∷ 7 ∷ 7 ∷ 6 ∷ 8 ∷ 7 ∷ 7 ∷ []
+  pub op-long : length (opName ++ wordOf k) ≤ 8
+  unfolding turns
+  op-long = leb-true _ _ (each-kind (λ k. leb (length (opName ++ wordOf k)) 8) refl k h)
 
-pub end-at : (k : ℕ) → k ≤ lossMark → getD ends k 0 ≡ length (opName ++ wordOf k)
-end-at = each-kind (λ k. getD ends k 0 ≡ length (opName ++ wordOf k)) refl refl refl refl refl refl refl refl refl
+  pub op-bytes : opBytes (openingOf k) ≡ length (opName ++ wordOf k)
+  unfolding turns
+  op-bytes = eqb-true _ _ (each-kind (λ k. eqb (opBytes (openingOf k)) (length (opName ++ wordOf k))) refl k h)
 
--- the kinds by a product of their letters
-abbrev pub guesses : List ℕ
-guesses = 3 ∷ 1 ∷ 8 ∷ 0 ∷ 5 ∷ 0 ∷ 0 ∷ 4 ∷ 0 ∷ 0 ∷ 0 ∷ 7 ∷ 6 ∷ 0 ∷ 0 ∷ 2 ∷ []
+  -- and without `op=` the word
+  opening-rest : take (length (opName ++ wordOf k) - 3) (drop 3 (openingOf k)) ≡ wordOf k
+  unfolding turns isWord startsWith
+  opening-rest = is-the-word _ _ (each-kind (λ k. isWord (wordOf k) (take (length (opName ++ wordOf k) - 3) (drop 3 (openingOf k)))) refl k h)
 
-pub guess-known : Below 9 guesses
-unfolding allBelow
-guess-known = all-below 9 guesses (omega arith) refl
+  pub opening-word : (e : ℕ) → e ≡ opBytes (getD (map opening words) k []) → take (e - 3) (drop 3 (getD (map opening words) k [])) ≡ wordOf k
+  opening-word e q =
+      ap₂ (λ (n : ℕ) (o : List ℕ). take (n - 3) (drop 3 o)) (q ∙ ap opBytes (opening-at words k h) ∙ op-bytes) (opening-at words k h) ∙ opening-rest
 
 -- The op
 
 -- eight bytes that are those of a kind
-pub says-op : (s : List ℕ) (at k : ℕ) → k ≤ lossMark → Below 256 s → at + 8 ≤ length s → little (take 8 (drop at s)) ≡ little (firstEight k)
-    → Says s at (opName ++ wordOf k)
+pub says-op : (s : List ℕ) (at k : ℕ) → k < length words → Below 256 s → at + 8 ≤ length s → little (take 8 (drop at s)) ≡ little (openingOf k)
+    → StandsAt s at (opName ++ wordOf k)
 says-op s at k h b l e =
     let w : List ℕ = opName ++ wordOf k in
-    let n : length (firstEight k) ≡ 8 = first-long k h in
-    let q : w ++ drop (length w) (firstEight k) ≡ firstEight k = ap (λ (t : List ℕ). t ++ drop (length w) (firstEight k)) (sym (first-op k h)) ∙ take-append-drop (length w) (firstEight k) in
-    let p : Says s at (firstEight k) = says-little s at (firstEight k) (omega arith) b (first-below k h) (ap (λ (i : ℕ). little (take i (drop at s))) n ∙ e) in
-    says-first s at w (drop (length w) (firstEight k)) (subst (Says s at) (sym q) p)
+    let o : List ℕ = openingOf k in
+    let n : length o ≡ 8 = opening-long k h in
+    let q : w ++ drop (length w) o ≡ o = ap (λ (t : List ℕ). t ++ drop (length w) o) (sym (opening-op k h)) ∙ take-append-drop (length w) o in
+    let p : StandsAt s at o = says-little s at o (omega arith) b (opening-below k h) (ap (λ (i : ℕ). little (take i (drop at s))) n ∙ e) in
+    says-first s at w (drop (length w) o) (subst (StandsAt s at) (sym q) p)
 
 -- an op of a kind ends at the first space
-pub op-ends : (s : List ℕ) (k : ℕ) → k ≡ kindOf (upTo space s) → k ≤ lossMark → length (opName ++ wordOf k) ≡ 0 + indexOf space s
+pub op-ends : (s : List ℕ) (k : ℕ) → k ≡ kindOf (upTo space s) → k < length words → length (opName ++ wordOf k) ≡ 0 + indexOf space s
 op-ends s k e h =
-    let q : upTo space s ≡ opName ++ wordOf k = rw e (op-is (upTo space s) (omega arith)) in
+    let q : upTo space s ≡ opName ++ wordOf k = rw e (op-is (upTo space s) (subst (λ (j : ℕ). j < length words) e h)) in
     omega (arith, ap length q, length-take-le (indexOf space s) s (index-fits space s))
 
-pub no-op-read : (s : List ℕ) (k : ℕ) → k ≡ kindOf (upTo space s) → lossMark < k → parseOf s ≡ Parsed.Nothing
+pub no-op-read : (s : List ℕ) (k : ℕ) → k ≡ kindOf (upTo space s) → length words ≤ k → parseOf s ≡ Parsed.Nothing
 unfolding parseOf
-no-op-read s k e h = ap (λ (j : ℕ). restOf j (after space s)) (sym e) ∙ rest-none k (after space s) (omega arith) (λ q. omega arith)
+no-op-read s k e h = ap (λ (j : ℕ). restOf j (after space s)) (sym e) ∙ rest-none k (after space s) h

@@ -13,7 +13,7 @@ use Rattle.text.specs.declared.parsed.Parsed.{Parsed}
 use Rattle.text.specs.Lines.{lf, linesOf}
 use Rattle.text.specs.LineForm.{parseOf}
 use Rattle.text.specs.Report.{saidFor, stateAfter, reportFrom, reportOf}
-use Rattle.text.specs.Pieces.{Kept, kept, freshKept, heldMost, saidAt, afterByte, saidIn, afterPiece, saidAtEnd, saidInAll, joined, AnyCut}
+use Rattle.text.specs.Pieces.{Kept, kept, freshKept, heldMost, saidAt, afterByte, saidIn, afterPiece, saidAtEnd, saidInAll, wholeOf, AnyCut}
 use Rattle.text.proofs.Bytes.{Without, index-none, without-append, without-cons, without-head}
 use Rattle.text.proofs.Lines.{no-lines, line-first, line-last}
 use Rattle.text.proofs.RoundTrip.{long-refused}
@@ -71,13 +71,13 @@ unfolding afterPiece
 after-append k [] b = refl
 after-append k (x ∷ a) b = after-append (afterByte k x) a b
 
-all-joined : (k : Kept) (ps : List (List ℕ)) → saidInAll k ps ≡ saidIn k (joined ps) ++ saidAtEnd (afterPiece k (joined ps))
-unfolding saidInAll joined saidIn afterPiece
+all-joined : (k : Kept) (ps : List (List ℕ)) → saidInAll k ps ≡ saidIn k (wholeOf ps) ++ saidAtEnd (afterPiece k (wholeOf ps))
+unfolding saidInAll wholeOf saidIn afterPiece
 all-joined k [] = refl
 all-joined k (p ∷ ps) =
     ap (λ (l : List ℕ). saidIn k p ++ l) (all-joined (afterPiece k p) ps)
     ∙ sym (append-assoc (saidIn k p) _ _)
-    ∙ ap₂ (λ (l : List ℕ) (g : Kept). l ++ saidAtEnd g) (sym (said-append k p (joined ps))) (sym (after-append k p (joined ps)))
+    ∙ ap₂ (λ (l : List ℕ) (g : Kept). l ++ saidAtEnd g) (sym (said-append k p (wholeOf ps))) (sym (after-append k p (wholeOf ps)))
 
 -- Line by line
 
@@ -142,4 +142,4 @@ from-begun s n h (b ∷ t) w = picked (eqb b lf) refl (from-begun (stateAfter s 
 
 pub any-cut : AnyCut
 unfolding reportOf
-any-cut ps = all-joined freshKept ps ∙ from-begun _ 0 [] (joined ps) (index-none lf)
+any-cut ps = all-joined freshKept ps ∙ from-begun _ 0 [] (wholeOf ps) (index-none lf)

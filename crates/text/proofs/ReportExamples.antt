@@ -1,30 +1,32 @@
 -- Lines of document 01's example, as the definitions give them, and the longest numbers. Assumes nothing.
 use mathlib.Core.Path.{_≡_, refl}
 use Prim.Native.Nat.{ℕ, _^_, _-_}
+use Rattle.theory.specs.order.Limits.{records}
+use Rattle.theory.specs.order.Recording.{Op, kind}
 use Rattle.theory.specs.declared.record.Record.{Record}
 use Rattle.theory.specs.declared.answer.Answer.the-variants.{Refused, Accepted, Clear, Race, Doubt}
 use Rattle.text.specs.Printing.{bytes, digitsOf, widthIn, width, decimal, fiveDigits}
 use Rattle.text.specs.ReportLines.{accessPart, accessLine, refusedLine, reportLine}
 
-abbrev record-of : ℕ → ℕ → ℕ → Record
-record-of kind task on = record { kind = kind; task = task; on = on }
+abbrev record-of : Op → ℕ → ℕ → Record
+record-of op task on = record { kind = kind op; task = task; on = on }
 
-started : reportLine 1 (record-of 6 0 1) (Accepted (record { 0 = 1 })) ≡ bytes ""
+started : reportLine 1 (record-of Op.start 0 1) (Accepted (record { 0 = 1 })) ≡ bytes ""
 started = refl
 
-clear : reportLine 2 (record-of 1 0 5) (Clear (record { 0 = 2 })) ≡ bytes "rec=00002 task=0 var=5 verdict=clear with=00000\n"
+clear : reportLine 2 (record-of Op.write 0 5) (Clear (record { 0 = 2 })) ≡ bytes "rec=00002 task=0 var=5 verdict=clear with=00000\n"
 unfolding accessPart accessLine decimal width widthIn digitsOf
 clear = refl
 
-doubt : reportLine 6 (record-of 0 1 5) (Doubt (record { 0 = 6 }) (record { 0 = 2 })) ≡ bytes "rec=00006 task=1 var=5 verdict=doubt with=00002\n"
+doubt : reportLine 6 (record-of Op.read 1 5) (Doubt (record { 0 = 6 }) (record { 0 = 2 })) ≡ bytes "rec=00006 task=1 var=5 verdict=doubt with=00002\n"
 unfolding accessPart accessLine decimal width widthIn digitsOf
 doubt = refl
 
-race : reportLine 7 (record-of 0 1 6) (Race (record { 0 = 7 }) (record { 0 = 4 })) ≡ bytes "rec=00007 task=1 var=6 verdict=race with=00004\n"
+race : reportLine 7 (record-of Op.read 1 6) (Race (record { 0 = 7 }) (record { 0 = 4 })) ≡ bytes "rec=00007 task=1 var=6 verdict=race with=00004\n"
 unfolding accessPart accessLine decimal width widthIn digitsOf
 race = refl
 
-refused : reportLine 10 (record-of 0 2 5) (Refused 6) ≡ bytes "line=10 refused=6\n"
+refused : reportLine 10 (record-of Op.read 2 5) (Refused 6) ≡ bytes "line=10 refused=6\n"
 unfolding refusedLine decimal width widthIn digitsOf
 refused = refl
 
@@ -32,6 +34,6 @@ longest : decimal (2 ^ 64 - 1) ≡ bytes "18446744073709551615"
 unfolding decimal width widthIn digitsOf
 longest = refl
 
-last-record : fiveDigits 60_000 ≡ bytes "60000"
+last-record : fiveDigits records ≡ bytes "60000"
 unfolding digitsOf
 last-record = refl

@@ -11,6 +11,7 @@ use Rattle.text.specs.declared.parsed.Parsed.{Parsed}
 use Rattle.text.specs.Lines.{lf, linesOf, lineEnd}
 use Rattle.text.specs.LineForm.{parseOf}
 use Rattle.text.specs.Wrote.{Wrote}
+use Rattle.text.specs.Answers.{LineAnswered}
 use Rattle.text.specs.Report.{saidFor, stateAfter}
 use Rattle.text.specs.Pieces.{Kept, kept, saidIn, afterPiece}
 use Rattle.text.proofs.Bytes.{Without, index-none, split-first, before-without, index-bound, without-cons, without-drop}
@@ -122,17 +123,15 @@ module _ {memory said : List ℕ} {start : ℕ} {last : Kept} {report piece : Li
   pub left-taken : {report′ : List ℕ} {parsed : Parsed} {p′ to : ℕ} {s′ : State} → Left memory start said last report at s number piece p
       → p + lineEnd (drop p piece) < length piece
       → parsed ≡ parseOf (lineAt piece p) → p′ ≡ nextAt piece p
-      → Wrote report at (saidFor (number + 1) s parsed) report′ to
-      → to ≤ at + 64
-      → s′ ≡ stateAfter s parsed
+      → LineAnswered (record { entry = report; exit = report′ }) at (number + 1) (record { entry = s; exit = s′ }) parsed to
       → Left memory start said last report′ to s′ (number + 1) piece p′
-  left-taken {report′} {to = to} {s′} x h e f w l g =
+  left-taken {report′} {to = to} {s′} x h e f a =
       let same = e ∙ ap parseOf (sym (line-part piece p (p + lineEnd (drop p piece)) refl)) in
       subst (λ (j : ℕ). Left memory start said last report′ to s′ (number + 1) piece j) (sym (f ∙ next-place piece p h))
       (left-next x refl h
-      (subst (λ (z : Parsed). Wrote report at (saidFor (number + 1) s z) report′ to) same w)
-      l
-      (g ∙ ap (stateAfter s) same))
+      (subst (λ (z : Parsed). Wrote report at (saidFor (number + 1) s z) report′ to) same (a .wrote))
+      (a .room)
+      (a .fed ∙ ap (stateAfter s) same))
 
   -- what is left has no LF: it is held, and all is said
   pub left-said : Left memory start said last report at s number piece p → Without lf (drop p piece) → Wrote memory start said report at

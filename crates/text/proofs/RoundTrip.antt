@@ -1,14 +1,17 @@
 -- The text of a record is taken, and nothing else is. Assumes nothing.
 use mathlib.Core.Path.{_≡_, refl, sym, ap, ap₂, subst, _∙_}
-use mathlib.Core.Bool.{Bool, true, false, cond}
+use mathlib.Core.Bool.{Bool, true, false, cond, not}
 use mathlib.Core.List.{List, [], _∷_, _++_}
 use Prim.Native.Nat.{ℕ, zero, suc, _+_, _/_, _^_, _≤_, _<_}
 use native.Mathlib.Omega.{arith}
-use lib.Dec.{ltb, eqb}
+use lib.Dec.{leb, ltb, eqb}
 use lib.ListN.{length, getD, drop, length-append}
-use borrow.Author.Tests.{ltb-true, eqb-true, eqb-false, ne-eqb}
+use borrow.Author.Tests.{leb-true, ltb-true, eqb-true, eqb-false, ne-eqb, not-false}
 use Rattle.theory.specs.declared.record.Record.{Record}
-use Rattle.theory.specs.Recording.{lossMark}
+use Rattle.theory.specs.acceptance.Table.{anyBelow}
+use Rattle.theory.specs.order.Recording.{lossMark}
+use Rattle.theory.specs.tables.Turns.{turns}
+use Rattle.theory.proofs.acceptance.Rows.{none-below}
 use Rattle.text.specs.declared.number.Number.{Number}
 use Rattle.text.specs.declared.parsed.Parsed.{Parsed}
 use Rattle.text.specs.Bytes.{indexOf, upTo, after, startsWith, isWord}
@@ -45,26 +48,26 @@ word-at (w ∷ ws) s h = picked (isWord w s) refl h (word-at ws s)
     picked false e h ih = ih (omega arith)
 
 -- a first word that names a kind is `op=` and the kind's word
-pub op-is : (s : List ℕ) → kindOf s ≤ lossMark → s ≡ opName ++ wordOf (kindOf s)
+pub op-is : (s : List ℕ) → kindOf s < length words → s ≡ opName ++ wordOf (kindOf s)
 unfolding kindOf
 op-is s h = picked (startsWith opName s) refl h
   where
-    picked : (t : Bool) → startsWith opName s ≡ t → cond t (placeOf words (drop 3 s)) 9 ≤ lossMark
-        → s ≡ opName ++ wordOf (cond t (placeOf words (drop 3 s)) 9)
-    picked true e h = word-split opName s e ∙ ap (λ (l : List ℕ). opName ++ l) (word-at words (drop 3 s) (omega arith))
+    picked : (t : Bool) → startsWith opName s ≡ t → cond t (placeOf words (drop 3 s)) (length words) < length words
+        → s ≡ opName ++ wordOf (cond t (placeOf words (drop 3 s)) (length words))
+    picked true e h = word-split opName s e ∙ ap (λ (l : List ℕ). opName ++ l) (word-at words (drop 3 s) h)
     picked false e h = absurd (omega arith)
 
-pub act-text : (k t n : ℕ) → k < lossMark
+pub act-text : (k t n : ℕ) → (k ≡ lossMark → ⊥)
     → textOf (record { kind = k; task = t; on = n }) ≡ (opName ++ wordOf k) ++ (space ∷ ((taskName ++ decimal t) ++ (space ∷ (onName ++ decimal n))))
 unfolding textOf
-act-text k t n h = rw (ne-eqb k lossMark (omega arith))
+act-text k t n h = rw (ne-eqb k lossMark h)
 
 mark-text : (t n : ℕ) → textOf (record { kind = lossMark; task = t; on = n }) ≡ (opName ++ wordOf lossMark) ++ (space ∷ (tasksName ++ decimal n))
 unfolding textOf
 mark-text t n = refl
 
 -- the line of an act, from its three words
-act-joined : (s : List ℕ) (k t n : ℕ) → k < lossMark → upTo space s ≡ opName ++ wordOf k → upTo space (after space s) ≡ taskName ++ decimal t
+act-joined : (s : List ℕ) (k t n : ℕ) → (k ≡ lossMark → ⊥) → upTo space s ≡ opName ++ wordOf k → upTo space (after space s) ≡ taskName ++ decimal t
     → after space (after space s) ≡ onName ++ decimal n → s ≡ textOf (record { kind = k; task = t; on = n })
 act-joined s k t n h e f g =
     let a = after space s in
@@ -84,19 +87,19 @@ record Said (s : List ℕ) (r : Record) : Type 0 where
   is : s ≡ textOf r
   can : Sayable r
 
-act-said : (s : List ℕ) (k : ℕ) → k ≡ kindOf (upTo space s) → k < lossMark → (x y : Number) → fieldOf taskName (upTo space (after space s)) ≡ x
+act-said : (s : List ℕ) (k : ℕ) → k ≡ kindOf (upTo space s) → k < length words → (k ≡ lossMark → ⊥) → (x y : Number) → fieldOf taskName (upTo space (after space s)) ≡ x
     → fieldOf onName (after space (after space s)) ≡ y → (r : Record) → actBy k x y ≡ Parsed.Record r → Said s r
-act-said s k q h (Number.Value t) (Number.Value n) f g r e =
+act-said s k q l h (Number.Value t) (Number.Value n) f g r e =
     let same : record { kind = k; task = t; on = n } ≡ r = cc in
     let w : upTo space s ≡ opName ++ wordOf k = rw q (op-is (upTo space s) (omega arith)) in
     let a = field-is taskName (upTo space (after space s)) t f in
     let b = field-is onName (after space (after space s)) n g in
     record {
       is = act-joined s k t n h w (a .is) (b .is) ∙ ap textOf same;
-      can = subst Sayable same (record { kind-known = omega arith; task-short = a .short; on-short = b .short; mark-alone = λ z. absurd (omega arith) });
+      can = subst Sayable same (record { kind-known = l; task-short = a .short; on-short = b .short; mark-alone = λ z. absurd (h z) });
     }
-act-said s k q h (Number.Value t) Number.Nothing f g r e = absurd (let z : _≡_ {A = ℕ} 0 1 = cc in omega arith)
-act-said s k q h Number.Nothing y f g r e = absurd (let z : _≡_ {A = ℕ} 0 1 = cc in omega arith)
+act-said s k q l h (Number.Value t) Number.Nothing f g r e = absurd (let z : _≡_ {A = ℕ} 0 1 = cc in omega arith)
+act-said s k q l h Number.Nothing y f g r e = absurd (let z : _≡_ {A = ℕ} 0 1 = cc in omega arith)
 
 mark-said : (s : List ℕ) → kindOf (upTo space s) ≡ lossMark → (x : Number) → fieldOf tasksName (after space s) ≡ x
     → (r : Record) → markBy x ≡ Parsed.Record r → Said s r
@@ -112,14 +115,14 @@ mark-said s q Number.Nothing f r e = absurd (let z : _≡_ {A = ℕ} 0 1 = cc in
 
 said : (s : List ℕ) (r : Record) → parseOf s ≡ Parsed.Record r → Said s r
 unfolding parseOf actOf markOf
-said s r e = picked (ltb (kindOf (upTo space s)) lossMark) refl (eqb (kindOf (upTo space s)) lossMark) refl e
+said s r e = picked (ltb (kindOf (upTo space s)) (length words)) refl (eqb (kindOf (upTo space s)) lossMark) refl e
   where
-    picked : (t : Bool) → ltb (kindOf (upTo space s)) lossMark ≡ t → (b : Bool) → eqb (kindOf (upTo space s)) lossMark ≡ b
-        → cond t (actOf (kindOf (upTo space s)) (after space s)) (cond b (markOf (after space s)) Parsed.Nothing) ≡ Parsed.Record r → Said s r
-    picked true f b g e = act-said s (kindOf (upTo space s)) refl (ltb-true (kindOf (upTo space s)) lossMark f)
+    picked : (t : Bool) → ltb (kindOf (upTo space s)) (length words) ≡ t → (b : Bool) → eqb (kindOf (upTo space s)) lossMark ≡ b
+        → cond t (cond b (markOf (after space s)) (actOf (kindOf (upTo space s)) (after space s))) Parsed.Nothing ≡ Parsed.Record r → Said s r
+    picked true f true g e = mark-said s (eqb-true (kindOf (upTo space s)) lossMark g) (fieldOf tasksName (after space s)) refl r e
+    picked true f false g e = act-said s (kindOf (upTo space s)) refl (ltb-true (kindOf (upTo space s)) (length words) f) (eqb-false (kindOf (upTo space s)) lossMark g)
         (fieldOf taskName (upTo space (after space s))) (fieldOf onName (after space (after space s))) refl refl r e
-    picked false f true g e = mark-said s (eqb-true (kindOf (upTo space s)) lossMark g) (fieldOf tasksName (after space s)) refl r e
-    picked false f false g e = absurd (let z : _≡_ {A = ℕ} 0 1 = cc in omega arith)
+    picked false f b g e = absurd (let z : _≡_ {A = ℕ} 0 1 = cc in omega arith)
 
 pub only-text : OnlyText
 only-text s r e = said s r e .is
@@ -129,28 +132,21 @@ only-sayable s r e = said s r e .can
 
 -- Kinds and their words
 
-pub each-kind : (P : ℕ → Type 0) → P 0 → P 1 → P 2 → P 3 → P 4 → P 5 → P 6 → P 7 → P 8 → (k : ℕ) → k ≤ lossMark → P k
-each-kind P a b c d e f g h i zero l = a
-each-kind P a b c d e f g h i (suc zero) l = b
-each-kind P a b c d e f g h i (suc (suc zero)) l = c
-each-kind P a b c d e f g h i (suc (suc (suc zero))) l = d
-each-kind P a b c d e f g h i (suc (suc (suc (suc zero)))) l = e
-each-kind P a b c d e f g h i (suc (suc (suc (suc (suc zero))))) l = f
-each-kind P a b c d e f g h i (suc (suc (suc (suc (suc (suc zero)))))) l = g
-each-kind P a b c d e f g h i (suc (suc (suc (suc (suc (suc (suc zero))))))) l = h
-each-kind P a b c d e f g h i (suc (suc (suc (suc (suc (suc (suc (suc zero)))))))) l = i
-each-kind P a b c d e f g h i (suc (suc (suc (suc (suc (suc (suc (suc (suc k))))))))) l = absurd (omega arith)
+-- a test that each kind's word passes, by trying them
+pub each-kind : (p : ℕ → Bool) → anyBelow (length words) (λ k. not (p k)) ≡ false → (k : ℕ) → k < length words → p k ≡ true
+each-kind p e k h = not-false (p k) (none-below (length words) (λ k. not (p k)) e k h)
 
-pub op-kind : (k : ℕ) → k ≤ lossMark → kindOf (opName ++ wordOf k) ≡ k
-unfolding kindOf placeOf isWord startsWith
-op-kind = each-kind (λ k. kindOf (opName ++ wordOf k) ≡ k) refl refl refl refl refl refl refl refl refl
+pub op-kind : (k : ℕ) → k < length words → kindOf (opName ++ wordOf k) ≡ k
+unfolding turns kindOf placeOf isWord startsWith
+op-kind k h = eqb-true _ _ (each-kind (λ k. eqb (kindOf (opName ++ wordOf k)) k) refl k h)
 
-pub op-whole : (k : ℕ) → k ≤ lossMark → Without space (opName ++ wordOf k)
-unfolding indexOf
-op-whole = each-kind (λ k. Without space (opName ++ wordOf k)) refl refl refl refl refl refl refl refl refl
+pub op-whole : (k : ℕ) → k < length words → Without space (opName ++ wordOf k)
+unfolding turns indexOf
+op-whole k h = eqb-true _ _ (each-kind (λ k. eqb (indexOf space (opName ++ wordOf k)) (length (opName ++ wordOf k))) refl k h)
 
-word-short : (k : ℕ) → k ≤ lossMark → length (wordOf k) ≤ 5
-word-short = each-kind (λ k. length (wordOf k) ≤ 5) (omega arith) (omega arith) (omega arith) (omega arith) (omega arith) (omega arith) (omega arith) (omega arith) (omega arith)
+word-short : (k : ℕ) → k < length words → length (wordOf k) ≤ 5
+unfolding turns
+word-short k h = leb-true _ _ (each-kind (λ k. leb (length (wordOf k)) 5) refl k h)
 
 -- No line is long
 
@@ -198,15 +194,14 @@ act-words : (k : ℕ) (w s : List ℕ) → Without space w → actOf k (w ++ (sp
 unfolding actOf
 act-words k w s h = ap₂ (λ (x : List ℕ) (y : List ℕ). actBy k (fieldOf taskName x) (fieldOf onName y)) (before-seam space w s h) (after-seam space w s h)
 
-act-taken : (k t n : ℕ) → k < lossMark → t < 10 ^ digits → n < 10 ^ digits
+act-taken : (k t n : ℕ) → k < length words → (k ≡ lossMark → ⊥) → t < 10 ^ digits → n < 10 ^ digits
     → parseOf (textOf (record { kind = k; task = t; on = n })) ≡ Parsed.Record (record { kind = k; task = t; on = n })
-act-taken k t n h f g =
+act-taken k t n l h f g =
     let rest = (taskName ++ decimal t) ++ (space ∷ (onName ++ decimal n)) in
-    let l : k ≤ lossMark = omega arith in
     ap parseOf (act-text k t n h)
     ∙ parse-words (opName ++ wordOf k) rest (op-whole k l)
     ∙ ap (λ (j : ℕ). restOf j rest) (op-kind k l)
-    ∙ rest-act k rest h
+    ∙ rest-act k rest l h
     ∙ act-words k (taskName ++ decimal t) (onName ++ decimal n) (task-whole t)
     ∙ ap₂ (actBy k) (field-read taskName t f) (field-read onName n g)
 
@@ -229,4 +224,4 @@ text-taken r h = picked (eqb (r .kind) lossMark) refl
         let z : r .task ≡ 0 = h .mark-alone k in
         let q : record { kind = lossMark; task = 0; on = r .on } ≡ r = λ i. record { kind = sym k i; task = sym z i; on = r .on } in
         subst (λ (x : Record). parseOf (textOf x) ≡ Parsed.Record x) q (mark-taken (r .on) (h .on-short))
-    picked false e = act-taken (r .kind) (r .task) (r .on) (omega (arith, eqb-false (r .kind) lossMark e, h .kind-known)) (h .task-short) (h .on-short)
+    picked false e = act-taken (r .kind) (r .task) (r .on) (h .kind-known) (eqb-false (r .kind) lossMark e) (h .task-short) (h .on-short)

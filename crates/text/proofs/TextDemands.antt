@@ -2,7 +2,7 @@
 use mathlib.Core.Path.{_≡_, refl, sym, ap, ap₂, subst, _∙_}
 use mathlib.Core.Bool.{Bool, true, false}
 use mathlib.Core.List.{List, [], _∷_, _++_}
-use Prim.Native.Nat.{ℕ, zero, suc, _+_, _*_, _/_, _^_, _≤_, _<_}
+use Prim.Native.Nat.{ℕ, suc, _+_, _*_, _/_, _^_, _≤_, _<_}
 use native.Mathlib.Nat.{zero-add}
 use native.Mathlib.Omega.{arith}
 use lib.ListN.{length, drop, length-append}
@@ -13,18 +13,18 @@ use Rattle.theory.specs.declared.state.State.{State}
 use Rattle.theory.specs.declared.state.Stepped.{Stepped}
 use Rattle.theory.specs.declared.answer.Answer.{Answer}
 use Rattle.theory.specs.declared.answer.Answer.the-variants.{Refused}
-use Rattle.theory.specs.Verdict.{Verdict, Race, Clear, Doubt}
-use Rattle.theory.specs.Control.{refusalIn}
-use Rattle.theory.specs.Step.{stepOf, freshState}
-use Rattle.theory.specs.Feeding.{Says, says-clear, says-race, says-doubt, fedTo, Handled, access-taken, other-taken}
-use Rattle.theory.specs.Feeding
-use Rattle.theory.proofs.Fed.{demand1}
+use Rattle.theory.specs.verdicts.Verdict.{Verdict, Race, Clear, Doubt}
+use Rattle.theory.specs.acceptance.Control.{refusalIn}
+use Rattle.theory.specs.feeding.Step.{stepOf, freshState}
+use Rattle.theory.specs.feeding.Feeding.{Says, says-clear, says-race, says-doubt, fedTo, byClocks, Handled, access-taken, other-taken}
+use Rattle.theory.specs.feeding.Feeding
+use Rattle.theory.proofs.feeding.Demanded.{demand1}
 use Rattle.text.specs.declared.parsed.Parsed.{Parsed}
 use Rattle.text.specs.Lines.{linesOf}
 use Rattle.text.specs.LineForm.{parseOf}
 use Rattle.text.specs.ReportLines.{accessLine, refusedLine, reportLine}
 use Rattle.text.specs.Report.{saidFor, stateAfter, reportFrom, reportOf, tooSmall}
-use Rattle.text.specs.TextDemands.{TextForm, wordFor, LineGot, no-record, refused, judged, taken, Answered, no-lines, a-line, TextHandled, refused-whole, reported, TextDemand1, OneReport, Tells, tells-nothing, tells-no-record, tells-answer, TextFed}
+use Rattle.text.specs.TextDemands.{TextForm, wordFor, LineGot, no-record, refused, judged, taken, LinesGot, no-lines, a-line, TextHandled, refused-whole, reported, TextDemand1, OneReport, Tells, tells-nothing, tells-no-record, tells-answer, TextFed}
 use Rattle.text.proofs.Lines.{lines-fit}
 use Rattle.text.proofs.RoundTrip.{text-taken, only-text, only-sayable}
 use Rattle.text.proofs.Lengths.{refused-line-fits, access-line-fits}
@@ -64,7 +64,7 @@ module _ (line : List ℕ) where
 
 -- A text
 
-answered : (n : ℕ) (s : State) (lines : List (List ℕ)) → Answered n s lines (reportFrom n s lines)
+answered : (n : ℕ) (s : State) (lines : List (List ℕ)) → LinesGot n s lines (reportFrom n s lines)
 unfolding reportFrom
 answered n s [] = no-lines
 answered n s (line ∷ lines) = a-line (line-got line n s (parseOf line) refl) (answered (suc n) (stateAfter s (parseOf line)) lines)
@@ -83,11 +83,11 @@ got-fits (judged {r = r} {v = v} f z a x) h =
     access-line-fits _ (r .task) (r .on) (wordFor v) _ (omega arith) (omega arith) (word-fits v)
 got-fits (taken f z a x) h = omega arith
 
-answered-fits : {n : ℕ} {s : State} {lines : List (List ℕ)} {report : List ℕ} → Answered n s lines report → n + length lines ≤ 2 ^ 64 → length report ≤ 64 * length lines
+answered-fits : {n : ℕ} {s : State} {lines : List (List ℕ)} {report : List ℕ} → LinesGot n s lines report → n + length lines ≤ 2 ^ 64 → length report ≤ 64 * length lines
 answered-fits no-lines h = omega arith
 answered-fits (a-line {said = said} {report = report} g a) h = omega (arith, length-append said report, got-fits g (omega arith), answered-fits a (omega arith))
 
-text-answered : (text : List ℕ) → Answered 1 freshState (linesOf text) (reportOf text)
+text-answered : (text : List ℕ) → LinesGot 1 freshState (linesOf text) (reportOf text)
 unfolding reportOf
 text-answered text = answered 1 freshState (linesOf text)
 
@@ -138,7 +138,7 @@ module _ {n : ℕ} {s : State} {line : List ℕ} where
   got-fixed (judged {r = r} f z a x) = form-fixed f refl (verdict-line n r x)
   got-fixed (taken {r = r} f z a x) = form-fixed f refl (ap (reportLine n r) (sym x))
 
-answered-fixed : {n : ℕ} {s : State} {lines : List (List ℕ)} {report : List ℕ} → Answered n s lines report → report ≡ reportFrom n s lines
+answered-fixed : {n : ℕ} {s : State} {lines : List (List ℕ)} {report : List ℕ} → LinesGot n s lines report → report ≡ reportFrom n s lines
 unfolding reportFrom
 answered-fixed no-lines = refl
 answered-fixed {n} (a-line {lines = lines} g a) =
@@ -151,13 +151,13 @@ one-report text report a = answered-fixed a
 
 -- The answers are those of feeding
 
-told : (n : ℕ) (s : State) (lines : List (List ℕ)) → (rs : List Record) × Tells n lines rs (fedTo s rs) (reportFrom n s lines)
+told : (n : ℕ) (s : State) (lines : List (List ℕ)) → (rs : List Record) × Tells n lines rs (fedTo byClocks s rs) (reportFrom n s lines)
 unfolding reportFrom
 told n s [] = ([], tells-nothing)
 told n s (line ∷ lines) = by-parse (parseOf line) refl (told (suc n) (stateAfter s (parseOf line)) lines)
   where
-    by-parse : (p : Parsed) → parseOf line ≡ p → ((rs : List Record) × Tells (suc n) lines rs (fedTo (stateAfter s p) rs) (reportFrom (suc n) (stateAfter s p) lines))
-        → (rs : List Record) × Tells n (line ∷ lines) rs (fedTo s rs) (saidFor n s p ++ reportFrom (suc n) (stateAfter s p) lines)
+    by-parse : (p : Parsed) → parseOf line ≡ p → ((rs : List Record) × Tells (suc n) lines rs (fedTo byClocks (stateAfter s p) rs) (reportFrom (suc n) (stateAfter s p) lines))
+        → (rs : List Record) × Tells n (line ∷ lines) rs (fedTo byClocks s rs) (saidFor n s p ++ reportFrom (suc n) (stateAfter s p) lines)
     by-parse Parsed.Nothing e (rs, t) = (rs, tells-no-record (parsed-none line e) t)
     by-parse (Parsed.Record r) e (rs, t) = (r ∷ rs, tells-answer (parsed-form line r e) t)
 

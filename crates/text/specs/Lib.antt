@@ -7,7 +7,8 @@ pub mod ReportLines
 pub mod Report
 pub mod Pieces
 pub mod TextDemands
--- As memory: what is written, and how a reader moves
+-- As memory: what is written, what answering promises, and how a reader moves
 pub mod Wrote
+pub mod Answers
 pub mod Reading
 pub mod Places

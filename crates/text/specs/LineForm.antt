@@ -1,16 +1,16 @@
 -- The form of a line ("Text and report"): what it says as a record, and the text of a record.
 use mathlib.Core.Path.{_≡_}
-use Prim.Native.Nat.{ℕ, zero, suc, _+_, _*_, _-_, _^_, _≤_, _<_}
+use Prim.Native.Nat.{ℕ, zero, suc, _+_, _*_, _-_, _^_, _<_}
 use mathlib.Core.Bool.{Bool, cond, not, _&&_, _||_}
 use mathlib.Core.List.{List, [], _∷_, _++_}
 use lib.ListN.{length, getD, drop}
 use lib.Dec.{leb, ltb, eqb}
 use Rattle.theory.specs.declared.record.Record.{Record}
-use Rattle.theory.specs.Recording.{lossMark}
+use Rattle.theory.specs.order.Recording.{lossMark}
 use Rattle.text.specs.declared.number.Number.{Number}
 use Rattle.text.specs.declared.parsed.Parsed.{Parsed}
 use Rattle.text.specs.Bytes.{upTo, after, startsWith, isWord}
-use Rattle.text.specs.Printing.{decimal}
+use Rattle.text.specs.Printing.{bytes, decimal}
 
 -- Numbers
 
@@ -37,35 +37,31 @@ decimalOf s = cond (isPlain s) (digitsFrom 0 s) Number.Nothing
 
 -- Words
 
--- the nine words by their kind numbers
+-- the words by their kind numbers: that of a loss mark at `lossMark`, and each other one of an act
 abbrev pub words : List (List ℕ)
 words =
-    (114 ∷ 101 ∷ 97 ∷ 100 ∷ [])  -- read
-    ∷ (119 ∷ 114 ∷ 105 ∷ 116 ∷ 101 ∷ [])  -- write
-    ∷ (116 ∷ 97 ∷ 107 ∷ 101 ∷ [])  -- take
-    ∷ (103 ∷ 105 ∷ 118 ∷ 101 ∷ [])  -- give
-    ∷ (108 ∷ 111 ∷ 111 ∷ 107 ∷ [])  -- look
-    ∷ (115 ∷ 101 ∷ 116 ∷ [])  -- set
-    ∷ (115 ∷ 116 ∷ 97 ∷ 114 ∷ 116 ∷ [])  -- start
-    ∷ (106 ∷ 111 ∷ 105 ∷ 110 ∷ [])  -- join
-    ∷ (108 ∷ 111 ∷ 115 ∷ 116 ∷ [])  -- lost
+    bytes "read"
+    ∷ bytes "write"
+    ∷ bytes "take"
+    ∷ bytes "give"
+    ∷ bytes "look"
+    ∷ bytes "set"
+    ∷ bytes "start"
+    ∷ bytes "join"
+    ∷ bytes "lost"
     ∷ []
 
--- `op=`
 abbrev pub opName : List ℕ
-opName = 111 ∷ 112 ∷ 61 ∷ []
+opName = bytes "op="
 
--- `task=`
 abbrev pub taskName : List ℕ
-taskName = 116 ∷ 97 ∷ 115 ∷ 107 ∷ 61 ∷ []
+taskName = bytes "task="
 
--- `on=`
 abbrev pub onName : List ℕ
-onName = 111 ∷ 110 ∷ 61 ∷ []
+onName = bytes "on="
 
--- `tasks=`
 abbrev pub tasksName : List ℕ
-tasksName = 116 ∷ 97 ∷ 115 ∷ 107 ∷ 115 ∷ 61 ∷ []
+tasksName = bytes "tasks="
 
 -- a space
 abbrev pub space : ℕ
@@ -76,7 +72,7 @@ unfoldable pub placeOf : List (List ℕ) → List ℕ → ℕ
 placeOf [] s = zero
 placeOf (w ∷ ws) s = cond (isWord w s) zero (suc (placeOf ws s))
 
--- the kind that `op=W` names; 9 where it names none
+-- the kind that `op=W` names; the count of the words where it names none
 unfoldable pub kindOf : List ℕ → ℕ
 kindOf s = cond (startsWith opName s) (placeOf words (drop (length opName) s)) (length words)
 
@@ -105,9 +101,9 @@ actOf k s = actBy k (fieldOf taskName (upTo space s)) (fieldOf onName (after spa
 unfoldable pub markOf : List ℕ → Parsed
 markOf s = markBy (fieldOf tasksName s)
 
--- what follows an op of kind k
+-- what follows an op of kind k, if that is the kind of a word
 abbrev pub restOf : ℕ → List ℕ → Parsed
-restOf k s = cond (ltb k lossMark) (actOf k s) (cond (eqb k lossMark) (markOf s) Parsed.Nothing)
+restOf k s = cond (ltb k (length words)) (cond (eqb k lossMark) (markOf s) (actOf k s)) Parsed.Nothing
 
 -- the record that a line says, if it is of the text form
 unfoldable pub parseOf : List ℕ → Parsed
@@ -127,9 +123,9 @@ textOf r =
     (tasksName ++ decimal (r .on))
     (taskName ++ (decimal (r .task) ++ (space ∷ (onName ++ decimal (r .on)))))))
 
--- a record that a line can say: one of the nine kinds, numbers of at most 5 digits, and no task in a loss mark
+-- a record that a line can say: a kind that has a word, numbers of at most 5 digits, and no task in a loss mark
 pub record Sayable (r : Record) : Type 0 where
-  pub kind-known : r .kind ≤ lossMark
+  pub kind-known : r .kind < length words
   pub task-short : r .task < 10 ^ digits
   pub on-short : r .on < 10 ^ digits
   pub mark-alone : r .kind ≡ lossMark → r .task ≡ 0

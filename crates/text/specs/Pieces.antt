@@ -7,7 +7,7 @@ use mathlib.Core.List.{List, [], _∷_, _++_}
 use lib.Dec.{eqb, leb}
 use lib.ListN.{length, take}
 use Rattle.theory.specs.declared.state.State.{State}
-use Rattle.theory.specs.Step.{freshState}
+use Rattle.theory.specs.feeding.Step.{freshState}
 use Rattle.text.specs.declared.progress.Progress.{Progress}
 use Rattle.text.specs.Lines.{lf}
 use Rattle.text.specs.LineForm.{parseOf}
@@ -64,13 +64,13 @@ saidInAll k [] = saidAtEnd k
 saidInAll k (p ∷ ps) = saidIn k p ++ saidInAll (afterPiece k p) ps
 
 -- the text that was cut into pieces
-unfoldable pub joined : List (List ℕ) → List ℕ
-joined [] = []
-joined (p ∷ ps) = p ++ joined ps
+unfoldable pub wholeOf : List (List ℕ) → List ℕ
+wholeOf [] = []
+wholeOf (p ∷ ps) = p ++ wholeOf ps
 
 -- however a text is cut, what is said for its pieces makes its report
 abbrev pub AnyCut : Type 0
-AnyCut = (pieces : List (List ℕ)) → saidInAll freshKept pieces ≡ reportOf (joined pieces)
+AnyCut = (pieces : List (List ℕ)) → saidInAll freshKept pieces ≡ reportOf (wholeOf pieces)
 
 -- As memory
 

@@ -8,7 +8,7 @@ use lib.ListN.{length}
 use lib.Seq.{sets}
 use Rattle.theory.specs.declared.record.Record.{Record}
 use Rattle.theory.specs.declared.state.State.{State}
-use Rattle.theory.specs.Step.{stepOf, freshState}
+use Rattle.theory.specs.feeding.Step.{stepOf, freshState}
 use Rattle.text.specs.declared.parsed.Parsed.{Parsed}
 use Rattle.text.specs.Lines.{linesOf}
 use Rattle.text.specs.LineForm.{parseOf}

@@ -1,7 +1,7 @@
 -- Demand 1, for texts: every text of any content is refused whole, by row 11, or each of its lines is answered, once and in order.
 -- proofs/TextDemands.antt proves it of the definitions that the C entry's contract names.
 use mathlib.Core.Path.{_≡_}
-use Prim.Native.Nat.{ℕ, zero, suc, _-_, _*_, _^_, _≤_, _<_}
+use Prim.Native.Nat.{ℕ, suc, _-_, _*_, _^_, _≤_, _<_}
 use mathlib.Core.Bool.{true, false}
 use mathlib.Core.List.{List, [], _∷_, _++_}
 use lib.ListN.{length, drop}
@@ -9,11 +9,12 @@ use Rattle.theory.specs.declared.record.Record.{Record}
 use Rattle.theory.specs.declared.state.State.{State}
 use Rattle.theory.specs.declared.answer.Answer.{Answer}
 use Rattle.theory.specs.declared.answer.Answer.the-variants.{Accepted}
-use Rattle.theory.specs.Verdict.{Verdict, Race, Clear, Doubt}
-use Rattle.theory.specs.Control.{refusalIn}
-use Rattle.theory.specs.History.{accesses}
-use Rattle.theory.specs.Step.{recordNumber, nextNumber, stepOf, freshState}
-use Rattle.theory.specs.Feeding.{Says, fed}
+use Rattle.theory.specs.verdicts.Verdict.{Verdict, Race, Clear, Doubt}
+use Rattle.theory.specs.acceptance.Table.{lastRow}
+use Rattle.theory.specs.acceptance.Control.{refusalIn}
+use Rattle.theory.specs.order.Recording.{accesses}
+use Rattle.theory.specs.feeding.Step.{recordNumber, nextNumber, stepOf, freshState}
+use Rattle.theory.specs.feeding.Feeding.{Says, fed}
 use Rattle.text.specs.Lines.{linesOf}
 use Rattle.text.specs.LineForm.{textOf, Sayable}
 use Rattle.text.specs.Printing.{bytes}
@@ -37,7 +38,7 @@ pub data LineGot (n : ℕ) (s : State) (line : List ℕ) : State → List ℕ �
   -- "A line that yields no record is refused with 1"
   no-record : ((r : Record) → ¬ TextForm line r) → LineGot n s line s (refusedLine n 1)
   -- its record is refused with the number of the first row that applies, and the state stays
-  refused : {r : Record} {k : ℕ} → TextForm line r → refusalIn (s .control) r ≡ k → 1 ≤ k → k ≤ 9 → LineGot n s line s (refusedLine n k)
+  refused : {r : Record} {k : ℕ} → TextForm line r → refusalIn (s .control) r ≡ k → 1 ≤ k → k ≤ lastRow → LineGot n s line s (refusedLine n k)
   -- "One line for an accepted access", with its record number, its verdict and the partner
   judged : {r : Record} {v : Verdict} {w : ℕ} → TextForm line r → refusalIn (s .control) r ≡ 0 → accesses (r .kind) ≡ true →
       Says ((stepOf s r) .answer) (nextNumber (s .control)) v w →
@@ -49,17 +50,17 @@ pub data LineGot (n : ℕ) (s : State) (line : List ℕ) : State → List ℕ �
 -- A text
 
 -- lines, the first having number n: each is fed to the state that the one before it left, and the report is what each got, in their order
-pub data Answered : ℕ → State → List (List ℕ) → List ℕ → Type 0 where
-  no-lines : {n : ℕ} {s : State} → Answered n s [] []
+pub data LinesGot : ℕ → State → List (List ℕ) → List ℕ → Type 0 where
+  no-lines : {n : ℕ} {s : State} → LinesGot n s [] []
   a-line : {n : ℕ} {s s′ : State} {line said report : List ℕ} {lines : List (List ℕ)} →
-      LineGot n s line s′ said → Answered (suc n) s′ lines report → Answered n s (line ∷ lines) (said ++ report)
+      LineGot n s line s′ said → LinesGot (suc n) s′ lines report → LinesGot n s (line ∷ lines) (said ++ report)
 
 -- a text with report memory: the count that is returned, and the memory after
 pub data TextHandled (text memory : List ℕ) : Type 0 where
   -- row 11: "64 one-bits", "which leaves that memory untouched"
   refused-whole : length memory < 64 * length (linesOf text) → countOf text memory ≡ 2 ^ 64 - 1 → memoryOf text memory ≡ memory → TextHandled text memory
   -- the report from the memory's start on; "Bytes after the written ones stay"
-  reported : 64 * length (linesOf text) ≤ length memory → Answered 1 freshState (linesOf text) (reportOf text) →
+  reported : 64 * length (linesOf text) ≤ length memory → LinesGot 1 freshState (linesOf text) (reportOf text) →
       length (reportOf text) ≤ 64 * length (linesOf text) → countOf text memory ≡ length (reportOf text) →
       memoryOf text memory ≡ reportOf text ++ drop (length (reportOf text)) memory → TextHandled text memory
 
@@ -69,7 +70,7 @@ TextDemand1 = (text memory : List ℕ) → length text < 2 ^ 64 → TextHandled 
 
 -- and no other report would do: what each line gets is fixed
 abbrev pub OneReport : Type 0
-OneReport = (text report : List ℕ) → Answered 1 freshState (linesOf text) report → report ≡ reportOf text
+OneReport = (text report : List ℕ) → LinesGot 1 freshState (linesOf text) report → report ≡ reportOf text
 
 -- The answers in a report are those of feeding the records that the lines say, from a fresh state: what crates/theory proves of `fed`,
 -- demands 2 and 3 among it, holds of each report

@@ -1,12 +1,34 @@
 // What the checker is judged by: specs/ says what order, completions and verdicts are and which demands follow, proofs/ what is known of them.
-// No code stands here, only the types that the definitions speak of.
+// No code stands here, only the types that the definitions speak of, and the numbers of kinds and limits for the code.
 mod answer;
+mod kinds;
+mod limits;
 mod masks;
 mod numbers;
 mod record;
 mod state;
 
 pub use answer::Answer;
+pub use kinds::ASKERS;
+pub use kinds::GIVE;
+pub use kinds::JOIN;
+pub use kinds::KINDS;
+pub use kinds::LOOK;
+pub use kinds::LOST;
+pub use kinds::READ;
+pub use kinds::SET;
+pub use kinds::START;
+pub use kinds::TAKE;
+pub use kinds::WRITE;
+pub use limits::FLAGS;
+pub use limits::LAST_FLAG;
+pub use limits::LAST_SEMAPHORE;
+pub use limits::LAST_TASK;
+pub use limits::LAST_VARIABLE;
+pub use limits::RECORDS;
+pub use limits::SEMAPHORES;
+pub use limits::TASKS;
+pub use limits::VARIABLES;
 pub use masks::Masks;
 pub use numbers::Flag;
 pub use numbers::RecordNumber;
@@ -14,7 +36,16 @@ pub use numbers::Semaphore;
 pub use numbers::Task;
 pub use numbers::Variable;
 pub use record::Record;
+pub use state::CLOCK_CELLS;
+pub use state::CONTROL_CELLS;
+pub use state::Clocks;
+pub use state::Control;
+pub use state::HISTORY_CELLS;
+pub use state::History;
+pub use state::SET_CELLS;
+pub use state::SLOT_WORDS;
 pub use state::SetState;
 pub use state::SetStepped;
+pub use state::Sets;
 pub use state::State;
 pub use state::Stepped;

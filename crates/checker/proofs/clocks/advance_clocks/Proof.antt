@@ -1,52 +1,59 @@
--- A mark mixes the fullest clocks; an act goes to both, and an access hears and tells no other row.
+-- A mark mixes the fullest clocks; an act goes to both tables, and an access acquires from and releases to no other row.
 use mathlib.Core.Path.{_≡_, sym, ap, _∙_}
+use mathlib.Core.Bool.{Bool, true, false}
 use mathlib.Core.List.{List}
 use Prim.Native.Nat.{ℕ, _<_, max}
-use borrow.Author.Tests.{eq-eqb, ne-eqb, ltb-true}
-use Rattle.theory.specs.Tables.{onward}
-use Rattle.theory.specs.Reckonings.{clockOwn, clockAct}
-use Rattle.theory.proofs.Tables.{same-max}
-use Rattle.theory.proofs.Ranges.{access-onward}
+use native.Mathlib.Omega.{arith}
+use borrow.Author.Tests.{ne-eqb}
+use Rattle.theory.specs.order.Limits.{tasks}
+use Rattle.theory.specs.order.Recording.{accesses}
+use Rattle.theory.specs.tables.Rows.{onward}
+use Rattle.theory.specs.tables.Reckonings.{clockOwn, clockAct}
+use Rattle.theory.proofs.tables.Rows.{same-max}
+use Rattle.theory.proofs.tables.Ranges.{access-onward}
 use borrow.Author.Needs.{needs}
 use Rattle.checker.proofs.clocks.advance_clocks.Statement.{statement}
 use Rattle.checker.proofs.clocks.advance_clocks.Tie as tie
 
-module _ (k t n m : ℕ) (b : List ℕ) {x : List ℕ} (e : x ≡ clockOwn t m b) where
+module _ (asked : Bool) (k t n m : ℕ) (b : List ℕ) {x : List ℕ} (e : x ≡ clockOwn t m b) where
   -- after an access its own part is all
-  accessed : k < 2 → t < 16 → x ≡ clockAct k t n m b
-  accessed h l = e ∙ access-onward same-max 16 k t n (clockOwn t m b) h l
+  accessed : accesses k ≡ true → t < tasks → x ≡ clockAct asked k t n m b
+  accessed h l = e ∙ access-onward same-max tasks asked k t n (clockOwn t m b) h l
 
   -- after another act its order, too
-  passed : {y : List ℕ} → y ≡ onward max 16 k t n x → y ≡ clockAct k t n m b
-  passed q = q ∙ ap (onward max 16 k t n) e
+  passed : {y : List ℕ} → y ≡ onward max tasks asked k t n x → y ≡ clockAct asked k t n m b
+  passed q = q ∙ ap (onward max tasks asked k t n) e
 
 returns : tie.Need-returns
-returns c = simp (eq-eqb _ _ (c .before .before .if1 .taken)) (search needs)
+returns c =
+    let at-if1 = c .before .before in
+    let e = at-if1 .if1 .taken in
+    let h = at-if1 .before .pre .mark-names e in
+    let some = ne-eqb (at-if1 .before .args .on) 0 (λ z. omega arith) in
+    rw (e, some) (search needs)
 
 own-requires : tie.Need-own-requires
-own-requires c κs = (c .before .before .pre (ne-eqb _ _ (c .before .if1 .left))) .task-fits
+own-requires c κs = c .before .before .pre .act-fits (c .before .if1 .left) .task-fits
 
 own-requires-2 : tie.Need-own-requires-2
-own-requires-2 c κs = (c .before .before .before .before .pre (ne-eqb _ _ (c .before .before .before .if1 .left))) .task-fits
+own-requires-2 c κs = c .before .before .before .before .pre .act-fits (c .before .before .before .if1 .left) .task-fits
 
 returns-2 : tie.Need-returns-2
 returns-2 c =
     let b = c .before .before .before .before .before .before in
-    let d = ne-eqb _ _ (b .if1 .left) in
     let a = b .before .args in
-    let h = ltb-true _ _ (sym (c .before .is-access .ensures) ∙ c .if2 .taken) in
-    let l = (b .before .pre d) .task-fits in
-    simp d (
-      accessed (a .kind) (a .task) (a .on) (a .number) (a .clocks .now) (c .before .before .before .before .own .ensures) h l,
-      accessed (a .kind) (a .task) (a .on) (a .number) (a .fullclocks .now) (c .before .before .own2 .ensures) h l,
+    let h = sym (c .before .is-access .ensures) ∙ c .if2 .taken in
+    let l = b .before .pre .act-fits (b .if1 .left) .task-fits in
+    simp (ne-eqb _ _ (b .if1 .left)) (
+      accessed false (a .kind) (a .task) (a .on) (a .number) (a .clocks .now) (c .before .before .before .before .own .ensures) h l,
+      accessed true (a .kind) (a .task) (a .on) (a .number) (a .fullclocks .now) (c .before .before .own2 .ensures) h l,
     )
 
 pass-on-requires : tie.Need-pass-on-requires
-pass-on-requires c κs = let b = c .before .before .before .before .before .before .before in b .before .pre (ne-eqb _ _ (b .if1 .left))
+pass-on-requires c κs = let b = c .before .before .before .before .before .before .before in b .before .pre .act-fits (b .if1 .left)
 
 pass-on-requires-2 : tie.Need-pass-on-requires-2
-pass-on-requires-2 c κs =
-    let b = c .before .before .before .before .before .before .before .before .before in b .before .pre (ne-eqb _ _ (b .if1 .left))
+pass-on-requires-2 c κs = let b = c .before .before .before .before .before .before .before .before .before in b .before .pre .act-fits (b .if1 .left)
 
 returns-3 : tie.Need-returns-3
 returns-3 c =
@@ -54,12 +61,11 @@ returns-3 c =
     let b = o .before .before .before .before in
     let a = b .before .args in
     simp (ne-eqb _ _ (b .if1 .left)) (
-      passed (a .kind) (a .task) (a .on) (a .number) (a .clocks .now) (o .before .before .own .ensures) (c .before .before .pass-on .ensures),
-      passed (a .kind) (a .task) (a .on) (a .number) (a .fullclocks .now) (o .own2 .ensures) (c .pass-on2 .ensures),
+      passed false (a .kind) (a .task) (a .on) (a .number) (a .clocks .now) (o .before .before .own .ensures) (c .before .before .pass-on .ensures),
+      passed true (a .kind) (a .task) (a .on) (a .number) (a .fullclocks .now) (o .own2 .ensures) (c .pass-on2 .ensures),
     )
 
 pub advance-clocks-spec : {M : Type 1} → statement M
 advance-clocks-spec =
     tie.close (tie.spec
-    (λ c κs. search needs) returns own-requires own-requires-2 (λ c κs. search needs) returns-2 pass-on-requires
-    pass-on-requires-2 returns-3)
+    (λ c κs. search needs) returns own-requires own-requires-2 (λ c κs. search needs) returns-2 pass-on-requires pass-on-requires-2 returns-3)

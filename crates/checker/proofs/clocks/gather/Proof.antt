@@ -1,11 +1,11 @@
--- What a mark can hear is gathered in a row by itself, task by task, which is then joined to the hub.
+-- What a mark can acquire is gathered in a row by itself, task by task, which is then joined to the hub.
 use mathlib.Core.Path.{_∙_, sym}
 use Prim.Native.Nat.{_≤_, _-_, max}
 use native.Mathlib.Omega.{arith}
-use Rattle.theory.specs.Completion.{bit}
-use Rattle.theory.specs.Tables.{joinRow, joinWith, rowOrHub, gather}
-use Rattle.theory.proofs.Turns.{Turned, no-turn-yet, one-turn, all-turns}
-use Rattle.theory.proofs.Tables.{join-nothing, join-heard}
+use Rattle.theory.specs.fillings.Completion.{bit}
+use Rattle.theory.specs.tables.Rows.{joinRow, joinWith, rowOrHub, gather}
+use Rattle.theory.proofs.basics.Turns.{Turned, no-turn-yet, one-turn, all-turns}
+use Rattle.theory.proofs.tables.Rows.{join-nothing, join-acquired}
 use borrow.Author.Needs.{needs}
 use Rattle.checker.proofs.clocks.gather.Statement.{statement}
 use Rattle.checker.proofs.clocks.gather.Tie as tie
@@ -24,7 +24,7 @@ loop-again : tie.Need-loop-again Inv-loop μ-loop
 loop-again c = (
   search needs,
   one-turn (c .before .before .before .before .before .loop .inv .1)
-      (rw (c .heard-with .ensures, ← c .before .before .named-row .ensures .0) (sym (join-heard 16 80 _ _ _))),
+      (rw (c .acquired-with .ensures, ← c .before .before .named-row .ensures .0) (sym (join-acquired 16 80 _ _ _))),
 )
 
 returns : tie.Need-returns Inv-loop μ-loop

@@ -1,9 +1,9 @@
 -- A row of the clocks joined with another, column by column; a row with itself is as it was.
 use Prim.Native.Nat.{_≤_, _-_, max}
 use native.Mathlib.Omega.{arith}
-use Rattle.theory.specs.Tables.{joinCell, joinRow}
-use Rattle.theory.proofs.Turns.{Turned, no-turn, one-turn, all-turns}
-use Rattle.theory.proofs.Tables.{same-max, join-self}
+use Rattle.theory.specs.tables.Rows.{joinCell, joinRow}
+use Rattle.theory.proofs.basics.Turns.{Turned, no-turn, one-turn, all-turns}
+use Rattle.theory.proofs.tables.Rows.{same-max, join-self}
 use borrow.Author.Needs.{needs}
 use Rattle.checker.proofs.clocks.join_row.Statement.{statement}
 use Rattle.checker.proofs.clocks.join_row.Tie as tie

@@ -1,8 +1,8 @@
 -- A row of the clocks joined with one that stands by itself, column by column.
 use Prim.Native.Nat.{_≤_, _-_, max}
 use native.Mathlib.Omega.{arith}
-use Rattle.theory.specs.Tables.{joinWithCell, joinWith}
-use Rattle.theory.proofs.Turns.{Turned, no-turn, one-turn, all-turns}
+use Rattle.theory.specs.tables.Rows.{joinWithCell, joinWith}
+use Rattle.theory.proofs.basics.Turns.{Turned, no-turn, one-turn, all-turns}
 use borrow.Author.Needs.{needs}
 use Rattle.checker.proofs.clocks.join_with.Statement.{statement}
 use Rattle.checker.proofs.clocks.join_with.Tie as tie

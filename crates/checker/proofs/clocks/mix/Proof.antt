@@ -1,5 +1,5 @@
 -- Gathered, then spread, and the named tasks noted.
-use Rattle.theory.specs.Tables.{mix}
+use Rattle.theory.specs.tables.Rows.{mix}
 use borrow.Author.Needs.{needs}
 use Rattle.checker.proofs.clocks.mix.Statement.{statement}
 use Rattle.checker.proofs.clocks.mix.Tie as tie

@@ -3,9 +3,9 @@ use mathlib.Core.Bool.{cond}
 use Prim.Native.Nat.{_≤_, _-_, _+_}
 use native.Mathlib.Omega.{arith}
 use lib.ListN.{set}
-use Rattle.theory.specs.Completion.{bit}
-use Rattle.theory.specs.Tables.{cell, noteNamed}
-use Rattle.theory.proofs.Turns.{Turned, no-turn, one-turn, all-turns}
+use Rattle.theory.specs.fillings.Completion.{bit}
+use Rattle.theory.specs.tables.Rows.{cell, noteNamed}
+use Rattle.theory.proofs.basics.Turns.{Turned, no-turn, one-turn, all-turns}
 use borrow.Author.Needs.{needs}
 use Rattle.checker.proofs.clocks.note_named.Statement.{statement}
 use Rattle.checker.proofs.clocks.note_named.Tie as tie

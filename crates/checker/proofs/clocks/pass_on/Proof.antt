@@ -1,6 +1,6 @@
--- Order over an act, by the rows that it hears and tells.
+-- Order over an act, by the rows that it acquires and releases to.
 use mathlib.Core.Path.{sym, _∙_}
-use Rattle.theory.proofs.Ranges.{heard-fits, told-fits, row-fits, joins-kind}
+use Rattle.theory.proofs.tables.Ranges.{acquired-fits, released-fits, row-fits, joins-kind}
 use borrow.Author.Needs.{needs}
 use Rattle.checker.proofs.clocks.pass_on.Statement.{statement}
 use Rattle.checker.proofs.clocks.pass_on.Tie as tie
@@ -13,13 +13,13 @@ flow-requires c κs =
     let b = c .before .before .before in
     let a = b .before .before .args in
     let f = b .before .before .pre in
-    let h = heard-fits f (λ e. joins-kind 16 (a .cells .now) (a .kind) (a .on) (sym (b .joins-acted .ensures) ∙ e)) in
-    (row-fits (c .before .heard-row .ensures) h, row-fits (c .told-row .ensures) (told-fits f), f .task-fits)
+    let h = acquired-fits f (λ e. joins-kind 16 (a .cells .now) (a .kind) (a .on) (sym (b .joins-acted .ensures) ∙ e)) in
+    (row-fits (c .before .acquired-row .ensures) h, row-fits (c .released-row .ensures) (released-fits f), f .task-fits)
 
 returns : tie.Need-returns
 returns c =
     let b = c .before .before in
-    rw (← b .before .before .joins-acted .ensures, ← b .heard-row .ensures, ← c .before .told-row .ensures) (c .flow .ensures)
+    rw (← b .before .before .joins-acted .ensures, ← b .acquired-row .ensures, ← c .before .released-row .ensures) (c .flow .ensures)
 
 pub pass-on-spec : {M : Type 1} → statement M
 pass-on-spec = tie.close (tie.spec

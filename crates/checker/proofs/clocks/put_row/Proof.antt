@@ -3,8 +3,8 @@ use mathlib.Core.Path.{refl}
 use Prim.Native.Nat.{_≤_, _-_, _+_, _*_}
 use native.Mathlib.Omega.{arith}
 use lib.ListN.{set, getD}
-use Rattle.theory.specs.Tables.{putRow}
-use Rattle.theory.proofs.Turns.{Turned, no-turn, one-turn, all-turns}
+use Rattle.theory.specs.tables.Rows.{putRow}
+use Rattle.theory.proofs.basics.Turns.{Turned, no-turn, one-turn, all-turns}
 use borrow.Author.Needs.{needs}
 use Rattle.checker.proofs.clocks.put_row.Statement.{statement}
 use Rattle.checker.proofs.clocks.put_row.Tie as tie

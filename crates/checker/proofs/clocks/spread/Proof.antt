@@ -1,27 +1,27 @@
--- A copy of the hub is put into what a mark can tell, row by row; every object is told.
+-- A copy of the hub is put into what a mark can release to, row by row; every object is released to.
 use mathlib.Core.List.{List}
 use Prim.Native.Nat.{ℕ, _≤_, _-_}
 use native.Mathlib.Omega.{arith}
-use Rattle.theory.specs.Tables.{putRow, isTold, rowOrHub, spread}
-use Rattle.theory.proofs.Turns.{Turned, no-turn, one-turn, all-turns}
-use Rattle.theory.proofs.Marks.{told-at-object}
+use Rattle.theory.specs.tables.Rows.{putRow, isReleased, rowOrHub, spread}
+use Rattle.theory.proofs.basics.Turns.{Turned, no-turn, one-turn, all-turns}
+use Rattle.theory.proofs.tables.NamedRows.{released-at-object}
 use borrow.Author.Needs.{needs}
 use Rattle.checker.proofs.clocks.spread.Statement.{statement}
 use Rattle.checker.proofs.clocks.spread.Tie as tie
 
--- one turn: a copy of the hub for row q, if it is told
-abbrev told : ℕ → List ℕ → ℕ → List ℕ → List ℕ
-told mask hub q x = putRow 16 (rowOrHub (isTold mask q) q) hub x
+-- one turn: a copy of the hub for row q, if it is released to
+abbrev released : ℕ → List ℕ → ℕ → List ℕ → List ℕ
+released mask hub q x = putRow 16 (rowOrHub (isReleased mask q) q) hub x
 
 abbrev Inv-loop : tie.InvT-loop
-Inv-loop cells₀ mask hub r₀ cells r = (r ≤ 16) × Turned (told mask hub) cells₀ r cells
+Inv-loop cells₀ mask hub r₀ cells r = (r ≤ 16) × Turned (released mask hub) cells₀ r cells
 
 abbrev μ-loop : tie.MeasureT-loop
 μ-loop cells₀ mask hub r₀ cells r = 16 - r
 
 abbrev Inv-loop2 : tie.InvT-loop2
 Inv-loop2 cells₀ mask hub r₀ cells r =
-    (16 ≤ r) × (r ≤ 80) × ((b : List ℕ) → Turned (told mask hub) b r₀ cells₀ → Turned (told mask hub) b r cells)
+    (16 ≤ r) × (r ≤ 80) × ((b : List ℕ) → Turned (released mask hub) b r₀ cells₀ → Turned (released mask hub) b r cells)
 
 abbrev μ-loop2 : tie.MeasureT-loop2
 μ-loop2 cells₀ mask hub r₀ cells r = 80 - r
@@ -31,7 +31,7 @@ loop-holds c = (search needs, no-turn)
 
 loop-again : tie.Need-loop-again Inv-loop μ-loop Inv-loop2 μ-loop2
 loop-again c =
-    (search needs, one-turn (c .before .before .before .before .before .loop .inv .1) (rw (← c .before .before .told-by .ensures .0) (c .put-row .ensures)))
+    (search needs, one-turn (c .before .before .before .before .before .loop .inv .1) (rw (← c .before .before .released-by .ensures .0) (c .put-row .ensures)))
 
 loop2-holds : tie.Need-loop2-holds Inv-loop μ-loop Inv-loop2 μ-loop2
 loop2-holds c = (search needs, search needs, λ b t. t)
@@ -40,7 +40,7 @@ loop2-again : tie.Need-loop2-again Inv-loop μ-loop Inv-loop2 μ-loop2
 loop2-again c =
     let i = c .before .before .before .before .loop2 .inv in
     let mask = c .before .before .before .before .before .before .before .before .before .args .mask in
-    (search needs, search needs, λ b t. one-turn (i .2 b t) (rw (told-at-object mask _ (i .0)) (c .put-row2 .ensures)))
+    (search needs, search needs, λ b t. one-turn (i .2 b t) (rw (released-at-object mask _ (i .0)) (c .put-row2 .ensures)))
 
 returns : tie.Need-returns Inv-loop μ-loop Inv-loop2 μ-loop2
 unfolding spread

@@ -1,21 +1,32 @@
--- An access is put into its slot; any other record leaves the history as it was.
-use borrow.Author.Tests.{ltb-true}
-use mathlib.Core.Path.{sym, _∙_}
-use Rattle.theory.proofs.Ranges.{access-fits, access-acts}
+-- Kept under each kind in turn.
+use mathlib.Core.Bool.{cond}
+use Prim.Native.Nat.{_≤_, _-_}
+use native.Mathlib.Omega.{arith}
+use lib.ListN.{set, length}
+use Rattle.theory.specs.order.Recording.{kindAt}
+use Rattle.theory.specs.history.History.{askers, asker, clashBy, slot, underEach}
+use Rattle.theory.proofs.basics.Turns.{Turned, no-turn, one-turn, all-turns}
 use borrow.Author.Needs.{needs}
 use Rattle.checker.proofs.history.keep.Statement.{statement}
 use Rattle.checker.proofs.history.keep.Tie as tie
 
-slot-requires : tie.Need-slot-requires
-slot-requires c κs = let h = ltb-true _ _ (sym (c .before .is-access .ensures) ∙ c .if1 .taken) in let f = c .before .before .pre (access-acts _ h) in (h, access-fits f h, f .task-fits)
+abbrev Inv-loop : tie.InvT-loop
+Inv-loop last₀ kind task on number a₀ last a =
+    (a ≤ length askers) × Turned (λ a l. cond (clashBy (kindAt kind) (asker a)) (set l (slot a on task) number) l) last₀ a last
 
-returns : tie.Need-returns
-returns c = simp (sym (c .before .before .is-access .ensures) ∙ c .before .if1 .taken, c .slot .ensures .0)
+abbrev μ-loop : tie.MeasureT-loop
+μ-loop last₀ kind task on number a₀ last a = length askers - a
 
-returns-2 : tie.Need-returns-2
-returns-2 c = simp (sym (c .before .is-access .ensures) ∙ c .if1 .left)
+loop-holds : tie.Need-loop-holds Inv-loop μ-loop
+loop-holds c = (search needs, no-turn)
+
+loop-again : tie.Need-loop-again Inv-loop μ-loop
+loop-again c = (search needs, one-turn (c .before .before .before .loop .inv .1) (c .keep-under .ensures))
+
+returns : tie.Need-returns Inv-loop μ-loop
+unfolding underEach
+returns c = all-turns (length askers) (c .before .loop .inv .1) (omega arith) (omega arith)
 
 pub keep-spec : {M : Type 1} → statement M
 keep-spec =
-    tie.close (tie.spec
-    (λ c κs. search needs) slot-requires (λ c. search needs) (λ c. search needs) returns returns-2)
+    tie.close (tie.spec Inv-loop μ-loop loop-holds (λ c κs. search needs) (λ c. search needs) (λ c. search needs) loop-again returns)

@@ -1,13 +1,12 @@
 -- A verdict for an access, a number for another record.
-use borrow.Author.Tests.{ltb-true}
 use mathlib.Core.Path.{sym, _∙_}
-use Rattle.theory.proofs.Ranges.{access-fits, access-acts}
+use Rattle.theory.proofs.tables.Ranges.{access-proper}
 use borrow.Author.Needs.{needs}
 use Rattle.checker.proofs.masks.answered.Statement.{statement}
 use Rattle.checker.proofs.masks.answered.Tie as tie
 
 judged-requires : tie.Need-judged-requires
-judged-requires c κs = let h = ltb-true _ _ (sym (c .before .is-access .ensures) ∙ c .if1 .taken) in access-fits (c .before .before .pre (access-acts _ h)) h
+judged-requires c κs = access-proper (c .before .before .pre) (sym (c .before .is-access .ensures) ∙ c .if1 .taken) .1
 
 returns : tie.Need-returns
 returns c = simp (sym (c .before .before .is-access .ensures) ∙ c .before .if1 .taken) (c .judged .ensures)

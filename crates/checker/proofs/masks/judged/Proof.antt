@@ -1,6 +1,6 @@
 -- Race by the fullest mask, Doubt by the arrived one, else Clear.
 use borrow.Author.Tests.{eq-eqb, ne-eqb}
-use Rattle.theory.specs.Step.{judgedBy}
+use Rattle.theory.specs.feeding.Step.{judgedBy}
 use borrow.Author.Needs.{needs}
 use Rattle.checker.proofs.masks.judged.Statement.{statement}
 use Rattle.checker.proofs.masks.judged.Tie as tie

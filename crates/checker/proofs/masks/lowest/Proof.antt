@@ -1,7 +1,7 @@
 -- The count of zeros below the lowest bit.
 use mathlib.Core.Path.{refl}
 use native.Mathlib.Omega.{arith}
-use Rattle.theory.proofs.Bits.{trailing-lt}
+use Rattle.theory.proofs.tables.Bits.{trailing-lt}
 use Rattle.checker.proofs.masks.lowest.Statement.{statement}
 use Rattle.checker.proofs.masks.lowest.Tie as tie
 

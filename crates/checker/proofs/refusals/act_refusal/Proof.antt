@@ -1,12 +1,12 @@
 -- `checker::refusals::act_refusal`: each test passed by leaves the rows after it. Assumes nothing.
 use mathlib.Core.Path.{_≡_, sym, _∙_}
-use Prim.Native.Nat.{ℕ, _+_, _<_}
+use Prim.Native.Nat.{ℕ, _<_}
 use lib.ListN.{drop}
 use borrow.Author.Tests.{le-leb, lt-leb, leb-false, not-true, not-false}
-use Rattle.theory.specs.Recording.{seriesOf}
-use Rattle.theory.specs.Acceptance.{firstRow}
-use Rattle.theory.specs.Control.{liveIn, unseenIn, countIn, refusalIn}
-use Rattle.theory.proofs.Acceptance.{actRows, act-rows}
+use Rattle.theory.specs.order.Recording.{seriesOf}
+use Rattle.theory.specs.acceptance.Table.{firstRow}
+use Rattle.theory.specs.acceptance.Control.{standingIn, refusalIn}
+use Rattle.theory.proofs.acceptance.Rows.{actRows, act-rows}
 use borrow.Author.Needs.{needs}
 use Rattle.checker.proofs.refusals.act_refusal.Statement.{statement}
 use Rattle.checker.proofs.refusals.act_refusal.Tie as tie
@@ -15,10 +15,10 @@ use Rattle.checker.proofs.refusals.act_refusal.Tie as tie
 abbrev Past : ℕ → tie.Start → Type 0
 Past n c =
     let control = c .args .control .now in
-    refusalIn control (c .args .r) ≡ firstRow (n + 2) (drop n (actRows (liveIn control) (unseenIn control) (countIn control) (c .args .r)))
+    refusalIn control (c .args .r) ≡ firstRow (drop n (actRows (standingIn control) (c .args .r)))
 
 entered : (c : tie.Start) → Past 0 c
-entered c = let control = c .args .control .now in act-rows (liveIn control) (unseenIn control) (countIn control) (c .args .r) (c .pre)
+entered c = let control = c .args .control .now in act-rows (standingIn control) (c .args .r) (c .pre)
 
 past-1 : (c : tie.Else1) → Past 1 (c .before .before)
 past-1 c = entered (c .before .before) ∙ rw (lt-leb _ _ (c .if1 .left))

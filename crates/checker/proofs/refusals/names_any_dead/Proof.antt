@@ -3,9 +3,9 @@ use mathlib.Core.Bool.{false, not, _&&_, _||_}
 use Prim.Native.Nat.{_≤_, _-_}
 use native.Mathlib.Omega.{arith}
 use borrow.Author.Needs.{needs}
-use Rattle.theory.specs.Completion.{names}
-use Rattle.theory.specs.Control.{liveIn}
-use Rattle.theory.proofs.Turns.{Turned, no-turn, one-turn, all-turns}
+use Rattle.theory.specs.fillings.Completion.{names}
+use Rattle.theory.specs.acceptance.Control.{liveIn}
+use Rattle.theory.proofs.basics.Turns.{Turned, no-turn, one-turn, all-turns}
 use Rattle.checker.proofs.refusals.names_any_dead.Statement.{statement}
 use Rattle.checker.proofs.refusals.names_any_dead.Tie as tie
 

@@ -2,7 +2,8 @@
 use mathlib.Core.Path.{refl}
 use mathlib.Core.Logic.{⊎-elim}
 use native.Mathlib.Omega.{arith}
-use Rattle.theory.proofs.Acceptance.{series-pair, series-above, within, beyond}
+use Rattle.theory.proofs.acceptance.Rows.{series-pair, within, beyond}
+use Rattle.theory.proofs.order.Numbered.{series-above}
 use Rattle.checker.proofs.refusals.outside.Statement.{statement}
 use Rattle.checker.proofs.refusals.outside.Tie as tie
 

@@ -1,16 +1,17 @@
 -- The refusal is the number of the first row that applies.
-use borrow.Author.Tests.{lt-ltb}
-use native.Mathlib.Omega.{arith}
-use Rattle.theory.specs.Acceptance.{refusalBy}
+use borrow.Author.Tests.{le-leb}
+use lib.ListN.{length}
+use Rattle.theory.specs.order.Recording.{kinds}
+use Rattle.theory.specs.acceptance.Table.{refusalBy}
 use borrow.Author.Needs.{needs}
 use Rattle.checker.proofs.refusals.refusal.Statement.{statement}
 use Rattle.checker.proofs.refusals.refusal.Tie as tie
 
-returns-3 : tie.Need-returns-3
+returns : tie.Need-returns
 unfolding refusalBy
-returns-3 c = rw (lt-ltb 8 (c .before .before .args .r .kind) (omega (arith, c .before .match .rest .1, c .if1 .left)))
+returns c = rw (le-leb (length kinds) (c .before .before .args .r .kind) (c .if1 .taken))
 
 pub refusal-spec : {M : Type 1} → statement M
 refusal-spec =
     tie.close (tie.spec
-    (λ c κs. search needs) (λ c κs. search needs) (λ c. search needs) (λ c. search needs) returns-3)
+    returns (λ c κs. search needs) (λ c. search needs) (λ c κs. search needs) (λ c. search needs))

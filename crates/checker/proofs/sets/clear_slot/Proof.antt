@@ -4,15 +4,15 @@ use Prim.Native.Nat.{_≤_, _+_, _*_, _-_}
 use native.Mathlib.Omega.{arith}
 use lib.Bits.{bitAnd}
 use lib.ListN.{set}
-use Rattle.theory.specs.Tables.{cell}
-use Rattle.theory.specs.Reckonings.{clearSlot}
-use Rattle.theory.proofs.Turns.{Turned, no-turn, one-turn, all-turns}
+use Rattle.theory.specs.tables.Rows.{cell}
+use Rattle.theory.specs.tables.Reckonings.{slotWords, clearSlot}
+use Rattle.theory.proofs.basics.Turns.{Turned, no-turn, one-turn, all-turns}
 use borrow.Author.Needs.{needs}
 use Rattle.checker.proofs.sets.clear_slot.Statement.{statement}
 use Rattle.checker.proofs.sets.clear_slot.Tie as tie
 
 abbrev Inv-loop : tie.InvT-loop
-Inv-loop cells₀ s word others r₀ cells r = (r ≤ 81) × Turned (λ q b. set b (q * 64 + word) (bitAnd (cell 64 b q word) others)) cells₀ r cells
+Inv-loop cells₀ s word others r₀ cells r = (r ≤ 81) × Turned (λ q b. set b (q * slotWords + word) (bitAnd (cell slotWords b q word) others)) cells₀ r cells
 
 abbrev μ-loop : tie.MeasureT-loop
 μ-loop cells₀ s word others r₀ cells r = 81 - r

@@ -1,7 +1,7 @@
--- Three joins, one after the other; the last is one of a row with itself where no object is told.
-use borrow.Author.Tests.{lt-ltb, le-ltb}
-use Rattle.theory.specs.Tables.{flow}
-use Rattle.theory.proofs.Tables.{same-or, join-self}
+-- Three joins, one after the other; the last is one of a row with itself where no object is released to.
+use mathlib.Core.Path.{sym, _∙_}
+use Rattle.theory.specs.tables.Rows.{flow}
+use Rattle.theory.proofs.tables.Rows.{same-or, join-self}
 use borrow.Author.Needs.{needs}
 use Rattle.checker.proofs.sets.flow.Statement.{statement}
 use Rattle.checker.proofs.sets.flow.Tie as tie
@@ -9,15 +9,18 @@ use Rattle.checker.proofs.sets.flow.Tie as tie
 returns : tie.Need-returns
 unfolding flow
 returns c =
-    rw (lt-ltb _ _ (c .if1 .taken), ← c .before .before .before .join-row .ensures, ← c .before .join-row2 .ensures) (join-self same-or 64 _ _)
+    let at-join2 = c .before .before in
+    rw (sym (c .before .either .ensures) ∙ c .if1 .taken, ← at-join2 .before .before .join-row .ensures, ← at-join2 .join-row2 .ensures) (join-self same-or 64 _ _)
 
 returns-2 : tie.Need-returns-2
 unfolding flow
 returns-2 c =
-    let r = c .before .before .before in
-    rw (le-ltb _ _ (c .before .before .if1 .left), ← r .before .before .join-row .ensures, ← r .join-row2 .ensures) (c .join-row3 .ensures)
+    let at-if1 = c .before .before in
+    let at-join2 = at-if1 .before .before in
+    rw (sym (at-if1 .before .either .ensures) ∙ at-if1 .if1 .left, ← at-join2 .before .before .join-row .ensures, ← at-join2 .join-row2 .ensures)
+    (c .join-row3 .ensures)
 
 pub flow-spec : {M : Type 1} → statement M
 flow-spec =
     tie.close (tie.spec
-    (λ c κs. search needs) (λ c κs. search needs) returns (λ c κs. search needs) returns-2)
+    (λ c κs. search needs) (λ c κs. search needs) (λ c κs. search needs) returns (λ c κs. search needs) returns-2)

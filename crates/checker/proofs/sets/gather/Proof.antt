@@ -2,15 +2,16 @@
 use Prim.Native.Nat.{_≤_, _-_}
 use native.Mathlib.Omega.{arith}
 use lib.Bits.{bitOr}
-use Rattle.theory.specs.Completion.{bit}
-use Rattle.theory.specs.Tables.{joinRow, rowOrHub, gather}
-use Rattle.theory.proofs.Turns.{Turned, no-turn, one-turn, all-turns}
+use Rattle.theory.specs.fillings.Completion.{bit}
+use Rattle.theory.specs.tables.Rows.{joinRow, rowOrHub, gather}
+use Rattle.theory.proofs.basics.Turns.{Turned, no-turn, one-turn, all-turns}
+use Rattle.theory.specs.tables.Reckonings.{slotWords}
 use borrow.Author.Needs.{needs}
 use Rattle.checker.proofs.sets.gather.Statement.{statement}
 use Rattle.checker.proofs.sets.gather.Tie as tie
 
 abbrev Inv-loop : tie.InvT-loop
-Inv-loop cells₀ mask t₀ cells t = (t ≤ 16) × Turned (λ q b. joinRow bitOr 64 80 (rowOrHub (bit mask q) q) b) cells₀ t cells
+Inv-loop cells₀ mask t₀ cells t = (t ≤ 16) × Turned (λ q b. joinRow bitOr slotWords 80 (rowOrHub (bit mask q) q) b) cells₀ t cells
 
 abbrev μ-loop : tie.MeasureT-loop
 μ-loop cells₀ mask t₀ cells t = 16 - t

@@ -3,21 +3,22 @@ use mathlib.Core.Path.{refl}
 use Prim.Native.Nat.{_≤_, _-_}
 use native.Mathlib.Omega.{arith}
 use lib.Bits.{bitOr}
-use Rattle.theory.specs.Tables.{joinCell, joinRow}
-use Rattle.theory.proofs.Turns.{Turned, no-turn, one-turn, all-turns}
-use Rattle.theory.proofs.Tables.{same-or, join-self}
+use Rattle.theory.specs.tables.Rows.{joinCell, joinRow}
+use Rattle.theory.proofs.basics.Turns.{Turned, no-turn, one-turn, all-turns}
+use Rattle.theory.proofs.tables.Rows.{same-or, join-self}
+use Rattle.theory.specs.tables.Reckonings.{slotWords}
 use borrow.Author.Needs.{needs}
 use Rattle.checker.proofs.sets.join_row.Statement.{statement}
 use Rattle.checker.proofs.sets.join_row.Tie as tie
 
 abbrev Inv-loop : tie.InvT-loop
-Inv-loop cells₀ to from c₀ cells c = (c ≤ 64) × Turned (joinCell bitOr 64 to from) cells₀ c cells
+Inv-loop cells₀ to from c₀ cells c = (c ≤ slotWords) × Turned (joinCell bitOr slotWords to from) cells₀ c cells
 
 abbrev μ-loop : tie.MeasureT-loop
-μ-loop cells₀ to from c₀ cells c = 64 - c
+μ-loop cells₀ to from c₀ cells c = slotWords - c
 
 returns : tie.Need-returns Inv-loop μ-loop
-returns c = rw (← c .if1 .taken) (join-self same-or 64 _ _)
+returns c = rw (← c .if1 .taken) (join-self same-or slotWords _ _)
 
 loop-holds : tie.Need-loop-holds Inv-loop μ-loop
 loop-holds c = (search needs, no-turn)
@@ -27,7 +28,7 @@ loop-again c = (search needs, one-turn (c .before .before .before .loop .inv .1)
 
 returns-2 : tie.Need-returns-2 Inv-loop μ-loop
 unfolding joinRow
-returns-2 c = all-turns 64 (c .before .loop .inv .1) (omega arith) (omega arith)
+returns-2 c = all-turns slotWords (c .before .loop .inv .1) (omega arith) (omega arith)
 
 pub join-row-spec : {M : Type 1} → statement M
 join-row-spec =

@@ -3,17 +3,18 @@ use mathlib.Core.Path.{refl}
 use Prim.Native.Nat.{_≤_, _-_}
 use native.Mathlib.Omega.{arith}
 use lib.Bits.{bitOr}
-use Rattle.theory.specs.Tables.{joinWithCell, joinWith}
-use Rattle.theory.proofs.Turns.{Turned, no-turn, one-turn, all-turns}
+use Rattle.theory.specs.tables.Rows.{joinWithCell, joinWith}
+use Rattle.theory.proofs.basics.Turns.{Turned, no-turn, one-turn, all-turns}
+use Rattle.theory.specs.tables.Reckonings.{slotWords}
 use borrow.Author.Needs.{needs}
 use Rattle.checker.proofs.sets.join_with.Statement.{statement}
 use Rattle.checker.proofs.sets.join_with.Tie as tie
 
 abbrev Inv-loop : tie.InvT-loop
-Inv-loop cells₀ to row c₀ cells c = (c ≤ 64) × Turned (joinWithCell bitOr 64 to row) cells₀ c cells
+Inv-loop cells₀ to row c₀ cells c = (c ≤ slotWords) × Turned (joinWithCell bitOr slotWords to row) cells₀ c cells
 
 abbrev μ-loop : tie.MeasureT-loop
-μ-loop cells₀ to row c₀ cells c = 64 - c
+μ-loop cells₀ to row c₀ cells c = slotWords - c
 
 loop-holds : tie.Need-loop-holds Inv-loop μ-loop
 loop-holds c = (search needs, no-turn)
@@ -23,7 +24,7 @@ loop-again c = (search needs, one-turn (c .before .before .before .loop .inv .1)
 
 returns : tie.Need-returns Inv-loop μ-loop
 unfolding joinWith
-returns c = all-turns 64 (c .before .loop .inv .1) (omega arith) (omega arith)
+returns c = all-turns slotWords (c .before .loop .inv .1) (omega arith) (omega arith)
 
 pub join-with-spec : {M : Type 1} → statement M
 join-with-spec =

@@ -1,17 +1,18 @@
 -- The tasks that the mask names have acted, task by task.
-use Prim.Native.Nat.{_≤_, _+_, _-_}
+use Prim.Native.Nat.{_≤_, _+_, _-_, _*_}
 use native.Mathlib.Omega.{arith}
 use mathlib.Core.Bool.{cond}
 use lib.ListN.{set}
-use Rattle.theory.specs.Completion.{bit}
-use Rattle.theory.specs.Tables.{cell, noteNamed}
-use Rattle.theory.proofs.Turns.{Turned, no-turn, one-turn, all-turns}
+use Rattle.theory.specs.fillings.Completion.{bit}
+use Rattle.theory.specs.tables.Rows.{cell, noteNamed}
+use Rattle.theory.proofs.basics.Turns.{Turned, no-turn, one-turn, all-turns}
+use Rattle.theory.specs.tables.Reckonings.{slotWords}
 use borrow.Author.Needs.{needs}
 use Rattle.checker.proofs.sets.note_named.Statement.{statement}
 use Rattle.checker.proofs.sets.note_named.Tie as tie
 
 abbrev Inv-loop : tie.InvT-loop
-Inv-loop cells₀ mask t₀ cells t = (t ≤ 16) × Turned (λ q b. set b (5184 + q) (cond (bit mask q) 1 (cell 64 b 81 q))) cells₀ t cells
+Inv-loop cells₀ mask t₀ cells t = (t ≤ 16) × Turned (λ q b. set b (81 * slotWords + q) (cond (bit mask q) 1 (cell slotWords b 81 q))) cells₀ t cells
 
 abbrev μ-loop : tie.MeasureT-loop
 μ-loop cells₀ mask t₀ cells t = 16 - t

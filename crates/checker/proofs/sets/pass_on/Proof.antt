@@ -1,8 +1,8 @@
--- The rows that an act hears and tells are in the table, and order flows over them.
+-- The rows that an act acquires and releases to are in the table, and order flows over them.
 use mathlib.Core.Path.{sym, _∙_, subst}
 use Prim.Native.Nat.{ℕ, _<_}
-use Rattle.theory.specs.Recording.{seriesOf}
-use Rattle.theory.proofs.Ranges.{heard-fits, told-fits, row-fits, joins-kind}
+use Rattle.theory.specs.order.Recording.{seriesOf}
+use Rattle.theory.proofs.tables.Ranges.{acquired-fits, released-fits, row-fits, joins-kind}
 use borrow.Author.Needs.{needs}
 use Rattle.checker.proofs.sets.pass_on.Statement.{statement}
 use Rattle.checker.proofs.sets.pass_on.Tie as tie
@@ -15,15 +15,15 @@ flow-requires c κs =
     let s = c .before .before .before in
     let f = s .before .before .pre in
     let a = s .before .before .args in (
-      row-fits (c .before .heard-row .ensures) (heard-fits f (λ e. joins-kind 64 (a .cells .now) (a .kind) (a .on) (sym (s .joins-acted .ensures) ∙ e))),
-      row-fits (c .told-row .ensures) (told-fits f),
+      row-fits (c .before .acquired-row .ensures) (acquired-fits f (λ e. joins-kind 64 (a .cells .now) (a .kind) (a .on) (sym (s .joins-acted .ensures) ∙ e))),
+      row-fits (c .released-row .ensures) (released-fits f),
       f .task-fits,
     )
 
 returns : tie.Need-returns
 returns c =
     let h = c .before .before in
-    rw (← h .before .before .joins-acted .ensures, ← h .heard-row .ensures, ← c .before .told-row .ensures) (c .flow .ensures)
+    rw (← h .before .before .joins-acted .ensures, ← h .acquired-row .ensures, ← c .before .released-row .ensures) (c .flow .ensures)
 
 pub pass-on-spec : {M : Type 1} → statement M
 pass-on-spec =

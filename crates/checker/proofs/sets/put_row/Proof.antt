@@ -3,17 +3,18 @@ use mathlib.Core.Path.{refl}
 use Prim.Native.Nat.{_≤_, _-_, _+_, _*_}
 use native.Mathlib.Omega.{arith}
 use lib.ListN.{set, getD}
-use Rattle.theory.specs.Tables.{putRow}
-use Rattle.theory.proofs.Turns.{Turned, no-turn, one-turn, all-turns}
+use Rattle.theory.specs.tables.Rows.{putRow}
+use Rattle.theory.proofs.basics.Turns.{Turned, no-turn, one-turn, all-turns}
+use Rattle.theory.specs.tables.Reckonings.{slotWords}
 use borrow.Author.Needs.{needs}
 use Rattle.checker.proofs.sets.put_row.Statement.{statement}
 use Rattle.checker.proofs.sets.put_row.Tie as tie
 
 abbrev Inv-loop : tie.InvT-loop
-Inv-loop cells₀ to row c₀ cells c = (c ≤ 64) × Turned (λ k x. set x (to * 64 + k) (getD row k 0)) cells₀ c cells
+Inv-loop cells₀ to row c₀ cells c = (c ≤ slotWords) × Turned (λ k x. set x (to * slotWords + k) (getD row k 0)) cells₀ c cells
 
 abbrev μ-loop : tie.MeasureT-loop
-μ-loop cells₀ to row c₀ cells c = 64 - c
+μ-loop cells₀ to row c₀ cells c = slotWords - c
 
 loop-holds : tie.Need-loop-holds Inv-loop μ-loop
 loop-holds c = (search needs, no-turn)
@@ -23,7 +24,7 @@ loop-again c = (search needs, one-turn (c .before .before .loop .inv .1) refl)
 
 returns : tie.Need-returns Inv-loop μ-loop
 unfolding putRow
-returns c = all-turns 64 (c .before .loop .inv .1) (omega arith) (omega arith)
+returns c = all-turns slotWords (c .before .loop .inv .1) (omega arith) (omega arith)
 
 pub put-row-spec : {M : Type 1} → statement M
 put-row-spec =

@@ -1,14 +1,14 @@
--- A copy of the hub is put into what a mark can tell, row by row.
+-- A copy of the hub is put into what a mark can release to, row by row.
 use Prim.Native.Nat.{_≤_, _-_}
 use native.Mathlib.Omega.{arith}
-use Rattle.theory.specs.Tables.{putRow, isTold, rowOrHub, spread}
-use Rattle.theory.proofs.Turns.{Turned, no-turn, one-turn, all-turns}
+use Rattle.theory.specs.tables.Rows.{putRow, isReleased, rowOrHub, spread}
+use Rattle.theory.proofs.basics.Turns.{Turned, no-turn, one-turn, all-turns}
 use borrow.Author.Needs.{needs}
 use Rattle.checker.proofs.sets.spread.Statement.{statement}
 use Rattle.checker.proofs.sets.spread.Tie as tie
 
 abbrev Inv-loop : tie.InvT-loop
-Inv-loop cells₀ mask hub r₀ cells r = (r ≤ 80) × Turned (λ q x. putRow 64 (rowOrHub (isTold mask q) q) hub x) cells₀ r cells
+Inv-loop cells₀ mask hub r₀ cells r = (r ≤ 80) × Turned (λ q x. putRow 64 (rowOrHub (isReleased mask q) q) hub x) cells₀ r cells
 
 abbrev μ-loop : tie.MeasureT-loop
 μ-loop cells₀ mask hub r₀ cells r = 80 - r
@@ -18,7 +18,7 @@ loop-holds c = (search needs, no-turn)
 
 loop-again : tie.Need-loop-again Inv-loop μ-loop
 loop-again c =
-    (search needs, one-turn (c .before .before .before .before .before .loop .inv .1) (rw (← c .before .before .told-by .ensures .0) (c .put-row .ensures)))
+    (search needs, one-turn (c .before .before .before .before .before .loop .inv .1) (rw (← c .before .before .released-by .ensures .0) (c .put-row .ensures)))
 
 returns : tie.Need-returns Inv-loop μ-loop
 unfolding spread

@@ -1,5 +1,5 @@
 -- Tables of zeros, and task 0 live.
-use Rattle.theory.specs.Step.{freshState}
+use Rattle.theory.specs.feeding.Step.{freshState}
 use borrow.Author.Needs.{needs}
 use Rattle.checker.proofs.state.begin.Statement.{statement}
 use Rattle.checker.proofs.state.begin.Tie as tie

@@ -1,5 +1,5 @@
 -- Tables of zeros, and task 0 live.
-use Rattle.theory.specs.Step.{freshSets}
+use Rattle.theory.specs.feeding.Step.{freshSets}
 use borrow.Author.Needs.{needs}
 use Rattle.checker.proofs.state.fresh_sets.Statement.{statement}
 use Rattle.checker.proofs.state.fresh_sets.Tie as tie

@@ -1,7 +1,7 @@
 -- The step's equation in two parts, the answer as numbers.
 use mathlib.Core.Path.{_∙_, ap}
 use Rattle.theory.specs.declared.state.SetStepped.{SetStepped}
-use Rattle.theory.specs.Step.{answerNumbers}
+use Rattle.theory.specs.feeding.Step.{answerNumbers}
 use borrow.Author.Needs.{needs}
 use Rattle.host.proofs.feeding.order_sets_feed.Statement.{statement}
 use Rattle.host.proofs.feeding.order_sets_feed.Tie as tie

@@ -4,7 +4,7 @@ use mathlib.Core.List.{[]}
 use Prim.Native.Nat.{_≤_, _+_, _-_}
 use native.Mathlib.Omega.{arith}
 use lib.ListN.{length, drop}
-use Rattle.theory.specs.Step.{stateOf}
+use Rattle.theory.specs.feeding.Lent.{stateOf}
 use Rattle.text.specs.Pieces.{kept, saidIn, afterPiece}
 use Rattle.text.proofs.RoundTrip.{only-sayable}
 use Rattle.text.proofs.Wrote.{as-long}
@@ -52,10 +52,20 @@ loop-again c =
     let at-loop-test = at-next-parsed .before .before in
     let at-loop = at-loop-test .before in
     let at-rest-start = at-loop .before in
-    let e = ends-before _ _ _ (at-loop-test .loop-test .taken) (at-rest-start .rest-start .ensures .0) (at-rest-start .rest-start .ensures .2) in let m = moved _ _ e (at-next-parsed .next-parsed .ensures .1) in (m .1, omega (arith, m .0, m .1, at-loop .loop .inv .1), as-long (c .before .before .put-parsed .ensures .0 .1) ∙ at-loop .loop .inv .2, left-taken (at-loop .loop .inv .3) e (at-next-parsed .next-parsed .ensures .0) (at-next-parsed .next-parsed .ensures .1) (c .before .before .put-parsed .ensures .0 .1) (c .before .before .put-parsed .ensures .0 .0) (c .before .before .put-parsed .ensures .1))
+    let e = ends-before _ _ _ (at-loop-test .loop-test .taken) (at-rest-start .rest-start .ensures .0) (at-rest-start .rest-start .ensures .2) in
+    let m = moved _ _ e (at-next-parsed .next-parsed .ensures .1) in
+    let p = c .before .before .put-parsed .ensures in (
+      m .1,
+      omega (arith, m .0, m .1, at-loop .loop .inv .1),
+      as-long (p .wrote) ∙ at-loop .loop .inv .2,
+      left-taken (at-loop .loop .inv .3) e (at-next-parsed .next-parsed .ensures .0) (at-next-parsed .next-parsed .ensures .1) p,
+    )
 
 returns : tie.Need-returns Inv-loop μ-loop
-returns c = let w = past-last _ _ _ (c .loop-test .left) (c .before .before .rest-start .ensures .1) in (left-said (c .before .loop .inv .3) w, (c .before .loop .inv .0, c .before .loop .inv .3 .room, left-kept (c .before .loop .inv .3) w))
+returns c =
+    let w = past-last _ _ _ (c .loop-test .left) (c .before .before .rest-start .ensures .1) in
+    let i = c .before .loop .inv in
+    record { wrote = left-said (i .3) w; within = i .0; room = i .3 .room; keeps = left-kept (i .3) w }
 
 pub put-lines-spec : {M : Type 1} → statement M
 put-lines-spec =

@@ -7,7 +7,10 @@ use Rattle.report.proofs.answering.put_parsed.Statement.{statement}
 use Rattle.report.proofs.answering.put_parsed.Tie as tie
 
 returns : tie.Need-returns
-returns c = let e = c .before .before .before .before .enum-told .given .1 in ((c .before .before .put-refused .ensures .1, rw e (c .before .before .put-refused .ensures .0)), rw e)
+returns c =
+    let e = c .before .before .before .before .enum-told .given .1 in
+    let p = c .before .before .put-refused .ensures in
+    record { room = p .1; wrote = rw e (p .0); fed = rw e }
 
 put-answer-requires : tie.Need-put-answer-requires
 put-answer-requires c κs =
@@ -19,7 +22,8 @@ returns-2 : tie.Need-returns-2
 returns-2 c =
     let e = c .before .before .before .before .before .before .before .before .before .before .parsed .given .1 in
     let f = c .before .before .before .before .step-in-place .ensures in
-    ((c .before .before .put-answer .ensures .1, rw (e, ← ap (λ (x : Stepped). x .answer) f) (c .before .before .put-answer .ensures .0)), rw e (ap (λ (x : Stepped). x .state) f))
+    let p = c .before .before .put-answer .ensures in
+    record { room = p .1; wrote = rw (e, ← ap (λ (x : Stepped). x .answer) f) (p .0); fed = rw e (ap (λ (x : Stepped). x .state) f) }
 
 pub put-parsed-spec : {M : Type 1} → statement M
 put-parsed-spec =

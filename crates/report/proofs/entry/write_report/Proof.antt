@@ -13,17 +13,17 @@ use Rattle.report.proofs.entry.write_report.Tie as tie
 put-rest-requires : tie.Need-put-rest-requires
 put-rest-requires c κs =
     let p = c .before .before .before .before .before .before .before .before .before .put-piece .ensures in
-    let l = lines-after _ _ _ (p .0 .0) in
-    (held-within _ _ _ (p .0 .0) _ (p .1 .0 .1) (omega arith) (omega arith), p .1 .1 refl, search needs)
+    let l = lines-after _ _ _ (p .0 .progress) in
+    (held-within _ _ _ (p .0 .progress) _ (p .0 .holds) (omega arith) (omega arith), p .1 refl, search needs)
 
 returns : tie.Need-returns
 returns c =
     let at-put-piece = c .before .before .before .before .before .before .before .before .before .before .before .before in
     let at-begin = at-put-piece .before .before .before .before .before .before .before in
-    let p = at-put-piece .put-piece .ensures in
-    text-said _ (record { place = ap (λ (x : Progress). x .at) (p .0 .0); memory = p .0 .1 })
-    (kept-after _ _ _ (p .0 .0) _ (p .1 .0 .1) (omega arith) (omega arith) (p .1 .0 .0))
-    (c .before .before .put-rest .ensures .0)
+    let p = at-put-piece .put-piece .ensures .0 in
+    text-said _ (record { place = ap (λ (x : Progress). x .at) (p .progress); memory = p .wrote })
+    (kept-after _ _ _ (p .progress) _ (p .holds) (omega arith) (omega arith) (p .fed))
+    (c .before .before .put-rest .ensures .wrote)
     (ap (λ (x : State). kept x 0 []) (at-begin .begin .ensures))
 
 pub write-report-spec : {M : Type 1} → statement M

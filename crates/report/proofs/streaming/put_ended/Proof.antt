@@ -2,7 +2,7 @@
 use native.Mathlib.Omega.{arith}
 use Rattle.text.proofs.Wrote.{as-long}
 use Rattle.text.proofs.Lines.{lines-at}
-use Rattle.text.proofs.Held.{counted, some-lines, piece-said, piece-kept, short-held}
+use Rattle.text.proofs.Held.{counted, some-lines, lines-answered, short-held}
 use borrow.Author.Needs.{needs}
 use Rattle.report.proofs.streaming.put_ended.Statement.{statement}
 use Rattle.report.proofs.streaming.put_ended.Tie as tie
@@ -10,31 +10,28 @@ use Rattle.report.proofs.streaming.put_ended.Tie as tie
 slice-aggregate-put-first : tie.Need-slice-aggregate-put-first
 slice-aggregate-put-first c =
     let b = c .before .before .before .before .before .before in
-    counted _ _ (omega (arith, b .pre .5))
+    counted _ _ (omega (arith, b .pre .2))
 
 put-first-requires : tie.Need-put-first-requires
 put-first-requires c κs =
     let b = c .before .before .before .before .before .before .before .before .before .before in
-    let l = some-lines (b .args .piece .now) (omega (arith, b .pre .5)) in
-    (omega (arith, l, b .pre .0), b .pre .1, b .pre .2)
+    let l = some-lines (b .args .piece .now) (omega (arith, b .pre .2)) in
+    (omega (arith, l, b .pre .0 .room), b .pre .0 .short, b .pre .0 .holds)
 
 put-lines-requires : tie.Need-put-lines-requires
 put-lines-requires c κs =
     let f = c .before .before .before .before .before .before .before in
     let b = f .before .before .before .before .before .before .before .before .before .before .before in
-    let l = lines-at (b .args .piece .now) 0 _ (omega (arith, b .pre .5)) (b .pre .4) in
-    let w = f .put-first .ensures .0 in
-    (omega (arith, b .pre .5), omega (arith, l, b .pre .0, w .0, as-long (w .1)), omega (arith, b .pre .3, b .pre .5))
+    let l = lines-at (b .args .piece .now) 0 _ (omega (arith, b .pre .2)) (b .pre .1) in
+    let w = f .put-first .ensures in
+    (omega (arith, b .pre .2), omega (arith, l, b .pre .0 .room, w .room, as-long (w .wrote)), omega (arith, b .pre .0 .counted, b .pre .2))
 
 returns : tie.Need-returns
 returns c =
     let p = c .before .before in
     let f = p .before .before .before .before .before .before .before .before in
     let b = f .before .before .before .before .before .before .before .before .before .before .before in
-    let h = short-held _ (b .pre .1) in (
-      piece-said _ _ _ _ _ h (b .pre .4) (b .pre .5) (f .put-first .ensures .0 .1) (f .put-first .ensures .1) (p .put-lines .ensures .0),
-      (p .put-lines .ensures .1 .0, p .put-lines .ensures .1 .1, piece-kept _ _ _ _ _ h (b .pre .4) (b .pre .5) (f .put-first .ensures .1) (p .put-lines .ensures .1 .2)),
-    )
+    lines-answered _ _ _ _ _ (short-held _ (b .pre .0 .short)) (b .pre .1) (b .pre .2) (f .put-first .ensures) (p .put-lines .ensures)
 
 pub put-ended-spec : {M : Type 1} → statement M
 put-ended-spec =

@@ -40,7 +40,7 @@ returns c =
     let at-hold = c .before .before .before .before .before .before .before .before .before .before in
     let at-put-bytes = at-hold .before .before .before in
     let at-start = at-put-bytes .before .before .before .before .before .before in
-    let l = line-joined _ _ _ (at-start .pre .1) (at-start .pre .2) (omega arith) (at-put-bytes .put-bytes .ensures) (at-hold .hold .ensures .0) (at-hold .hold .ensures .1) in ((c .before .before .put-line .ensures .0 .0, rw (sym l) (c .before .before .put-line .ensures .0 .1)), rw (sym l) (c .before .before .put-line .ensures .1))
+    let l = line-joined _ _ _ (at-start .pre .1) (at-start .pre .2) (omega arith) (at-put-bytes .put-bytes .ensures) (at-hold .hold .ensures .0) (at-hold .hold .ensures .1) in rw (sym l) (c .before .before .put-line .ensures)
 
 pub put-first-spec : {M : Type 1} → statement M
 put-first-spec =

@@ -14,8 +14,10 @@ returns c =
     let h = c .before .before in
     let i = h .before .before in
     let b = i .before .before .before .before .before in
-    let (p, q) = piece-held _ _ _ _ (short-held _ (b .pre .1)) (rest-without _ 0 _ (i .before .line-end .ensures .0) (i .if1 .taken)) in
-    ((progress-said _ _ _ q (h .hold .ensures .0) (rw p (omega arith)), rw p), ((rw q, rw q (h .hold .ensures .1)), λ z g. room-held _ _ _ z (h .hold .ensures .0) g (b .pre .0)))
+    let (p, q) = piece-held _ _ _ _ (short-held _ (b .pre .short)) (rest-without _ 0 _ (i .before .line-end .ensures .0) (i .if1 .taken)) in (
+      record { progress = progress-said _ _ _ q (h .hold .ensures .0) (rw p (omega arith)); wrote = rw p; fed = rw q; holds = rw q (h .hold .ensures .1) },
+      λ z g. room-held _ _ _ z (h .hold .ensures .0) g (b .pre .room),
+    )
 
 returns-2 : tie.Need-returns-2
 returns-2 c =
@@ -23,11 +25,15 @@ returns-2 c =
     let p = h .before .before .before .before .before in
     let b = p .before .before .before .before .before .before .before .before .before .before .before .before in
     let held = b .args .held .now in
-    let w = p .put-ended .ensures .0 in
-    let (_, room, k) = p .put-ended .ensures .1 in
+    let a = p .put-ended .ensures in
     let (n, m) = held-rest held (b .args .piece .now) (p .put-ended .result .from) (h .hold2 .ensures) in (
-      (progress-said _ _ _ (sym k) n (w .place), w .memory),
-      ((ap (λ (x : Kept). x .state) k, m ∙ ap (λ (x : Kept). sets held 0 (x .held)) k), λ z g. room-held held _ _ refl n g room),
+      record {
+        progress = progress-said _ _ _ (sym (a .keeps)) n (a .wrote .place);
+        wrote = a .wrote .memory;
+        fed = ap (λ (x : Kept). x .state) (a .keeps);
+        holds = m ∙ ap (λ (x : Kept). sets held 0 (x .held)) (a .keeps);
+      },
+      λ z g. room-held held _ _ refl n g (a .room),
     )
 
 pub put-piece-spec : {M : Type 1} → statement M

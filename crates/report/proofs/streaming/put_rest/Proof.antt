@@ -6,7 +6,9 @@ use Rattle.report.proofs.streaming.put_rest.Statement.{statement}
 use Rattle.report.proofs.streaming.put_rest.Tie as tie
 
 returns : tie.Need-returns
-returns c = nothing-held _ (c .before .before .before .args .begun) (c .before .before .before .args .held .now) _ (c .if1 .taken)
+returns c =
+    let at-start = c .before .before .before in
+    nothing-held _ (at-start .args .begun) (at-start .args .held .now) _ (c .if1 .taken)
 
 slice-aggregate-put-line : tie.Need-slice-aggregate-put-line
 slice-aggregate-put-line c = counted _ _ (c .before .before .before .before .before .before .pre .0)
@@ -21,7 +23,7 @@ returns-2 : tie.Need-returns-2
 returns-2 c =
     let at-if1 = c .before .before .before .before .before .before .before .before .before .before in
     let at-start = at-if1 .before .before .before in
-    line-held _ (at-start .args .begun) (at-start .args .held .now) _ (at-start .pre .0) (at-if1 .if1 .left) (c .before .before .put-line .ensures .0 .1) (c .before .before .put-line .ensures .1)
+    line-held _ (at-start .args .begun) (at-start .args .held .now) _ (at-start .pre .0) (at-if1 .if1 .left) (c .before .before .put-line .ensures)
 
 pub put-rest-spec : {M : Type 1} → statement M
 put-rest-spec =

@@ -1,92 +1,59 @@
--- `report::words::place`: each test passed by leaves the words after it. Assumes nothing.
-use mathlib.Core.Path.{_≡_, sym, _∙_}
-use Prim.Native.Nat.{ℕ, _+_}
+-- `report::words::place`: the words before a place are passed. Assumes nothing.
+use mathlib.Core.Path.{_≡_, sym, ap, _∙_}
+use mathlib.Core.List.{List}
+use Prim.Native.Nat.{ℕ, _+_, _-_, _≤_}
 use native.Mathlib.Omega.{arith}
-use lib.ListN.{drop}
+use lib.ListN.{length, drop}
 use borrow.Author.Needs.{needs}
+use Rattle.text.specs.Bytes.{isWord}
 use Rattle.text.specs.LineForm.{words, placeOf}
-use Rattle.text.proofs.LineForm.{past-word, at-word, no-words}
+use Rattle.text.proofs.LineForm.{word-passed, word-found, words-ended}
+use Rattle.text.proofs.Ops.{opening-room, opening-word}
 use Rattle.report.proofs.words.place.Statement.{statement}
 use Rattle.report.proofs.words.place.Tie as tie
 
--- the part is none of the first n words
-abbrev Past : ℕ → tie.Start → Type 0
-Past n c = placeOf words (c .args .s .now) ≡ n + placeOf (drop n words) (c .args .s .now)
+-- the part is none of the words before place k
+abbrev Inv-loop : tie.InvT-loop
+Inv-loop s openings k₀ k = (k ≤ length words) × (placeOf words s ≡ k + placeOf (drop k words) s)
 
-entered : (c : tie.Start) → Past 0 c
-entered c = omega arith
+abbrev μ-loop : tie.MeasureT-loop
+μ-loop s openings k₀ k = length words - k
 
-past-1 : (c : tie.Else1) → Past 1 (c .before .before .before .before)
-past-1 c =
-    past-word 0 _ _ _ (entered (c .before .before .before .before)) (sym (c .before .is-word .ensures) ∙ c .if1 .left)
+loop-holds : tie.Need-loop-holds Inv-loop μ-loop
+loop-holds c = (omega arith, omega arith)
 
-past-2 : (c : tie.Else2) → Past 2 (c .before .before .before .before .before .before .before)
-past-2 c =
-    past-word 1 _ _ _ (past-1 (c .before .before .before)) (sym (c .before .is-word2 .ensures) ∙ c .if2 .left)
+part-is-word-end : tie.Need-part-is-word-end Inv-loop μ-loop
+part-is-word-end c = omega (arith, opening-room (c .before .before .before .before .before .loop .k) (search needs))
 
-past-3 : (c : tie.Else3) → Past 3 (c .before .before .before .before .before .before .before .before .before .before)
-past-3 c =
-    past-word 2 _ _ _ (past-2 (c .before .before .before)) (sym (c .before .is-word3 .ensures) ∙ c .if3 .left)
+returns : tie.Need-returns Inv-loop μ-loop
+returns c =
+    let at-op-bytes = c .before .before .before .before in
+    let at-loop = at-op-bytes .before .before .before .before in
+    let k : ℕ = at-loop .loop .k in
+    let s : List ℕ = at-loop .before .before .args .s .now in
+    word-found words s k (at-loop .loop .inv .1) (omega arith)
+    (ap (λ (w : List ℕ). isWord w s) (sym (opening-word k (omega arith) (at-op-bytes .op-bytes .result) (at-op-bytes .op-bytes .ensures .0))) ∙ sym (c .before .is-word .ensures) ∙ c .if1 .taken)
 
-past-4 : (c : tie.Else4) → Past 4 (c .before .before .before .before .before .before .before .before .before .before .before .before .before)
-past-4 c =
-    past-word 3 _ _ _ (past-3 (c .before .before .before)) (sym (c .before .is-word4 .ensures) ∙ c .if4 .left)
+loop-again : tie.Need-loop-again Inv-loop μ-loop
+loop-again c =
+    let at-op-bytes = c .before .before .before .before in
+    let at-loop = at-op-bytes .before .before .before .before in
+    let k : ℕ = at-loop .loop .k in
+    let s : List ℕ = at-loop .before .before .args .s .now in (
+      omega arith,
+      word-passed words s k (at-loop .loop .inv .1) (omega arith)
+          (ap (λ (w : List ℕ). isWord w s) (sym (opening-word k (omega arith) (at-op-bytes .op-bytes .result) (at-op-bytes .op-bytes .ensures .0))) ∙ sym (c .before .is-word .ensures) ∙ c .if1 .left),
+    )
 
-past-5 : (c : tie.Else5) → Past 5 (c .before .before .before .before .before .before .before .before .before .before .before .before .before .before .before .before)
-past-5 c =
-    past-word 4 _ _ _ (past-4 (c .before .before .before)) (sym (c .before .is-word5 .ensures) ∙ c .if5 .left)
-
-past-6 : (c : tie.Else6) → Past 6 (c .before .before .before .before .before .before .before .before .before .before .before .before .before .before .before .before .before .before .before)
-past-6 c =
-    past-word 5 _ _ _ (past-5 (c .before .before .before)) (sym (c .before .is-word6 .ensures) ∙ c .if6 .left)
-
-past-7 : (c : tie.Else7) → Past 7 (c .before .before .before .before .before .before .before .before .before .before .before .before .before .before .before .before .before .before .before .before .before .before)
-past-7 c =
-    past-word 6 _ _ _ (past-6 (c .before .before .before)) (sym (c .before .is-word7 .ensures) ∙ c .if7 .left)
-
-past-8 : (c : tie.Else8) → Past 8 (c .before .before .before .before .before .before .before .before .before .before .before .before .before .before .before .before .before .before .before .before .before .before .before .before .before)
-past-8 c =
-    past-word 7 _ _ _ (past-7 (c .before .before .before)) (sym (c .before .is-word8 .ensures) ∙ c .if8 .left)
-
-past-9 : (c : tie.Else9) → Past 9 (c .before .before .before .before .before .before .before .before .before .before .before .before .before .before .before .before .before .before .before .before .before .before .before .before .before .before .before .before)
-past-9 c =
-    past-word 8 _ _ _ (past-8 (c .before .before .before)) (sym (c .before .is-word9 .ensures) ∙ c .if9 .left)
-
-returns : tie.Need-returns
-returns c = at-word _ _ _ (entered (c .before .before .before .before)) (sym (c .before .is-word .ensures) ∙ c .if1 .taken)
-
-returns-2 : tie.Need-returns-2
-returns-2 c = at-word _ _ _ (past-1 (c .before .before .before)) (sym (c .before .is-word2 .ensures) ∙ c .if2 .taken)
-
-returns-3 : tie.Need-returns-3
-returns-3 c = at-word _ _ _ (past-2 (c .before .before .before)) (sym (c .before .is-word3 .ensures) ∙ c .if3 .taken)
-
-returns-4 : tie.Need-returns-4
-returns-4 c = at-word _ _ _ (past-3 (c .before .before .before)) (sym (c .before .is-word4 .ensures) ∙ c .if4 .taken)
-
-returns-5 : tie.Need-returns-5
-returns-5 c = at-word _ _ _ (past-4 (c .before .before .before)) (sym (c .before .is-word5 .ensures) ∙ c .if5 .taken)
-
-returns-6 : tie.Need-returns-6
-returns-6 c = at-word _ _ _ (past-5 (c .before .before .before)) (sym (c .before .is-word6 .ensures) ∙ c .if6 .taken)
-
-returns-7 : tie.Need-returns-7
-returns-7 c = at-word _ _ _ (past-6 (c .before .before .before)) (sym (c .before .is-word7 .ensures) ∙ c .if7 .taken)
-
-returns-8 : tie.Need-returns-8
-returns-8 c = at-word _ _ _ (past-7 (c .before .before .before)) (sym (c .before .is-word8 .ensures) ∙ c .if8 .taken)
-
-returns-9 : tie.Need-returns-9
-returns-9 c = at-word _ _ _ (past-8 (c .before .before .before)) (sym (c .before .is-word9 .ensures) ∙ c .if9 .taken)
-
-returns-10 : tie.Need-returns-10
-returns-10 c = no-words 9 _ (past-9 c)
+returns-2 : tie.Need-returns-2 Inv-loop μ-loop
+returns-2 c =
+    let at-loop = c .before in
+    let k : ℕ = at-loop .loop .k in
+    let e : k ≡ length words = omega (arith, at-loop .loop .inv .0, c .loop-test .left) in
+    sym e ∙ words-ended words (at-loop .before .before .args .s .now) k (at-loop .loop .inv .1) (omega arith)
 
 pub place-spec : {M : Type 1} → statement M
 place-spec =
     tie.close (tie.spec
-    (λ c. search needs) (λ c κs. search needs) returns (λ c. search needs) (λ c κs. search needs) returns-2
-    (λ c. search needs) (λ c κs. search needs) returns-3 (λ c. search needs) (λ c κs. search needs) returns-4
-    (λ c. search needs) (λ c κs. search needs) returns-5 (λ c. search needs) (λ c κs. search needs) returns-6
-    (λ c. search needs) (λ c κs. search needs) returns-7 (λ c. search needs) (λ c κs. search needs) returns-8
-    (λ c. search needs) (λ c κs. search needs) returns-9 returns-10)
+    Inv-loop μ-loop loop-holds (λ c. search needs) (λ c. search needs) (λ c. search needs) (λ c κs. search needs) (λ c. search needs)
+    (λ c. search needs) part-is-word-end (λ c κs. search needs) returns (λ c. search needs) (λ c. search needs) loop-again returns-2)

@@ -1,0 +1,49 @@
+-- What a step may count on once no row applies, and what its definition comes to in either case. Assumes nothing.
+use mathlib.Core.Path.{_≡_, refl, sym, _∙_, ap, subst}
+use mathlib.Core.List.{List}
+use Prim.Native.Nat.{ℕ, zero, suc, _<_}
+use native.Mathlib.Omega.{arith}
+use Rattle.theory.specs.declared.record.Record.{Record}
+use Rattle.theory.specs.declared.answer.Answer.the-variants.{Refused}
+use Rattle.theory.specs.declared.state.SetState.{SetState}
+use Rattle.theory.specs.declared.state.State.{State}
+use Rattle.theory.specs.order.Limits.{tasks, records}
+use Rattle.theory.specs.order.Recording.{Op, start, join, kind, lossMark, seriesOf}
+use Rattle.theory.specs.acceptance.Table.{Proper, NamesTask}
+use Rattle.theory.specs.acceptance.Control.{countIn, standingIn, refusalIn}
+use Rattle.theory.specs.declared.masks.Masks.{Masks}
+use Rattle.theory.specs.tables.Reckonings.{masksBy}
+use Rattle.theory.specs.feeding.Step.{masksUnless, setStepBy, stepBy}
+use Rattle.theory.proofs.acceptance.Rows.{allowed}
+
+-- an accepted record is proper, and there is room for it
+pub record Accepts (control : List ℕ) (r : Record) : Type 0 where
+  pub room : countIn control < records
+  pub proper : Proper (r .kind) (r .task) (r .on)
+
+pub accepts : (control : List ℕ) (r : Record) (n : ℕ) → n ≡ refusalIn control r → n ≡ 0 → Accepts control r
+accepts control r n e z =
+    let p = allowed (standingIn control) r (sym e ∙ z) in
+    record { room = p .room; proper = record { act-fits = λ q. p .act q .fits; mark-names = λ q. p .mark q .some } }
+
+-- a proper start or join names a task
+pub names-task : {k task on : ℕ} → Proper k task on → NamesTask k on
+names-task {k} {task} {on} p = record { started = λ q. of start refl (λ w. omega arith) q; joined = λ q. of join refl (λ w. omega arith) q }
+  where
+    of : (o : Op) → seriesOf (kind o) ≡ tasks → (k ≡ lossMark → ⊥) → k ≡ kind o → on < tasks
+    of o e n q = subst (λ (i : ℕ). on < i) (ap seriesOf q ∙ e) (p .act-fits n .on-fits)
+
+-- a refused record leaves the state as it was
+
+pub set-refused : (n : ℕ) (s : SetState) (r : Record) → ¬ (n ≡ 0) → record { state = s; answer = Refused n } ≡ setStepBy n s r
+set-refused zero s r h = absurd (h refl)
+set-refused (suc n) s r h = refl
+
+pub refused : (n : ℕ) (s : State) (r : Record) → ¬ (n ≡ 0) → record { state = s; answer = Refused n } ≡ stepBy n s r
+refused zero s r h = absurd (h refl)
+refused (suc n) s r h = refl
+
+-- no masks for a record that would be refused
+pub refused-masks : (n : ℕ) (m : Masks) → ¬ (n ≡ 0) → masksBy 0 0 ≡ masksUnless n m
+refused-masks zero m h = absurd (h refl)
+refused-masks (suc n) m h = refl

@@ -1,0 +1,188 @@
+-- The refusal table: which of its rows can apply to an act and to a mark, and what is known of a record that passes them all. Assumes nothing.
+use mathlib.Core.Path.{_≡_, refl, sym, _∙_}
+use mathlib.Core.Bool.{Bool, true, false, cond, not, _&&_, _||_, or-false}
+use mathlib.Mathlib.Data.Bool.Basic.{and-elim-left, and-elim-right, or-eq-false-eq-eq-false-and-eq-false}
+use mathlib.Core.Logic.{_≢_}
+use mathlib.Core.List.{List, [], _∷_}
+use Prim.Native.Nat.{ℕ, zero, suc, _+_, _^_, _≤_, _<_, zero-le}
+use native.Mathlib.Omega.{arith}
+use lib.Dec.{leb, ltb, eqb}
+use lib.ListN.{length}
+use borrow.Author.Tests.{le-leb, lt-leb, ltb-true, leb-true, leb-false, ne-eqb, eqb-false, not-false}
+use Rattle.theory.specs.declared.record.Record.{Record}
+use Rattle.theory.specs.order.Limits.{tasks, records}
+use Rattle.theory.specs.tables.Turns.{turns}
+use Rattle.theory.specs.order.Recording.{start, join, kind, kinds, lossMark, seriesOf}
+use Rattle.theory.specs.fillings.Completion.{bit, names}
+use Rattle.theory.specs.acceptance.Table.{hasKind, anyBelow, Standing, Row, _when_, rows, lastRow, firstRow, refusalBy, Fitting}
+use Rattle.theory.proofs.basics.Reflects.{Reflects, right, wrong, equal}
+
+-- The series of the kinds
+
+-- the series that a kind and the next have in common
+pub series-pair : (a k n : ℕ) → seriesOf a ≡ n → seriesOf (a + 1) ≡ n → a ≤ k → k < a + 2 → seriesOf k ≡ n
+series-pair a k n p q h l = decided (equal k a)
+  where
+    decided : {b : Bool} → Reflects (k ≡ a) b → seriesOf k ≡ n
+    decided (right e) = rw e p
+    decided (wrong f) = let e : k ≡ a + 1 = omega arith in rw e q
+
+-- row 3 of a kind whose series has n numbers
+pub within : (k n on : ℕ) → seriesOf k ≡ n → on < n → false ≡ leb (seriesOf k) on
+within k n on e h = rw e (sym (lt-leb n on h))
+
+pub beyond : (k n on : ℕ) → seriesOf k ≡ n → n ≤ on → true ≡ leb (seriesOf k) on
+beyond k n on e h = rw e (sym (le-leb n on h))
+
+-- Rows that do not apply
+
+-- where `anyBelow` fails, the test fails at each number below n
+pub none-below : (n : ℕ) (p : ℕ → Bool) → anyBelow n p ≡ false → (k : ℕ) → k < n → p k ≡ false
+unfolding turns
+none-below zero p e k h = absurd (omega arith)
+none-below (suc n) p e k h = let (f, g) = or-eq-false-eq-eq-false-and-eq-false (anyBelow n p) (p n) .0 e in decided g (none-below n p f k) (equal k n)
+  where
+    decided : {b : Bool} → p n ≡ false → (k < n → p k ≡ false) → Reflects (k ≡ n) b → p k ≡ false
+    decided g f (right q) = rw q g
+    decided g f (wrong d) = f (omega arith)
+
+-- no row of a list applies
+abbrev pub Fail : List Row → Type 0
+Fail [] = Unit
+Fail (x ∷ xs) = (x .applies ≡ false) × Fail xs
+
+-- every row has a number from 1 to n: a test that computes, whatever the rows ask
+abbrev pub numbered : ℕ → List Row → Bool
+numbered n [] = true
+numbered n (x ∷ xs) = ltb 0 (x .number) && (leb (x .number) n && numbered n xs)
+
+module _ (n : ℕ) (x : Row) (xs : List Row) (h : numbered n (x ∷ xs) ≡ true) where
+  row-from-1 : 0 < x .number
+  row-from-1 = ltb-true 0 (x .number) (and-elim-left (ltb 0 (x .number)) _ h)
+
+  row-to-n : x .number ≤ n
+  row-to-n = leb-true (x .number) n (and-elim-left (leb (x .number) n) _ (and-elim-right (ltb 0 (x .number)) _ h))
+
+  rows-after : numbered n xs ≡ true
+  rows-after = and-elim-right (leb (x .number) n) _ (and-elim-right (ltb 0 (x .number)) _ h)
+
+-- where no row is the first to apply, none applies
+pub none-applies : (n : ℕ) (xs : List Row) → numbered n xs ≡ true → firstRow xs ≡ 0 → Fail xs
+none-applies n [] h e = tt
+none-applies n (x ∷ xs) h e = decided (x .applies) refl (none-applies n xs (rows-after n x xs h)) e
+  where
+    decided : (b : Bool) → x .applies ≡ b → (firstRow xs ≡ 0 → Fail xs) → cond b (x .number) (firstRow xs) ≡ 0 → Fail (x ∷ xs)
+    decided true q f e = let p = row-from-1 n x xs h in absurd (omega arith)
+    decided false q f e = (q, f e)
+
+row-bound : (n : ℕ) (xs : List Row) → numbered n xs ≡ true → firstRow xs ≤ n
+row-bound n [] h = zero-le
+row-bound n (x ∷ xs) h = decided (x .applies) (row-bound n xs (rows-after n x xs h))
+  where
+    decided : (b : Bool) → firstRow xs ≤ n → cond b (x .number) (firstRow xs) ≤ n
+    decided true l = row-to-n n x xs h
+    decided false l = l
+
+-- a refusal's number is that of a row
+pub refusal-bound : (s : Standing) (r : Record) → refusalBy s r ≤ lastRow
+unfolding refusalBy
+refusal-bound s r = row-bound lastRow (rows s r) refl
+
+-- The rows of acts and of marks
+
+-- the kind is an op's
+pub record OfAct (r : Record) : Type 0 where
+  pub known : r .kind < length kinds
+  pub no-mark : r .kind ≢ lossMark
+
+module _ (s : Standing) (r : Record) where
+  -- the rows from the second as they are for an act: row 4 never applies to one
+  abbrev pub actRows : List Row
+  actRows =
+      (2 when leb tasks (r .task))
+      ∷ (3 when leb (seriesOf (r .kind)) (r .on))
+      ∷ (4 when false)
+      ∷ (5 when leb records (s .count))
+      ∷ (6 when not (s .live (r .task)))
+      ∷ (7 when (hasKind r start && not (s .unseen (r .on))))
+      ∷ (8 when (hasKind r join && eqb (r .on) (r .task)))
+      ∷ (9 when (hasKind r join && not (s .live (r .on))))
+      ∷ []
+
+  -- the rows from the fourth as they are for a mark: rows 6 to 8 never apply to one
+  abbrev pub markRows : List Row
+  markRows =
+      (4 when (eqb (r .on) 0 || leb (2 ^ tasks) (r .on)))
+      ∷ (5 when leb records (s .count))
+      ∷ (6 when false)
+      ∷ (7 when false)
+      ∷ (8 when false)
+      ∷ (9 when anyBelow tasks (λ t. names (r .on) t && not (s .live t)))
+      ∷ []
+
+  pub act-rows : OfAct r → refusalBy s r ≡ firstRow actRows
+  unfolding refusalBy
+  act-rows a = simp (lt-leb (length kinds) (r .kind) (a .known), ne-eqb (r .kind) lossMark (a .no-mark), or-false)
+
+  pub mark-rows : r .kind ≡ lossMark → refusalBy s r ≡ firstRow markRows
+  unfolding refusalBy
+  mark-rows e = rw e
+
+-- What is known of a record that no row refuses
+
+pub record ActAllowed (s : Standing) (k task on : ℕ) : Type 0 where
+  pub fits : Fitting k task on
+  pub live : s .live task ≡ true
+  pub starts-unseen : k ≡ kind start → s .unseen on ≡ true
+  pub joins-other : k ≡ kind join → on ≢ task
+  pub joins-live : k ≡ kind join → s .live on ≡ true
+
+pub record MarkAllowed (s : Standing) (mask : ℕ) : Type 0 where
+  pub some : 0 < mask
+  pub fits : mask < 2 ^ tasks
+  pub live : (t : ℕ) → names mask t ≡ true → s .live t ≡ true
+
+pub record Allowed (s : Standing) (r : Record) : Type 0 where
+  pub known : r .kind < length kinds
+  pub room : s .count < records
+  pub act : r .kind ≢ lossMark → ActAllowed s (r .kind) (r .task) (r .on)
+  pub mark : r .kind ≡ lossMark → MarkAllowed s (r .on)
+
+module _ (s : Standing) (r : Record) (e : refusalBy s r ≡ 0) where
+  all-fail : Fail (rows s r)
+  unfolding refusalBy
+  all-fail = none-applies lastRow (rows s r) refl e
+
+  known : r .kind < length kinds
+  known = leb-false (length kinds) (r .kind) (all-fail .0)
+
+  act : r .kind ≢ lossMark → ActAllowed s (r .kind) (r .task) (r .on)
+  act n = by-rows (none-applies lastRow (actRows s r) refl (sym (act-rows s r (record { known = known; no-mark = n })) ∙ e))
+    where
+      by-rows : Fail (actRows s r) → ActAllowed s (r .kind) (r .task) (r .on)
+      by-rows (t, (o, (_, (_, (a, (u, (j, (d, _)))))))) =
+          record {
+            fits = record { task-fits = leb-false tasks (r .task) t; on-fits = leb-false (seriesOf (r .kind)) (r .on) o };
+            live = not-false (s .live (r .task)) a;
+            starts-unseen = λ q. not-false (s .unseen (r .on)) (rw q at u);
+            joins-other = λ q. eqb-false (r .on) (r .task) (rw q at j);
+            joins-live = λ q. not-false (s .live (r .on)) (rw q at d);
+          }
+
+  mark : r .kind ≡ lossMark → MarkAllowed s (r .on)
+  mark q = by-rows (none-applies lastRow (markRows s r) refl (sym (mark-rows s r q) ∙ e))
+    where
+      by-rows : Fail (markRows s r) → MarkAllowed s (r .on)
+      by-rows (m, (_, (_, (_, (_, (d, _)))))) =
+          let (z, h) = or-eq-false-eq-eq-false-and-eq-false (eqb (r .on) 0) (leb (2 ^ tasks) (r .on)) .0 m in
+          let n = eqb-false (r .on) 0 z in
+          record {
+            some = omega arith;
+            fits = leb-false (2 ^ tasks) (r .on) h;
+            live = λ t x.
+                let task = ltb-true t tasks (and-elim-left (ltb t tasks) (bit (r .on) t) x) in
+                not-false (s .live t) (rw x at (none-below tasks (λ t. names (r .on) t && not (s .live t)) d t task));
+          }
+
+  pub allowed : Allowed s r
+  allowed = record { known = known; room = leb-false records (s .count) (all-fail .1 .1 .1 .1 .0); act = act; mark = mark }

@@ -1,0 +1,3 @@
+-- Tests that tell whether a statement holds; counting loops
+pub mod Reflects
+pub mod Turns

@@ -1,0 +1,3 @@
+-- Slots keep accesses, and their numbers tell the latest that conflict
+pub mod Slots
+pub mod Numbers

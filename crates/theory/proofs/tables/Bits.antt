@@ -1,0 +1,199 @@
+-- Masks of 16 tasks, built from the highest bit down or summed from the lowest up. Assumes nothing.
+use mathlib.Core.Path.{_≡_, refl, _∙_}
+use mathlib.Core.Bool.{Bool, true, false}
+use Prim.Native.Nat.{ℕ, zero, suc, _+_, _*_, _-_, _^_, _/_, _%_, _≤_, _<_, zero-le, suc-le-suc}
+use native.Mathlib.Nat.{pow-suc, add-mul, mul-assoc, zero-mul}
+use native.Mathlib.Numerals.{add-one}
+use native.Mathlib.Omega.{arith}
+use lib.Count.{trailingZeros, under, trailing-of-zero}
+use lib.Bits.{bitOr, or-block, or-shifted-r, or-zero-r}
+use lib.Pow.{pow-mono, pow-lt}
+use Rattle.theory.specs.tables.Turns.{turns}
+use Rattle.theory.specs.tables.Reckonings.{bitOf, maskOf, lowestTask}
+
+-- a mask of i bits with one more
+mask-next : (i m b : ℕ) → m < 2 ^ i → b ≤ 1 → b + 2 * m < 2 ^ (i + 1)
+mask-next i m b h l = rw (add-one i) (omega (arith, pow-suc 2 i))
+
+-- the lowest bit of a number that is not 0 is one of its bits
+pub trailing-lt : (k n : ℕ) → ¬ (n ≡ 0) → n < 2 ^ k → trailingZeros k n < k
+unfolding trailingZeros
+trailing-lt zero n h l = absurd (h (omega arith))
+trailing-lt (suc k) n h l = decided (n % 2) refl (trailing-lt k (n / 2))
+  where
+    decided : (d : ℕ) → n % 2 ≡ d → (¬ (n / 2 ≡ 0) → n / 2 < 2 ^ k → trailingZeros k (n / 2) < k) → under d (trailingZeros k (n / 2)) < suc k
+    decided zero e below = suc-le-suc (below (λ q. h (omega arith)) (omega (arith, pow-suc 2 k)))
+    decided (suc d) e below = suc-le-suc zero-le
+
+-- The mask of a test
+
+-- the highest n of the 16 tasks that pass the test, as a mask: bit k is that of task 16 - n + k
+abbrev upper : (ℕ → Bool) → ℕ → ℕ
+upper p n = turns n (λ i m. bitOf (p (15 - i)) + 2 * m) 0
+
+bit-le : (b : Bool) → bitOf b ≤ 1
+bit-le true = omega arith
+bit-le false = omega arith
+
+upper-lt : (p : ℕ → Bool) (n : ℕ) → upper p n < 2 ^ n
+unfolding turns
+upper-lt p zero = omega arith
+upper-lt p (suc n) = rw (add-one n) at (mask-next n (upper p n) (bitOf (p (15 - n))) (upper-lt p n) (bit-le (p (15 - n))))
+
+-- one more bit below a mask
+trailing-next : (n b m : ℕ) → b ≤ 1 → trailingZeros (suc n) (b + 2 * m) ≡ under b (trailingZeros n m)
+unfolding trailingZeros
+trailing-next n b m h =
+    let r : (b + 2 * m) % 2 ≡ b = omega arith in
+    let q : (b + 2 * m) / 2 ≡ m = omega arith in
+    rw (r, q)
+
+-- a count of zeros in a mask of the highest n tasks: the tasks below it fail, and that at it passes
+record Lowest (p : ℕ → Bool) (n z : ℕ) : Type 0 where
+  below : (k : ℕ) → k < z → p (16 - n + k) ≡ false
+  here : z < n → p (16 - n + z) ≡ true
+
+lowest-next : (p : ℕ → Bool) (n z : ℕ) (b : Bool) → n < 16 → p (15 - n) ≡ b → Lowest p n z → Lowest p (suc n) (under (bitOf b) z)
+lowest-next p n z true h e l =
+    record { below = λ k i. absurd (omega arith); here = λ i. let q : 16 - suc n + 0 ≡ 15 - n = omega arith in rw q e }
+lowest-next p n z false h e l = record { below = below; here = λ i. let q : 16 - suc n + suc z ≡ 16 - n + z = omega arith in rw q (l .here (omega arith)) }
+  where
+    below : (k : ℕ) → k < suc z → p (16 - suc n + k) ≡ false
+    below zero i = let q : 16 - suc n + 0 ≡ 15 - n = omega arith in rw q e
+    below (suc k) i = let q : 16 - suc n + suc k ≡ 16 - n + k = omega arith in rw q (l .below k (omega arith))
+
+lowest : (p : ℕ → Bool) (n : ℕ) → n ≤ 16 → Lowest p n (trailingZeros n (upper p n))
+unfolding turns
+lowest p zero h = record { below = λ k i. absurd (none i); here = λ i. absurd (omega arith) }
+  where
+    none : {k : ℕ} → k < trailingZeros zero 0 → ⊥
+    none i = omega (arith, trailing-of-zero 0)
+lowest p (suc n) h =
+    rw (trailing-next n (bitOf (p (15 - n))) (upper p n) (bit-le (p (15 - n))))
+    (lowest-next p n (trailingZeros n (upper p n)) (p (15 - n)) (omega arith) refl (lowest p n (omega arith)))
+
+lowest-of : (p : ℕ → Bool) → Lowest p 16 (lowestTask (maskOf p))
+unfolding maskOf
+lowest-of p = lowest p 16 (omega arith)
+
+-- no task passes the test of an empty mask
+pub mask-none : (p : ℕ → Bool) → maskOf p ≡ 0 → (u : ℕ) → u < 16 → p u ≡ false
+mask-none p e u h =
+    let z : lowestTask (maskOf p) ≡ 16 = rw e (trailing-of-zero 16) in
+    let q : 16 - 16 + u ≡ u = omega arith in
+    rw q at (lowest-of p .below u (omega arith))
+
+-- the lowest task of any other is the lowest that passes
+pub mask-lowest : (p : ℕ → Bool) → ¬ (maskOf p ≡ 0) →
+    (lowestTask (maskOf p) < 16) × (p (lowestTask (maskOf p)) ≡ true) × ((u : ℕ) → u < lowestTask (maskOf p) → p u ≡ false)
+mask-lowest p n =
+    let h : lowestTask (maskOf p) < 16 = trailing-lt 16 (maskOf p) n (mask-lt p) in (
+      h,
+      rw (from-zero (lowestTask (maskOf p))) at (lowest-of p .here h),
+      λ u i. rw (from-zero u) at (lowest-of p .below u i),
+    )
+  where
+    from-zero : (u : ℕ) → 16 - 16 + u ≡ u
+    from-zero u = omega arith
+
+    mask-lt : (p : ℕ → Bool) → maskOf p < 2 ^ 16
+    mask-lt p = unfold maskOf in upper-lt p 16
+
+upper-ext : (p q : ℕ → Bool) → ((u : ℕ) → u < 16 → p u ≡ q u) → (n : ℕ) → upper p n ≡ upper q n
+unfolding turns
+upper-ext p q e zero = refl
+upper-ext p q e (suc n) = rw (e (15 - n) (omega arith), upper-ext p q e n)
+
+-- tests that agree on the tasks have one mask
+pub mask-ext : (p q : ℕ → Bool) → ((u : ℕ) → u < 16 → p u ≡ q u) → maskOf p ≡ maskOf q
+unfolding maskOf
+mask-ext p q e = upper-ext p q e 16
+
+-- The mask as a sum
+
+-- what the tasks below u that pass the test add up to
+abbrev sums : (ℕ → Bool) → ℕ → ℕ
+sums p u = turns u (λ v m. m + bitOf (p v) * 2 ^ v) 0
+
+pub record Summed (p : ℕ → Bool) (u m : ℕ) : Type 0 where
+  pub room : m < 2 ^ u
+  pub is : m ≡ sums p u
+
+sum-lt : (u m : ℕ) (b : Bool) → m < 2 ^ u → m + bitOf b * 2 ^ u < 2 ^ (u + 1)
+sum-lt u m true h = rw (add-one u) (omega (arith, pow-suc 2 u))
+sum-lt u m false h = rw (add-one u) (omega (arith, pow-suc 2 u))
+
+module _ {p : ℕ → Bool} where
+  pub no-sum : Summed p 0 0
+  unfolding turns
+  no-sum = record { room = omega arith; is = refl }
+
+  pub one-sum : {u m r : ℕ} {b : Bool} → Summed p u m → r ≡ bitOf b * 2 ^ u → b ≡ p u → Summed p (u + 1) (m + r)
+  unfolding turns
+  one-sum {u} {m} {b = b} s e t = record { room = rw e (sum-lt u m b (s .room)); is = rw (add-one u) (rw (e, t, s .is)) }
+
+  pub sum-fits : {u m : ℕ} → Summed p u m → u ≤ 16 → m < 65536
+  sum-fits {u} s h = let q : 2 ^ u ≤ 2 ^ 16 = pow-mono h in omega (arith, s .room)
+
+-- the highest n tasks above the sum of the others make the whole mask
+sums-upper : (p : ℕ → Bool) (k n : ℕ) → n + k ≡ 16 → upper p n * 2 ^ k + sums p k ≡ upper p 16
+unfolding turns
+sums-upper p zero n e = let q : n ≡ 16 = omega arith in rw q (omega arith)
+sums-upper p (suc k) n e =
+    let q : 15 - n ≡ k = omega arith in
+    shifted (upper p n) (2 ^ k) (bitOf (p k)) (sums p k) (pow-suc 2 k)
+    ∙ (rw q at (sums-upper p k (suc n) (omega arith)))
+  where
+    shifted : (x y b t : ℕ) {z : ℕ} → z ≡ y * 2 → x * z + (t + b * y) ≡ (b + 2 * x) * y + t
+    shifted x y b t e = rw e (omega (arith, mul-assoc x y 2, add-mul b (2 * x) y, mul-assoc 2 x y))
+
+upper-none : (p : ℕ → Bool) → upper p 0 ≡ 0
+unfolding turns
+upper-none p = refl
+
+sums-all : (p : ℕ → Bool) (n : ℕ) → n ≡ 16 → sums p n ≡ upper p 16
+sums-all p n e = let z : upper p 0 * 2 ^ n ≡ 0 = rw (upper-none p) (zero-mul (2 ^ n)) in omega (arith, sums-upper p n 0 (omega arith))
+
+pub all-sums : {p : ℕ → Bool} {u m : ℕ} → Summed p u m → u ≤ 16 → 16 ≤ u → m ≡ maskOf p
+unfolding maskOf
+all-sums {p} {u} s h l = s .is ∙ sums-all p u (omega arith)
+
+-- The mask as an "or" of weights that stand twice in a word, which the compiler makes vector code of: as a sum, or with single bits, it
+-- does not
+
+pub record Gathered (p : ℕ → Bool) (u x : ℕ) : Type 0 where
+  pub m : ℕ
+  pub summed : Summed p u m
+  pub twice : x ≡ m * 2 ^ 16 + m
+
+module _ {p : ℕ → Bool} where
+  pub no-weights : Gathered p 0 0
+  no-weights = record { m = 0; summed = no-sum; twice = refl }
+
+  pub one-weight : {u x r : ℕ} {b : Bool} → u < 16 → Gathered p u x → r ≡ bitOf b * (2 ^ u * 2 ^ 16 + 2 ^ u) → b ≡ p u → Gathered p (u + 1) (bitOr x r)
+  one-weight {u} {x} {r} {b} h g e t = record { m = g .m + bitOf b * 2 ^ u; summed = one-sum (g .summed) refl t; twice = rw (g .twice, e) (of b) }
+    where
+      room : g .m < 2 ^ 16
+      room = sum-fits (g .summed) (omega arith)
+
+      weight : 2 ^ u < 2 ^ 16
+      weight = pow-lt h
+
+      of : (b : Bool) → bitOr (g .m * 2 ^ 16 + g .m) (bitOf b * (2 ^ u * 2 ^ 16 + 2 ^ u)) ≡ (g .m + bitOf b * 2 ^ u) * 2 ^ 16 + (g .m + bitOf b * 2 ^ u)
+      of true =
+          let one : 1 * (2 ^ u * 2 ^ 16 + 2 ^ u) ≡ 2 ^ u * 2 ^ 16 + 2 ^ u = omega arith in
+          let joined : bitOr (g .m) (2 ^ u) ≡ g .m + 1 * 2 ^ u = single in
+          rw (one, or-block 16 (g .m) (2 ^ u) (g .m) (2 ^ u) room weight, joined)
+        where
+          single : bitOr (g .m) (2 ^ u) ≡ g .m + 1 * 2 ^ u
+          single = let q : bitOr (g .m) (1 * 2 ^ u) ≡ 1 * 2 ^ u + g .m = or-shifted-r 1 u (g .m) (g .summed .room) in let z : 1 * 2 ^ u ≡ 2 ^ u = omega arith in rw (← z) (q ∙ omega arith)
+      of false =
+          let none : 0 * (2 ^ u * 2 ^ 16 + 2 ^ u) ≡ 0 = zero-mul (2 ^ u * 2 ^ 16 + 2 ^ u) in
+          let same : g .m + 0 * 2 ^ u ≡ g .m = omega (arith, zero-mul (2 ^ u)) in
+          rw (none, same) (or-zero-r (g .m * 2 ^ 16 + g .m))
+
+  pub all-weights : {u x : ℕ} → Gathered p u x → u ≤ 16 → 16 ≤ u → x % 2 ^ 16 ≡ maskOf p
+  all-weights {u} {x} g h l =
+      let room = sum-fits (g .summed) h in
+      let low : x % 2 ^ 16 ≡ g .m = omega (arith, g .twice) in
+      low ∙ all-sums (g .summed) h l

@@ -1,0 +1,351 @@
+-- A column of a table is exact if its cells say to which nodes order has come. Acts and marks keep it so, in any filling, for
+-- clocks and sets alike and at any width. Assumes nothing.
+use mathlib.Core.Path.{_≡_, refl, sym, _∙_, subst}
+use mathlib.Core.Bool.{Bool, true, false, cond, not, _||_}
+use mathlib.Core.Logic.{_↔_, _⊎_, inl, inr}
+use mathlib.Core.List.{List, [], _∷_, _++_}
+use Prim.Native.Nat.{ℕ, _*_, _≤_, _<_}
+use native.Mathlib.Omega.{arith}
+use borrow.Author.Tests.{lt-ltb, le-ltb, ne-eqb}
+use lib.Dec.{T, ltb, eqb, lit<}
+use lib.ListN.{replicate}
+use Rattle.theory.specs.order.Recording.{Op, Event, act, lost, series, kind}
+use Rattle.theory.specs.fillings.Completion.{bit, Named, Filling, fills}
+use Rattle.theory.specs.tables.Rows.{cell, joinsActed, acquiredRow, releasedRow, alsoReleased, onward, isReleased, mix, mark}
+use Rattle.theory.proofs.order.Carry.{Node, due, acted, semaphore, flag, Acquires, own, Releases, own-next}
+use Rattle.theory.proofs.fillings.Fullest.{Acquired, Released, named-task}
+use Rattle.theory.proofs.fillings.Reach.{nobody-named, acquired-due, acquired-acted, acquired-semaphore, acquired-flag, released-due, released-acted, released-semaphore, released-flag}
+use Rattle.theory.proofs.tables.Rows.{Sized, Joins, Knows, fresh-cell, fresh-none}
+use Rattle.theory.proofs.tables.Acts.{flow-knows}
+use Rattle.theory.proofs.tables.Marks.{NamedKnows, mix-hub, mix-released, mix-untold, mix-acted}
+use Rattle.theory.proofs.tables.Nodes.{row, InRange, due-in, Object, a-semaphore, a-flag, object-row, row-below, row-one, acquiredNode, releasedNode, readNode, read-row, released-row, read-in, released-in, released-releases, acquires-cases, releases-cases, read-acquires, acquired-read, joined-in, released-object}
+use Rattle.theory.proofs.tables.NamedRows.{bit-named, named-bit, released-test, test-released}
+use Rattle.theory.proofs.order.Tests.{some-snoc, snoc-some, snoc-last}
+use Rattle.theory.proofs.order.Places.{nowhere}
+use Rattle.theory.proofs.fillings.Came.{Came, came-acted, Newly, Onward, came-next}
+use Rattle.theory.proofs.fillings.HasActed.{ActsAs, Acted, Ended, ended-act, no-releases, mark-came, came-mark, ended-mark, none-acted}
+use Rattle.theory.proofs.basics.Reflects.{Reflects, right, wrong, same-as, equal, at-most, by-test, is-true}
+
+-- Definition
+
+-- order has come to some object
+abbrev pub ToObject : Filling → (Event → List Event → Type 0) → List Event → ℕ → Type 0
+ToObject w Chosen es i = (m : Node) × Object m × Came w Chosen es i m
+
+-- column c: P is what its cells know where order has come from place i or later
+pub record Exact (P : ℕ → Type 0) (w : Filling) (Chosen : Event → List Event → Type 0) (es : List Event) (width : ℕ) (b : List ℕ) (i c : ℕ) : Type 0 where
+  pub cells : (n : Node) → InRange n → Knows P width b (row n) c ↔ Came w Chosen es i n
+  pub hub : T (fills w) → Knows P width b 80 c ↔ ToObject w Chosen es i
+  pub ended : Ended w Chosen es i
+
+-- what it is to be after an act's own part: what stays of what had come, and the act itself at its task's next act
+pub record Owned (P : ℕ → Type 0) (w : Filling) (Chosen : Event → List Event → Type 0) (Stays : Type 0) (es : List Event) (x : Event) (t width : ℕ) (b : List ℕ) (i c : ℕ) : Type 0 where
+  pub cells : (n : Node) → InRange n → Knows P width b (row n) c ↔ ((Stays × Came w Chosen es i n) ⊎ (Newly Chosen es x i × (n ≡ due t)))
+  pub hub : T (fills w) → Knows P width b 80 c ↔ (Stays × ToObject w Chosen es i)
+
+-- the row of what has acted is exact if it says which tasks have
+pub record ExactActed (w : Filling) (es : List Event) (width : ℕ) (b : List ℕ) : Type 0 where
+  pub flags : (t : ℕ) → t < 16 → (0 < cell width b 81 t) ↔ Acted w t es
+
+-- Acts
+
+-- which rows an act releases to
+abbrev Released-row : Bool → ℕ → ℕ → ℕ → Type 0
+Released-row asked t released r = (r ≡ t) ⊎ ((r ≡ released) ⊎ (r ≡ alsoReleased asked released t))
+
+module _ {P : ℕ → Type 0} {j : ℕ → ℕ → ℕ} {w : Filling} {Chosen : Event → List Event → Type 0} {Stays : Type 0} {es : List Event} {o : Op} {t n width i c : ℕ} {b : List ℕ}
+    (joins : Joins j P) (keeps : (e : Event) (after : List Event) → Chosen e (after ++ (act o t n ∷ [])) ↔ (Stays × Chosen e after))
+    (starts : (u : ℕ) → Releases (act o t n) (due u) → (u ≡ t) ⊎ (¬ Acted w u es)) (ht : t < 16) (hn : n < series o) (hc : c < width)
+    (sized : Sized width b) (flagged : ExactActed w (es ++ (act o t n ∷ [])) width b) (ended : Ended w Chosen es i)
+    (owned : Owned P w Chosen Stays es (act o t n) t width b i c) where
+  -- the row that it reads
+  abbrev acquired : ℕ
+  acquired = acquiredRow (kind o) t n (joinsActed width b (kind o) n)
+
+  abbrev flagOf : Bool
+  flagOf = ltb 0 (cell width b 81 n)
+
+  abbrev Came-on : Node → Type 0
+  Came-on m = (Stays × Onward w Chosen es (act o t n) i m) ⊎ (Newly Chosen es (act o t n) i × Releases (act o t n) m)
+
+  released-below : releasedRow (kind o) t n < 80
+  released-below = rw (released-row o t n) (row-below (released-in o ht hn))
+
+  -- The rows that it releases to
+
+  also-none : {m : Node} → InRange m → (p : Bool) → row m ≡ cond p t 80 → row m ≡ t
+  also-none r true e = e
+  also-none r false e = absurd (omega (arith, row-below r))
+
+  released-by : {m : Node} → InRange m → Released-row (fills w) t (releasedRow (kind o) t n) (row m) → Releases (act o t n) m
+  released-by r (inl e) = subst (Releases (act o t n)) (sym (row-one r (due-in ht) e)) own-next
+  released-by r (inr (inl e)) = subst (Releases (act o t n)) (sym (row-one r (released-in o ht hn) (rw (released-row o t n) at e))) (released-releases o t n)
+  released-by r (inr (inr e)) = subst (Releases (act o t n)) (sym (row-one r (due-in ht) (also-none r (ltb (releasedRow (kind o) t n) 16 || not (fills w)) e))) own-next
+
+  by-released : {m : Node} → InRange m → Releases (act o t n) m → Released-row (fills w) t (releasedRow (kind o) t n) (row m)
+  by-released r x = cases r (releases-cases x)
+    where
+      cases : {m : Node} → InRange m → (m ≡ due t) ⊎ ((m ≡ acted t) ⊎ (m ≡ releasedNode o t n)) → Released-row (fills w) t (releasedRow (kind o) t n) (row m)
+      cases r (inl e) = inl (rw e)
+      cases r (inr (inl e)) = absurd (none (subst InRange e r))
+        where
+          none : InRange (acted t) → ⊥
+          none q = elim q [ ]
+      cases r (inr (inr e)) = inr (inl (rw (e, released-row o t n)))
+
+  -- the hub is released to where an object is
+  hub-released : T (fills w) → {m : Node} → Object m → Releases (act o t n) m → Released-row (fills w) t (releasedRow (kind o) t n) 80
+  hub-released f m x = cases m (releases-cases x)
+    where
+      cases : {m : Node} → Object m → (m ≡ due t) ⊎ ((m ≡ acted t) ⊎ (m ≡ releasedNode o t n)) → Released-row (fills w) t (releasedRow (kind o) t n) 80
+      cases m (inl e) = absurd (none (subst Object e m))
+        where
+          none : Object (due t) → ⊥
+          none q = elim q [ ]
+      cases m (inr (inl e)) = absurd (none (subst Object e m))
+        where
+          none : Object (acted t) → ⊥
+          none q = elim q [ ]
+      cases m (inr (inr e)) = inr (inr (rw (le-ltb (releasedRow (kind o) t n) 16 (rw (released-row o t n) (object-row (subst Object e m))), is-true (by-test (fills w)) f)))
+
+  released-hub : Released-row (fills w) t (releasedRow (kind o) t n) 80 → Object (releasedNode o t n)
+  released-hub (inl e) = absurd (omega arith)
+  released-hub (inr (inl e)) = let h = released-below in absurd (omega arith)
+  released-hub (inr (inr e)) = decided (at-most 16 (releasedRow (kind o) t n))
+    where
+      decided : {p : Bool} → Reflects (16 ≤ releasedRow (kind o) t n) p → Object (releasedNode o t n)
+      decided (right h) = released-object o ht hn (rw (released-row o t n) at h)
+      decided (wrong f) = let q : 80 ≡ t = rw (lt-ltb (releasedRow (kind o) t n) 16 (omega arith)) at e in absurd (omega arith)
+
+  -- What it acquires
+
+  from-acquired : {m p : Node} → InRange p → Acquires p (act o t n) → Releases (act o t n) m → Knows P width b (row p) c → Came-on m
+  from-acquired {m} {p} r h x a = cases (owned .cells p r .0 a)
+    where
+      cases : (Stays × Came w Chosen es i p) ⊎ (Newly Chosen es (act o t n) i × (p ≡ due t)) → Came-on m
+      cases (inl (s, d)) = inl (s, inr (p, d, (h, x)))
+      cases (inr (d, e)) = inr (d, x)
+
+  -- a join of a task that has acted
+  from-joined : {m : Node} → Acquires (acted n) (act o t n) → flagOf ≡ true → Releases (act o t n) m → Knows P width b n c → Came-on m
+  from-joined {m} h f x a = cases (owned .cells (due n) (due-in l) .0 a)
+    where
+      l : n < 16
+      l = joined-in h hn
+
+      raised : 0 < cell width b 81 n
+      raised = decided (at-most 1 (cell width b 81 n)) f
+        where
+          decided : {p : Bool} → Reflects (1 ≤ cell width b 81 n) p → p ≡ true → 0 < cell width b 81 n
+          decided (right q) e = q
+          decided (wrong g) e = absurd (subst T (sym e) tt)
+
+      onward-from : Stays → Came w Chosen es i (due n) → Acted w n es ⊎ (n ≡ t) → Came-on m
+      onward-from s d (inl q) = inl (s, inr (acted n, ended .joined n q d, (h, x)))
+      onward-from s d (inr e) = inl (s, inr (due t, subst (λ (k : ℕ). Came w Chosen es i (due k)) e d, (own, x)))
+
+      cases : (Stays × Came w Chosen es i (due n)) ⊎ (Newly Chosen es (act o t n) i × (due n ≡ due t)) → Came-on m
+      cases (inl (s, d)) = onward-from s d (some-snoc es (flagged .flags n l .0 raised))
+      cases (inr (d, e)) = inr (d, x)
+
+  source-came : {m : Node} → Releases (act o t n) m → Knows P width b t c ⊎ Knows P width b acquired c → Came-on m
+  source-came x (inl a) = from-acquired (due-in ht) own x a
+  source-came {m} x (inr a) = cases (read-acquires o t n flagOf)
+    where
+      read : Knows P width b (row (readNode o t n flagOf)) c
+      read = rw (read-row o t n width b) at a
+
+      cases : Acquires (readNode o t n flagOf) (act o t n) ⊎ (Acquires (acted n) (act o t n) × (readNode o t n flagOf ≡ due n) × (flagOf ≡ true)) → Came-on m
+      cases (inl h) = from-acquired (read-in o flagOf ht hn) h x read
+      cases (inr (h, e, f)) = from-joined h f x (rw e at read)
+
+  came-source : {p : Node} → Stays → Acquires p (act o t n) → Came w Chosen es i p → Knows P width b t c ⊎ Knows P width b acquired c
+  came-source {p} s h d = cases (acquires-cases h)
+    where
+      of-acquired : p ≡ acquiredNode o t n → (acquiredNode o t n ≡ readNode o t n flagOf) ⊎ (Acquires (acted n) (act o t n) × (acquiredNode o t n ≡ acted n) × (readNode o t n true ≡ due n)) →
+          Knows P width b acquired c
+      of-acquired e (inl q) = rw (read-row o t n width b) (owned .cells (readNode o t n flagOf) (read-in o flagOf ht hn) .1 (inl (s, subst (Came w Chosen es i) (e ∙ q) d)))
+      of-acquired e (inr (k, q, r)) =
+          let l = joined-in k hn in
+          let a : Came w Chosen es i (acted n) = subst (Came w Chosen es i) (e ∙ q) d in
+          let raised = flagged .flags n l .1 (snoc-some (act o t n) (ended .acting n a)) in
+          rw (read-row o t n width b, lt-ltb 0 (cell width b 81 n) raised, r) (owned .cells (due n) (due-in l) .1 (inl (s, came-acted a)))
+
+      cases : (p ≡ due t) ⊎ (p ≡ acquiredNode o t n) → Knows P width b t c ⊎ Knows P width b acquired c
+      cases (inl e) = inl (owned .cells (due t) (due-in ht) .1 (inl (s, subst (Came w Chosen es i) e d)))
+      cases (inr e) = inr (of-acquired e (acquired-read o t n flagOf))
+
+  own-source : Newly Chosen es (act o t n) i → Knows P width b t c ⊎ Knows P width b acquired c
+  own-source d = inl (owned .cells (due t) (due-in ht) .1 (inr (d, refl)))
+
+  pub exact-act : Exact P w Chosen (es ++ (act o t n ∷ [])) width (onward j width (fills w) (kind o) t n b) i c
+  exact-act =
+      record {
+        cells = λ m r. (λ a. came-next es (act o t n) keeps .1 (to m r (flowed (row m) .0 a)), λ d. flowed (row m) .1 (from m r (came-next es (act o t n) keeps .0 d)));
+        hub = λ f. (λ a. to-hub f (flowed 80 .0 a), λ d. flowed 80 .1 (from-hub f (d .0) (d .1) (came-next es (act o t n) keeps .0 (d .2))));
+        ended = ended-act keeps starts ended;
+      }
+    where
+      flowed : (r : ℕ) → Knows P width (onward j width (fills w) (kind o) t n b) r c
+          ↔ (Knows P width b r c ⊎ (Released-row (fills w) t (releasedRow (kind o) t n) r × (Knows P width b t c ⊎ Knows P width b acquired c)))
+      flowed r = let h = released-below in flow-knows joins (fills w) sized (omega arith) ht hc
+
+      to : (m : Node) → InRange m → Knows P width b (row m) c ⊎ (Released-row (fills w) t (releasedRow (kind o) t n) (row m) × (Knows P width b t c ⊎ Knows P width b acquired c)) → Came-on m
+      to m r (inl a) = stayed (owned .cells m r .0 a)
+        where
+          stayed : (Stays × Came w Chosen es i m) ⊎ (Newly Chosen es (act o t n) i × (m ≡ due t)) → Came-on m
+          stayed (inl (s, d)) = inl (s, inl d)
+          stayed (inr (d, e)) = inr (d, subst (Releases (act o t n)) (sym e) own-next)
+      to m r (inr (q, a)) = source-came (released-by r q) a
+
+      from : (m : Node) → InRange m → Came-on m → Knows P width b (row m) c ⊎ (Released-row (fills w) t (releasedRow (kind o) t n) (row m) × (Knows P width b t c ⊎ Knows P width b acquired c))
+      from m r (inl (s, inl d)) = inl (owned .cells m r .1 (inl (s, d)))
+      from m r (inl (s, inr (p, d, (h, x)))) = inr (by-released r x, came-source s h d)
+      from m r (inr (d, x)) = inr (by-released r x, own-source d)
+
+      to-hub : T (fills w) → Knows P width b 80 c ⊎ (Released-row (fills w) t (releasedRow (kind o) t n) 80 × (Knows P width b t c ⊎ Knows P width b acquired c)) → ToObject w Chosen (es ++ (act o t n ∷ [])) i
+      to-hub f (inl a) = let (s, (m, k, d)) = owned .hub f .0 a in (m, k, came-next es (act o t n) keeps .1 (inl (s, inl d)))
+      to-hub f (inr (q, a)) = (releasedNode o t n, released-hub q, came-next es (act o t n) keeps .1 (source-came (released-releases o t n) a))
+
+      from-hub : T (fills w) → (m : Node) → Object m → Came-on m → Knows P width b 80 c ⊎ (Released-row (fills w) t (releasedRow (kind o) t n) 80 × (Knows P width b t c ⊎ Knows P width b acquired c))
+      from-hub f m k (inl (s, inl d)) = inl (owned .hub f .1 (s, (m, k, d)))
+      from-hub f m k (inl (s, inr (p, d, (h, x)))) = inr (hub-released f k x, came-source s h d)
+      from-hub f m k (inr (d, x)) = inr (hub-released f k x, own-source d)
+
+-- Marks
+
+-- what has come to a node that a mark releases to has come to one that it acquires
+released-acquired : {w : Filling} {Chosen : Event → List Event → Type 0} {es : List Event} {i mask : ℕ} (m : Node) → Released mask m → Came w Chosen es i m →
+    (p : Node) × Acquired mask p × Came w Chosen es i p
+released-acquired (due t) y d = (due t, acquired-due .1 (released-due .0 y), d)
+released-acquired (acted t) y d = (due t, acquired-due .1 (released-acted .0 y), came-acted d)
+released-acquired (semaphore s) y d = (semaphore s, acquired-semaphore .1 (released-semaphore .0 y), d)
+released-acquired (flag f) y d = (flag f, acquired-flag .1 (released-flag .0 y), d)
+
+-- whose lost records are filled in: nobody's, or those of some task
+pub data Filled-in (m : ℕ) : Type 0 where
+  nobody : m ≡ 0 → Filled-in m
+  somebody : ¬ (m ≡ 0) → (t : ℕ) × Named m t → Filled-in m
+
+-- a mark that names a task acquires every object
+acquired-object : {mask : ℕ} → (t : ℕ) × Named mask t → {m : Node} → Object m → Acquired mask m
+acquired-object some (a-semaphore h) = acquired-semaphore .1 (h, some)
+acquired-object some (a-flag h) = acquired-flag .1 (h, some)
+
+module _ {P : ℕ → Type 0} {w : Filling} {Chosen : Event → List Event → Type 0} {Stays : Type 0} {es : List Event} {width i c : ℕ} {b : List ℕ} (mask : ℕ)
+    (keeps : (e : Event) (after : List Event) → Chosen e (after ++ (lost mask ∷ [])) ↔ (Stays × Chosen e after)) (stays : Stays) where
+  -- where nobody's lost records are filled in a mark changes nothing
+  exact-none : w mask ≡ 0 → Exact P w Chosen es width b i c → Exact P w Chosen (es ++ (lost mask ∷ [])) width b i c
+  exact-none none x =
+      record {
+        cells = λ m r. (λ a. came-mark mask keeps none stays (x .cells m r .0 a), λ d. x .cells m r .1 (mark-came mask keeps none d));
+        hub = λ f. (λ a. let (m, k, d) = x .hub f .0 a in (m, k, came-mark mask keeps none stays d), λ d. x .hub f .1 (d .0, d .1, mark-came mask keeps none (d .2)));
+        ended = ended-mark mask keeps stays (x .ended);
+      }
+
+  -- where some are it mixes
+  module _ {j : ℕ → ℕ → ℕ} (joins : Joins j P) (sized : Sized width b) (wide : 16 ≤ width) (hc : c < width) (some : (t : ℕ) × Named (w mask) t) (asked : T (fills w)) (x : Exact P w Chosen es width b i c) where
+    acquired-known : (p : Node) → Acquired (w mask) p → Came w Chosen es i p → Knows P width b 80 c ⊎ NamedKnows P width (w mask) b c 16
+    acquired-known (due t) h d = let q = acquired-due .0 h in inr (t, named-task q, named-bit q, x .cells (due t) (due-in (named-task q)) .1 d)
+    acquired-known (acted t) h d = absurd (acquired-acted h)
+    acquired-known (semaphore s) h d = inl (x .hub asked .1 (semaphore s, a-semaphore (acquired-semaphore .0 h .0), d))
+    acquired-known (flag f) h d = inl (x .hub asked .1 (flag f, a-flag (acquired-flag .0 h .0), d))
+
+    known-on : {m : Node} → Released (w mask) m → Knows P width b 80 c ⊎ NamedKnows P width (w mask) b c 16 → Onward w Chosen es (lost mask) i m
+    known-on y (inl a) = let (p, k, d) = x .hub asked .0 a in inr (p, d, (acquired-object some k, y))
+    known-on y (inr (t, l, q, a)) = inr (due t, x .cells (due t) (due-in l) .0 a, (acquired-due .1 (bit-named (w mask) t l q), y))
+
+    on-known : {m : Node} → Released (w mask) m → (Stays × Onward w Chosen es (lost mask) i m) ⊎ (Newly Chosen es (lost mask) i × Releases (lost mask) m) →
+        Knows P width b 80 c ⊎ NamedKnows P width (w mask) b c 16
+    on-known {m} y (inl (s, inl d)) = let (p, h, e) = released-acquired m y d in acquired-known p h e
+    on-known y (inl (s, inr (p, d, (h, z)))) = acquired-known p h d
+    on-known y (inr (d, z)) = absurd (no-releases z)
+
+    mixed : (m : Node) → InRange m → Knows P width (mix j width (w mask) b) (row m) c ↔ Came w Chosen (es ++ (lost mask ∷ [])) i m
+    mixed m r = decided (by-test (isReleased (w mask) (row m)))
+      where
+        decided : {p : Bool} → Reflects (T (isReleased (w mask) (row m))) p → Knows P width (mix j width (w mask) b) (row m) c ↔ Came w Chosen (es ++ (lost mask ∷ [])) i m
+        decided (right q) =
+            let y = test-released some r q in
+            let e = mix-released joins sized (w mask) c wide hc (row m) (row-below r) q in
+            (λ a. came-next es (lost mask) keeps .1 (inl (stays, known-on y (e .0 a))), λ d. e .1 (on-known y (came-next es (lost mask) keeps .0 d)))
+        decided (wrong f) =
+            let e = mix-untold joins sized (w mask) c wide hc (row m) (row-below r) f in
+            (λ a. came-next es (lost mask) keeps .1 (inl (stays, inl (x .cells m r .0 (e .0 a)))), λ d. e .1 (x .cells m r .1 (same (came-next es (lost mask) keeps .0 d))))
+          where
+            same : (Stays × Onward w Chosen es (lost mask) i m) ⊎ (Newly Chosen es (lost mask) i × Releases (lost mask) m) → Came w Chosen es i m
+            same (inl (s, inl d)) = d
+            same (inl (s, inr (p, d, (h, y)))) = absurd (f (released-test r y))
+            same (inr (d, y)) = absurd (no-releases y)
+
+    hub-mixed : Knows P width (mix j width (w mask) b) 80 c ↔ ToObject w Chosen (es ++ (lost mask ∷ [])) i
+    hub-mixed = (λ a. to (e .0 a), λ d. e .1 (from (d .0) (d .1) (came-next es (lost mask) keeps .0 (d .2))))
+      where
+        e : Knows P width (mix j width (w mask) b) 80 c ↔ (Knows P width b 80 c ⊎ NamedKnows P width (w mask) b c 16)
+        e = mix-hub joins sized (w mask) c wide hc
+
+        to : Knows P width b 80 c ⊎ NamedKnows P width (w mask) b c 16 → ToObject w Chosen (es ++ (lost mask ∷ [])) i
+        to a = (semaphore 0, a-semaphore (lit< tt), came-next es (lost mask) keeps .1 (inl (stays, known-on (released-semaphore .1 (lit< tt, some)) a)))
+
+        from : (m : Node) → Object m → (Stays × Onward w Chosen es (lost mask) i m) ⊎ (Newly Chosen es (lost mask) i × Releases (lost mask) m) → Knows P width b 80 c ⊎ NamedKnows P width (w mask) b c 16
+        from m k (inl (s, inl d)) = inl (x .hub asked .1 (m, k, d))
+        from m k (inl (s, inr (p, d, (h, y)))) = acquired-known p h d
+        from m k (inr (d, y)) = absurd (no-releases y)
+
+    exact-mix : Exact P w Chosen (es ++ (lost mask ∷ [])) width (mix j width (w mask) b) i c
+    exact-mix = record { cells = mixed; hub = λ _. hub-mixed; ended = ended-mark mask keeps stays (x .ended) }
+
+  pub exact-mark : {j : ℕ → ℕ → ℕ} → Joins j P → Sized width b → 16 ≤ width → c < width → (¬ (w mask ≡ 0) → T (fills w)) → Filled-in (w mask) → Exact P w Chosen es width b i c →
+      Exact P w Chosen (es ++ (lost mask ∷ [])) width (mark j width (w mask) b) i c
+  exact-mark {j} joins sized wide hc asked (nobody e) x = subst (λ (k : ℕ). Exact P w Chosen (es ++ (lost mask ∷ [])) width (mark j width k b) i c) (sym e) (exact-none e x)
+  exact-mark joins sized wide hc asked (somebody n some) x = rw (ne-eqb (w mask) 0 n) (exact-mix joins sized wide hc some (asked n) x)
+
+-- What has acted
+
+module _ {w : Filling} {es : List Event} {width : ℕ} {b b′ : List ℕ} where
+  pub acted-same : ((t : ℕ) → t < 16 → cell width b′ 81 t ≡ cell width b 81 t) → ExactActed w es width b → ExactActed w es width b′
+  acted-same e x = record { flags = λ t h. (λ a. x .flags t h .0 (rw (e t h) at a), λ a. rw (e t h) (x .flags t h .1 a)) }
+
+  -- an event after which those have acted who had, and those that a test tells
+  acted-next : (y : Event) (p : ℕ → Bool) → ((t : ℕ) → t < 16 → Reflects (ActsAs w t y) (p t)) →
+      ((t : ℕ) → t < 16 → cell width b′ 81 t ≡ cond (p t) 1 (cell width b 81 t)) → ExactActed w es width b → ExactActed w (es ++ (y ∷ [])) width b′
+  acted-next y p r e x = record { flags = λ t h. (λ a. to t h (r t h) (rw (e t h) at a), λ a. rw (e t h) (from t h (r t h) (some-snoc es a))) }
+    where
+      to : (t : ℕ) → t < 16 → {q : Bool} → Reflects (ActsAs w t y) q → 0 < cond q 1 (cell width b 81 t) → Acted w t (es ++ (y ∷ []))
+      to t h (right k) a = snoc-last es y k
+      to t h (wrong f) a = snoc-some y (x .flags t h .0 a)
+
+      from : (t : ℕ) → t < 16 → {q : Bool} → Reflects (ActsAs w t y) q → Acted w t es ⊎ ActsAs w t y → 0 < cond q 1 (cell width b 81 t)
+      from t h (right k) a = lit< tt
+      from t h (wrong f) (inl a) = x .flags t h .1 a
+      from t h (wrong f) (inr k) = absurd (f k)
+
+  pub acted-act : (o : Op) (u n : ℕ) → ((t : ℕ) → t < 16 → cell width b′ 81 t ≡ cond (eqb t u) 1 (cell width b 81 t)) → ExactActed w es width b →
+      ExactActed w (es ++ (act o u n ∷ [])) width b′
+  acted-act o u n e x = acted-next (act o u n) (λ t. eqb t u) (λ t h. equal t u) e x
+
+pub acted-mark : {w : Filling} {es : List Event} {width : ℕ} {b : List ℕ} (j : ℕ → ℕ → ℕ) (mask : ℕ) → Sized width b → 16 ≤ width → Filled-in (w mask) → ExactActed w es width b →
+    ExactActed w (es ++ (lost mask ∷ [])) width (mark j width (w mask) b)
+acted-mark {w} {es} {width} {b} j mask sized wide (nobody e) x =
+    subst (λ (k : ℕ). ExactActed w (es ++ (lost mask ∷ [])) width (mark j width k b)) (sym e)
+    (acted-next (lost mask) (λ t. false) (λ t h. wrong (λ d. nobody-named (subst (λ (k : ℕ). Named k t) e d))) (λ t h. refl) x)
+acted-mark {w} j mask sized wide (somebody n some) x =
+    rw (ne-eqb (w mask) 0 n)
+    (acted-next (lost mask) (bit (w mask)) (λ t h. same-as (bit-named (w mask) t h) named-bit (by-test (bit (w mask) t))) (λ t h. mix-acted sized j (w mask) t wide h) x)
+
+-- Fresh tables
+
+pub fresh-exact : {P : ℕ → Type 0} {w : Filling} {Chosen : Event → List Event → Type 0} {width i c : ℕ} → ¬ P 0 → c < width →
+    Exact P w Chosen [] width (replicate (82 * width) 0) i c
+fresh-exact {width = width} {c = c} n hc =
+    record {
+      cells = λ m r. (λ a. let h = row-below r in absurd (fresh-none n width (row m) c (omega arith) hc a), λ d. absurd (nowhere (d .occurs)));
+      hub = λ f. (λ a. absurd (fresh-none n width 80 c (omega arith) hc a), λ d. absurd (nowhere (d .2 .occurs)));
+      ended = record { acting = λ t d. absurd (nowhere (d .occurs)); joined = λ t a d. absurd (nowhere (d .occurs)) };
+    }
+
+pub fresh-acted : {w : Filling} (width : ℕ) → 16 ≤ width → ExactActed w [] width (replicate (82 * width) 0)
+fresh-acted width wide = record { flags = λ t h. (λ a. absurd (zero t h a), λ a. absurd (none-acted a)) }
+  where
+    zero : (t : ℕ) → t < 16 → ¬ (0 < cell width (replicate (82 * width) 0) 81 t)
+    zero t h a = let k : 0 < 0 = rw (fresh-cell width 81 t (omega arith) (omega arith)) at a in omega arith

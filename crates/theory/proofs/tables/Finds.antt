@@ -1,0 +1,70 @@
+-- The masks of a table that is exact for a recording find what the search finds: the clocks' and the sets'. Assumes nothing.
+use mathlib.Core.Path.{_≡_, refl, ap}
+use mathlib.Core.Bool.{Bool, true, false, cond}
+use mathlib.Core.List.{List}
+use mathlib.Core.Option.{none, some}
+use Prim.Native.Nat.{ℕ, _<_}
+use lib.Dec.{T, eqb}
+use Rattle.theory.specs.order.Recording.{Op, Event, act, kind, ActsIn, acts, isAccess}
+use Rattle.theory.specs.fillings.Completion.{rounds, nothing, Filling, filling}
+use Rattle.theory.specs.history.History.{latestNumber}
+use Rattle.theory.specs.tables.Reckonings.{clockApart, setApart, clockMask, setMask, lowestTask}
+use Rattle.theory.specs.verdicts.Search.{judged, judge, partner}
+use Rattle.theory.specs.feeding.Step.{verdictBy, judgedBy}
+use Rattle.theory.specs.feeding.Feeding.{verdictAnswer}
+use Rattle.theory.proofs.basics.Reflects.{Reflects, right, wrong, by-test}
+use Rattle.theory.proofs.order.Places.{Occurs}
+use Rattle.theory.proofs.verdicts.Search.{Candidate}
+use Rattle.theory.proofs.tables.ClockTables.{ExactClocks}
+use Rattle.theory.proofs.tables.SetTables.{ExactSets}
+use Rattle.theory.proofs.history.Slots.{ExactHistory}
+use Rattle.theory.proofs.history.Numbers.{Ranged}
+use Rattle.theory.proofs.tables.Reckoned.{clock-sound, clock-complete, set-sound, set-complete}
+use Rattle.theory.proofs.tables.Masked.{foundBy, mask-partner}
+
+-- The masks of an access
+
+pub same-test : {a b : Bool} → (T a → T b) → (T b → T a) → a ≡ b
+same-test {a} {b} f g = decided (by-test a) (by-test b)
+  where
+    decided : {c d : Bool} → Reflects (T a) c → Reflects (T b) d → c ≡ d
+    decided (right x) (right y) = refl
+    decided (right x) (wrong n) = absurd (n (f x))
+    decided (wrong n) (right y) = absurd (n (g y))
+    decided (wrong n) (wrong m) = refl
+
+-- a candidate's task is one of the sixteen
+task-of : {g : ℕ → List Event} {f : Event} {es : List Event} {u i : ℕ} → Ranged es → Candidate g f es u i → u < 16
+task-of {es = es} r c = acting (c .apart .acting) (c .occurs)
+  where
+    acting : {u i : ℕ} {e : Event} {after : List Event} → ActsIn u e → Occurs es i e after → u < 16
+    acting acts o = r .in-range _ _ _ _ _ o .0
+
+module _ {w : Filling} {es : List Event} {last : List ℕ} (p : Op) (t v : ℕ) (h : ExactHistory es last) (r : Ranged es) (ap : T (isAccess p)) (ht : t < 16) (hv : v < 64) where
+  pub clock-finds : {b : List ℕ} → ExactClocks w es b → foundBy (latestNumber last (kind p) v) (clockMask b last (kind p) t v) ≡ partner (filling w) (act p t v) 1 es
+  clock-finds {b} x =
+      mask-partner (clockApart b last (kind p) t v) (latestNumber last (kind p) v) (clock-sound p t v x h ap ht hv)
+      (λ u i c. (task-of r c, clock-complete p t v x h ap ht hv u i (task-of r c) c))
+
+  pub set-finds : {b : List ℕ} → ExactSets w es b → foundBy (latestNumber last (kind p) v) (setMask b last (kind p) t v) ≡ partner (filling w) (act p t v) 1 es
+  set-finds {b} x =
+      mask-partner (setApart b last (kind p) t v) (latestNumber last (kind p) v) (set-sound p t v x h ap ht hv)
+      (λ u i c. (task-of r c, set-complete p t v x h ap ht hv u i (task-of r c) c))
+
+-- the answer that masks make is that of what they find
+answer-found : (a b : Bool) (last : List ℕ) (k on number fm am : ℕ) →
+    verdictBy a b last k on number fm am
+    ≡ verdictAnswer number
+    ((judged (cond a none (some (record { task = lowestTask fm; number = latestNumber last k on (lowestTask fm) }))) (cond b none (some (record { task = lowestTask am; number = latestNumber last k on (lowestTask am) })))) .verdict)
+    ((judged (cond a none (some (record { task = lowestTask fm; number = latestNumber last k on (lowestTask fm) }))) (cond b none (some (record { task = lowestTask am; number = latestNumber last k on (lowestTask am) })))) .partner)
+answer-found true true last k on number fm am = refl
+answer-found true false last k on number fm am = refl
+answer-found false true last k on number fm am = refl
+answer-found false false last k on number fm am = refl
+
+pub judged-found : (last : List ℕ) (k on number fm am : ℕ) (f : Event) (es : List Event) →
+    foundBy (latestNumber last k on) fm ≡ partner rounds f 1 es →
+    foundBy (latestNumber last k on) am ≡ partner nothing f 1 es →
+    judgedBy last k on number fm am ≡ verdictAnswer number ((judge es f) .verdict) ((judge es f) .partner)
+unfolding judgedBy judge
+judged-found last k on number fm am f es e q = rw (← e, ← q) (answer-found (eqb fm 0) (eqb am 0) last k on number fm am)

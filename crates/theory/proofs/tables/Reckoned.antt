@@ -1,0 +1,259 @@
+-- Each reckoning on its own says which tasks' latest conflicting access has no path to an access: just where Order has none, in the
+-- recording as it arrived and in the fullest filling. Assumes nothing.
+use mathlib.Core.Path.{_≡_, refl, sym, _∙_, ap, subst}
+use mathlib.Core.Bool.{Bool, _&&_, not}
+use mathlib.Core.Logic.{_↔_, _⊎_, inl, inr, _≢_}
+use mathlib.Core.List.{List}
+use Prim.Native.Nat.{ℕ, zero, suc, _≤_, _<_, zero-le, _+_, _*_}
+use native.Mathlib.Nat.{le-refl}
+use native.Mathlib.Omega.{arith}
+use lib.ListN.{getD}
+use lib.Dec.{T, ltb}
+use Rattle.theory.specs.order.Recording.{Op, Event, act, lost, kind, ActsIn, acts, isAccess}
+use Rattle.theory.specs.order.Path.{Conflict, conflict}
+use Rattle.theory.specs.fillings.Completion.{bit, fillWith, Filling, filling}
+use Rattle.theory.specs.tables.Rows.{cell}
+use Rattle.theory.specs.history.History.{askAt, slot, slots, latestSlot, latestNumber}
+use Rattle.theory.specs.tables.Reckonings.{hasSlot, knownSlots, clockApart, setApart, maskOf, setMask, clockMask}
+use Rattle.theory.proofs.basics.Reflects.{Reflects, right, wrong, by-test, equal, at-most, fails, both, passed, passes}
+use Rattle.theory.proofs.order.Leads.{Leads}
+use Rattle.theory.proofs.order.Carry.{Node, due, Acquires, own, own-next, Carry, pass, move, carry-skip, carry-append}
+use Rattle.theory.proofs.fillings.Reach.{Reach, leads-reach}
+use Rattle.theory.proofs.order.Places.{Occurs, first, next}
+use Rattle.theory.proofs.verdicts.Latest.{Final, some-after, some-occurs, occurs-after}
+use Rattle.theory.proofs.verdicts.Search.{Candidate}
+use Rattle.theory.proofs.tables.Nodes.{due-in, acquiredNode, acquires-cases, plain-acquired}
+use Rattle.theory.proofs.fillings.Came.{Came}
+use Rattle.theory.proofs.tables.ClockTables.{ExactClocks, OfTask}
+use Rattle.theory.proofs.tables.SetTables.{ExactSets, KeptIn}
+use Rattle.theory.proofs.history.Slots.{InSlot, in-slot, ExactHistory, slot-one}
+use Rattle.theory.proofs.history.Numbers.{latest-below, occurs-same, number-final, final-number}
+use Rattle.theory.proofs.order.Ops.{Role, a-take, a-give, a-look, a-set, a-start, a-join, plain, role}
+use Rattle.theory.proofs.tables.Words.{slot-known}
+use Rattle.theory.proofs.tables.Bits.{mask-ext}
+
+-- Paths to an access
+
+-- an access acquires its own task's next act and nothing else
+access-acquires : {p : Op} {t v : ℕ} {m : Node} → T (isAccess p) → Acquires m (act p t v) → m ≡ due t
+access-acquires {p} {t} {v} {m} a h = cases (role p) a (acquires-cases h)
+  where
+    cases : {p : Op} → Role p → T (isAccess p) → (m ≡ due t) ⊎ (m ≡ acquiredNode p t v) → m ≡ due t
+    cases r a (inl e) = e
+    cases (plain x) a (inr e) = e ∙ plain-acquired x t v
+    cases a-take a (inr e) = absurd a
+    cases a-give a (inr e) = absurd a
+    cases a-look a (inr e) = absurd a
+    cases a-set a (inr e) = absurd a
+    cases a-start a (inr e) = absurd a
+    cases a-join a (inr e) = absurd a
+
+module _ {w : Filling} {p : Op} {t v : ℕ} (ap : T (isAccess p)) where
+  leads-due : {e : Event} {after : List Event} → Leads e (fillWith (filling w) after) (act p t v) → Reach w e after (due t)
+  leads-due {e} {after} l = let (m, r, h) = leads-reach {w = w} {e = e} .0 l in subst (Reach w e after) (access-acquires ap h) r
+
+  due-leads : {e : Event} {after : List Event} → Reach w e after (due t) → Leads e (fillWith (filling w) after) (act p t v)
+  due-leads {e} r = leads-reach {w = w} {e = e} .1 (due t, r, own)
+
+-- what a later act of the task releases to, the earlier one releases to through it
+carry-later : {w : Filling} {u j : ℕ} {e : Event} {es after : List Event} {n : Node} → Occurs es j e after → ActsIn u e → Reach w e after n → Carry (due u) (fillWith (filling w) es) n
+carry-later first acts r = move own (r .released) (r .carried)
+carry-later {w} (next {x = act o t m} q) a r = pass (carry-later q a r)
+carry-later {w} (next {x = lost mask} q) a r = carry-append (carry-skip (filling w mask)) (carry-later q a r)
+
+reach-older : {w : Filling} {es after after′ : List Event} {i j u : ℕ} {e x : Event} {n : Node} → Occurs es i x after → Occurs es j e after′ → i < j →
+    ActsIn u x → ActsIn u e → Reach w e after′ n → Reach w x after n
+reach-older first first h a b r = absurd (omega arith)
+reach-older {u = u} first (next q) h acts b r = record { n = due u; released = own-next; carried = carry-later q b r }
+reach-older (next o) first h a b r = absurd (omega arith)
+reach-older (next o) (next q) h a b r = reach-older o q (omega arith) a b r
+
+occurs-there : {es after : List Event} {i j : ℕ} {e : Event} → i ≡ j → Occurs es j e after → Occurs es i e after
+occurs-there {es} {after} {e = e} q o = subst (λ (k : ℕ). Occurs es k e after) (sym q) o
+
+-- What a slot keeps
+
+-- a slot of a task keeps accesses of the task
+slot-task : (p : Op) {v u : ℕ} {e : Event} → v < 64 → u < 16 → InSlot (latestSlot (kind p) v u) e → ActsIn u e
+slot-task p {u = u} hv hu (in-slot {o = o} {u = t} {v = n} a h c ht hn e) =
+    subst (λ (y : ℕ). ActsIn u (act o y n)) (slot-one {a = askAt (kind p)} {a′ = a} hv hn hu ht e .2) acts
+
+-- order from an act of a task has come to the task's next act
+acts-reach : {w : Filling} {u : ℕ} {e : Event} {after : List Event} → ActsIn u e → Reach w e after (due u)
+acts-reach {u = u} acts = record { n = due u; released = own-next; carried = carry-skip _ }
+
+-- Candidates by the number
+
+-- the latest conflicting access of task u, by its number and place, with or without a path
+module _ {w : Filling} {es : List Event} {last : List ℕ} {p : Op} {t v u : ℕ} (h : ExactHistory es last) (ap : T (isAccess p)) (hv : v < 64) (hu : u < 16) (apart : u ≢ t) where
+  candidate-of : {i : ℕ} (f : Final u (act p t v) es i) → ¬ Reach w (f .x) (f .after) (due t) → Candidate (filling w) (act p t v) es u i
+  candidate-of f n =
+      record {
+        e = f .x;
+        after = f .after;
+        occurs = f .occurs;
+        apart = record { acting = f .acting; conflict = f .conflict; none = f .none; unordered = λ l. n (leads-due ap l) };
+      }
+
+final-of : {g : ℕ → List Event} {f : Event} {es : List Event} {u i : ℕ} → Candidate g f es u i → Final u f es i
+final-of c = let a = c .apart in record { x = c .e; after = c .after; occurs = c .occurs; acting = a .acting; conflict = a .conflict; none = a .none }
+
+-- a candidate's task is another than the access's
+candidate-apart : {g : ℕ → List Event} {p : Op} {t v : ℕ} {es : List Event} {u i : ℕ} → Candidate g (act p t v) es u i → u ≢ t
+candidate-apart c = of (c .apart .acting) (c .apart .conflict)
+  where
+    of : {u t v : ℕ} {p : Op} {e : Event} → ActsIn u e → Conflict e (act p t v) → u ≢ t
+    of acts (conflict n w) = n
+
+-- Clocks
+
+module _ {w : Filling} {es : List Event} {b last : List ℕ} (p : Op) (t v : ℕ) (x : ExactClocks w es b) (h : ExactHistory es last) (ap : T (isAccess p)) (ht : t < 16)
+    (hv : v < 64) where
+  -- what the cell of the task's next act and column u says
+  clock-cell : (u i : ℕ) → u < 16 → (i < cell 16 b t u) ↔ Came w (OfTask u) es i (due t)
+  clock-cell u i hu = (λ l. x .column u i hu .cells (due t) (due-in ht) .0 (record { knows = l }), λ c. x .column u i hu .cells (due t) (due-in ht) .1 c .knows)
+
+  clock-test : (u : ℕ) → Reflects (cell 16 b t u < latestNumber last (kind p) v u) (clockApart b last (kind p) t v u)
+  clock-test u = at-most (suc (cell 16 b t u)) (latestNumber last (kind p) v u)
+
+  -- the task knows of its own
+  clock-other : (u i : ℕ) → u < 16 → latestNumber last (kind p) v u ≡ suc i → cell 16 b t u < suc i → u ≢ t
+  clock-other u i hu n l e = let k = clock-cell u i hu .1 (subst (λ (y : ℕ). Came w (OfTask u) es i (due y)) e own-came) in omega arith
+    where
+      own-came : Came w (OfTask u) es i (due u)
+      own-came =
+          let d = h .held (latestSlot (kind p) v u) i (latest-below p hv hu) .0 (omega arith) in
+          let a = slot-task p hv hu (d .inside) in
+          record { j = d .j; e = d .e; after = d .after; recent = d .recent; occurs = d .occurs; chosen = a; reach = acts-reach a }
+
+  pub clock-sound : (u : ℕ) → u < 16 → T (clockApart b last (kind p) t v u) →
+      (i : ℕ) × Candidate (filling w) (act p t v) es u i × (latestNumber last (kind p) v u ≡ suc i)
+  clock-sound u hu a = found (latestNumber last (kind p) v u) refl
+    where
+      test : cell 16 b t u < latestNumber last (kind p) v u
+      test = passed (clock-test u) a
+
+      found : (l : ℕ) → latestNumber last (kind p) v u ≡ l → (i : ℕ) × Candidate (filling w) (act p t v) es u i × (latestNumber last (kind p) v u ≡ suc i)
+      found zero e = let k = test in absurd (omega arith)
+      found (suc i) e =
+          let other = clock-other u i hu e (rw e at test) in
+          let f = number-final h ap hv hu other e in
+          (i, candidate-of {w = w} h ap hv hu other f (λ r. over f r), e)
+        where
+          over : (f : Final u (act p t v) es i) → Reach w (f .x) (f .after) (due t) → ⊥
+          over f r =
+              let c = clock-cell u i hu .1 (record { j = i; e = f .x; after = f .after; recent = le-refl i; occurs = f .occurs; chosen = f .acting; reach = r }) in
+              let k = test in
+              omega arith
+
+  pub clock-complete : (u i : ℕ) → u < 16 → Candidate (filling w) (act p t v) es u i → T (clockApart b last (kind p) t v u)
+  clock-complete u i hu c = passes (clock-test u) (decided (at-most (latestNumber last (kind p) v u) (cell 16 b t u)))
+    where
+      number : latestNumber last (kind p) v u ≡ suc i
+      number = final-number h ap hv hu (candidate-apart c) (final-of c)
+
+      ordered : Came w (OfTask u) es i (due t) → Reach w (c .e) (c .after) (due t)
+      ordered d = by-place (equal i (d .j))
+        where
+          by-place : {q : Bool} → Reflects (i ≡ d .j) q → Reach w (c .e) (c .after) (due t)
+          by-place (right e) = occurs-same (λ e after. Reach w e after (due t)) (c .occurs) (occurs-there e (d .occurs)) (d .reach)
+          by-place (wrong n) = let k = d .recent in reach-older (c .occurs) (d .occurs) (omega arith) (c .apart .acting) (d .chosen) (d .reach)
+
+      decided : {q : Bool} → Reflects (latestNumber last (kind p) v u ≤ cell 16 b t u) q → cell 16 b t u < latestNumber last (kind p) v u
+      decided (right l) = absurd (c .apart .unordered (due-leads ap (ordered (clock-cell u i hu .0 (omega (arith, number))))))
+      decided (wrong l) = omega arith
+
+-- Sets
+
+module _ {w : Filling} {es : List Event} {b last : List ℕ} (p : Op) (t v : ℕ) (x : ExactSets w es b) (h : ExactHistory es last) (ap : T (isAccess p)) (ht : t < 16)
+    (hv : v < 64) where
+  set-cell : (s : ℕ) → s < slots → T (hasSlot b t s) ↔ Came w (KeptIn s) es 0 (due t)
+  set-cell s l = (λ k. x .column s l .cells (due t) (due-in ht) .0 (record { knows = k }), λ c. x .column s l .cells (due t) (due-in ht) .1 c .knows)
+
+  set-test : (u : ℕ) → Reflects ((0 < latestNumber last (kind p) v u) × (¬ T (hasSlot b t (latestSlot (kind p) v u)))) (setApart b last (kind p) t v u)
+  set-test u = both (at-most 1 (latestNumber last (kind p) v u)) (fails (by-test (hasSlot b t (latestSlot (kind p) v u))))
+
+  slot-in : (u : ℕ) → u < 16 → latestSlot (kind p) v u < slots
+  slot-in u hu = latest-below p hv hu
+
+  -- the access at the place that the slot's number tells is the one that the slot keeps
+  kept-at : (u i : ℕ) → u < 16 → latestNumber last (kind p) v u ≡ suc i → {e : Event} {after : List Event} → Occurs es i e after → KeptIn (latestSlot (kind p) v u) e after
+  kept-at u i hu n {after = rest} o =
+      let d = h .held (latestSlot (kind p) v u) i (slot-in u hu) .0 (omega arith) in
+      let k = h .held (latestSlot (kind p) v u) (d .j) (slot-in u hu) .1 (record { j = d .j; e = d .e; after = d .after; recent = le-refl _; occurs = d .occurs; inside = d .inside }) in
+      let l = d .recent in
+      let q : i ≡ d .j = omega arith in
+      (occurs-same (λ e after. InSlot (latestSlot (kind p) v u) e) o (occurs-there q (d .occurs)) (d .inside), λ s. later (some-occurs s))
+    where
+      later : (j : ℕ) × (e : Event) × (after′ : List Event) × Occurs rest j e after′ × InSlot (latestSlot (kind p) v u) e → ⊥
+      later (j, e, after′, q, a) =
+          let (j′, m, r) = occurs-after o q in
+          let k = h .held (latestSlot (kind p) v u) j′ (slot-in u hu) .1 (record { j = j′; e = e; after = after′; recent = le-refl _; occurs = r; inside = a }) in
+          omega arith
+
+  set-other : (u i : ℕ) → u < 16 → latestNumber last (kind p) v u ≡ suc i → ¬ T (hasSlot b t (latestSlot (kind p) v u)) → u ≢ t
+  set-other u i hu n f e = f (set-cell (latestSlot (kind p) v u) (slot-in u hu) .1 (subst (λ (y : ℕ). Came w (KeptIn (latestSlot (kind p) v u)) es 0 (due y)) e own-came))
+    where
+      own-came : Came w (KeptIn (latestSlot (kind p) v u)) es 0 (due u)
+      own-came =
+          let d = h .held (latestSlot (kind p) v u) i (slot-in u hu) .0 (omega arith) in
+          let k = h .held (latestSlot (kind p) v u) (d .j) (slot-in u hu) .1 (record { j = d .j; e = d .e; after = d .after; recent = le-refl _; occurs = d .occurs; inside = d .inside }) in
+          let l = d .recent in
+          let q : i ≡ d .j = omega arith in
+          let o = occurs-there q (d .occurs) in
+          record { j = i; e = d .e; after = d .after; recent = zero-le; occurs = o; chosen = kept-at u i hu n o; reach = acts-reach (slot-task p hv hu (d .inside)) }
+
+  pub set-sound : (u : ℕ) → u < 16 → T (setApart b last (kind p) t v u) →
+      (i : ℕ) × Candidate (filling w) (act p t v) es u i × (latestNumber last (kind p) v u ≡ suc i)
+  set-sound u hu a = found (latestNumber last (kind p) v u) refl
+    where
+      test : (0 < latestNumber last (kind p) v u) × (¬ T (hasSlot b t (latestSlot (kind p) v u)))
+      test = passed (set-test u) a
+
+      found : (l : ℕ) → latestNumber last (kind p) v u ≡ l → (i : ℕ) × Candidate (filling w) (act p t v) es u i × (latestNumber last (kind p) v u ≡ suc i)
+      found zero e = let k = test .0 in absurd (omega arith)
+      found (suc i) e =
+          let other = set-other u i hu e (test .1) in
+          let f = number-final h ap hv hu other e in
+          (i, candidate-of {w = w} h ap hv hu other f (λ r. over f r), e)
+        where
+          over : (f : Final u (act p t v) es i) → Reach w (f .x) (f .after) (due t) → ⊥
+          over f r =
+              test .1 (set-cell (latestSlot (kind p) v u) (slot-in u hu) .1
+              (record { j = i; e = f .x; after = f .after; recent = zero-le; occurs = f .occurs; chosen = kept-at u i hu e (f .occurs); reach = r }))
+
+  pub set-complete : (u i : ℕ) → u < 16 → Candidate (filling w) (act p t v) es u i → T (setApart b last (kind p) t v u)
+  set-complete u i hu c = passes (set-test u) (omega (arith, number), λ a. c .apart .unordered (due-leads ap (ordered (set-cell (latestSlot (kind p) v u) (slot-in u hu) .0 a))))
+    where
+      number : latestNumber last (kind p) v u ≡ suc i
+      number = final-number h ap hv hu (candidate-apart c) (final-of c)
+
+      -- the slot keeps one access, the candidate
+      ordered : Came w (KeptIn (latestSlot (kind p) v u)) es 0 (due t) → Reach w (c .e) (c .after) (due t)
+      ordered d = by-place (equal i (d .j))
+        where
+          held-number : d .j < latestNumber last (kind p) v u
+          held-number = h .held (latestSlot (kind p) v u) (d .j) (slot-in u hu) .1 (record { j = d .j; e = d .e; after = d .after; recent = le-refl _; occurs = d .occurs; inside = d .chosen .0 })
+
+          by-place : {q : Bool} → Reflects (i ≡ d .j) q → Reach w (c .e) (c .after) (due t)
+          by-place (right e) = occurs-same (λ e after. Reach w e after (due t)) (c .occurs) (occurs-there e (d .occurs)) (d .reach)
+          by-place (wrong n) = absurd (d .chosen .1 (some-after (d .occurs) (c .occurs) (omega (arith, number, held-number)) (kept-at u i hu number (c .occurs) .0)))
+
+-- By rows
+
+-- the clocks' mask from the task's row and from what the history has for the kind
+pub mask-by-rows : (b last : List ℕ) (k t v : ℕ) {row from : ℕ} → row ≡ t * 16 → from ≡ slot (askAt k) v 0 →
+    maskOf (λ u. ltb (getD b (row + u) 0) (getD last (from + u) 0)) ≡ clockMask b last k t v
+mask-by-rows b last k t v e q =
+    mask-ext _ (clockApart b last k t v) (λ u h. let p : slot (askAt k) v 0 + u ≡ slot (askAt k) v u = omega arith in rw (e, q, p))
+
+-- By words
+
+-- whether order from task u's latest conflicting access has not come, by a word with a bit for each task
+abbrev pub apartBy : List ℕ → ℕ → ℕ → ℕ → ℕ → Bool
+apartBy last k v x u = ltb 0 (latestNumber last k v u) && not (bit x u)
+
+-- with what a row knows of what the kind asks it is the test of the sets, so that the tasks that pass are the mask of the sets
+pub mask-by : (b last : List ℕ) (k t v : ℕ) {x : ℕ} → x ≡ knownSlots b t (askAt k) v → maskOf (apartBy last k v x) ≡ setMask b last k t v
+mask-by b last k t v e =
+    rw e (mask-ext _ (setApart b last k t v) (λ u h. ap (λ (c : Bool). ltb 0 (latestNumber last k v u) && not c) (sym (slot-known b t (askAt k) v u h))))

@@ -1,0 +1,3 @@
+-- Which records are accepted: the table of refusals, and the control table that it is read from
+pub mod Table
+pub mod Control

@@ -1,0 +1,33 @@
+-- The control table: each task's phase, 0 for unseen, 1 for live and 2 for ended, then the count of accepted records.
+use Prim.Native.Nat.{ℕ, _+_}
+use mathlib.Core.Bool.{Bool, cond}
+use mathlib.Core.List.{List}
+use lib.Dec.{eqb}
+use lib.ListN.{getD, set}
+use Rattle.theory.specs.declared.record.Record.{Record}
+use Rattle.theory.specs.order.Recording.{Op, kind}
+use Rattle.theory.specs.acceptance.Table.{Standing, refusalBy}
+
+abbrev pub liveIn : List ℕ → ℕ → Bool
+liveIn control t = eqb (getD control t 0) 1
+
+abbrev pub unseenIn : List ℕ → ℕ → Bool
+unseenIn control t = eqb (getD control t 0) 0
+
+abbrev pub countIn : List ℕ → ℕ
+countIn control = getD control 16 0
+
+abbrev pub standingIn : List ℕ → Standing
+standingIn control = record { live = liveIn control; unseen = unseenIn control; count = countIn control }
+
+-- the refusal of a record
+abbrev pub refusalIn : List ℕ → Record → ℕ
+refusalIn control r = refusalBy (standingIn control) r
+
+abbrev pub counted : List ℕ → List ℕ
+counted control = set control 16 (countIn control + 1)
+
+-- the table after an accepted record
+abbrev pub controlAfter : ℕ → ℕ → List ℕ → List ℕ
+controlAfter k on control =
+    cond (eqb k (kind Op.start)) (counted (set control on 1)) (cond (eqb k (kind Op.join)) (counted (set control on 2)) (counted control))

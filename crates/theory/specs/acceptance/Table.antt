@@ -1,0 +1,149 @@
+-- Which records are accepted: rows 1 to 9 of the refusal table, over the recording so far.
+use Prim.Native.Nat.{ℕ, zero, suc, _^_, _<_}
+use mathlib.Core.Bool.{Bool, true, false, cond, not, _&&_, _||_}
+use mathlib.Core.Path.{_≡_}
+use mathlib.Core.Logic.{_≢_}
+use mathlib.Core.List.{List, [], _∷_, _++_}
+use lib.Dec.{leb, eqb}
+use lib.ListN.{length}
+use Rattle.theory.specs.declared.record.Record.{Record}
+use Rattle.theory.specs.order.Limits.{tasks, records}
+use Rattle.theory.specs.tables.Turns.{turns}
+use Rattle.theory.specs.order.Recording.{Op, start, join, Effect, keeps, begins, ends, about, Event, act, lost, kind, kinds, lossMark, seriesOf, eventOf}
+use Rattle.theory.specs.fillings.Completion.{names}
+
+-- a task is unseen until it is started, then live, then ended by a join
+pub data Phase : Type 0 where
+  unseen live ended : Phase
+
+abbrev pub isLive : Phase → Bool
+isLive unseen = false
+isLive live = true
+isLive ended = false
+
+abbrev pub isUnseen : Phase → Bool
+isUnseen unseen = true
+isUnseen live = false
+isUnseen ended = false
+
+-- the phase that a task comes to by an act that names it, from its phase before
+abbrev pub phaseBy : Effect → Phase → Phase
+phaseBy keeps p = p
+phaseBy begins p = live
+phaseBy ends p = ended
+
+-- task t's phase after an event, from its phase before
+abbrev pub phaseAfter : Event → ℕ → Phase → Phase
+phaseAfter (act o u n) t p = cond (eqb n t) (phaseBy ((about o) .effect) p) p
+phaseAfter (lost mask) t p = p
+
+-- task t's phase after a list of events, from its phase p before
+abbrev pub phaseFrom : Phase → List Event → ℕ → Phase
+phaseFrom p [] t = p
+phaseFrom p (e ∷ es) t = phaseFrom (phaseAfter e t p) es t
+
+-- task t's phase after a recording: task 0 is live in a fresh state, the others are unseen
+abbrev pub phase : List Event → ℕ → Phase
+phase es t = phaseFrom (cond (eqb t zero) live unseen) es t
+
+-- the numbers of an act are in their ranges
+pub record Fitting (k task on : ℕ) : Type 0 where
+  pub task-fits : task < tasks
+  pub on-fits : on < seriesOf k
+
+-- what the code for an accepted record may rely on: an act's numbers are in their ranges, and a mark names somebody
+pub record Proper (k task on : ℕ) : Type 0 where
+  pub act-fits : k ≢ lossMark → Fitting k task on
+  pub mark-names : k ≡ lossMark → 0 < on
+
+-- a start and a join name a task
+pub record NamesTask (k on : ℕ) : Type 0 where
+  pub started : k ≡ kind start → on < tasks
+  pub joined : k ≡ kind join → on < tasks
+
+-- the record is a loss mark
+abbrev pub isMark : Record → Bool
+isMark r = eqb (r .kind) lossMark
+
+-- the record is an act, of any op and none
+abbrev pub isAct : Record → Bool
+isAct r = not (isMark r)
+
+abbrev pub hasKind : Record → Op → Bool
+hasKind r o = eqb (r .kind) (kind o)
+
+-- the test passes at one of the numbers below n at least
+abbrev pub anyBelow : ℕ → (ℕ → Bool) → Bool
+anyBelow n p = turns n (λ k b. b || p k) false
+
+-- what acceptance looks at: which tasks are live and unseen, and how many records are accepted already
+pub record Standing : Type 0 where
+  pub live : ℕ → Bool
+  pub unseen : ℕ → Bool
+  pub count : ℕ
+
+-- a row of the refusal table: its number, and whether it applies
+pub record Row : Type 0 where
+  pub number : ℕ
+  pub applies : Bool
+
+infix 30 _when_
+abbrev pub _when_ : ℕ → Bool → Row
+n when b = record { number = n; applies = b }
+
+-- the rows for a record, in the order in which they are looked at
+abbrev pub rows : Standing → Record → List Row
+rows s r =
+    -- the op is none of the kinds
+    (1 when leb (length kinds) (r .kind))
+    -- acting task above 15
+    ∷ (2 when (isAct r && leb tasks (r .task)))
+    -- `on` outside its series
+    ∷ (3 when (isAct r && leb (seriesOf (r .kind)) (r .on)))
+    -- mask 0 or above 65,535
+    ∷ (4 when (isMark r && (eqb (r .on) 0 || leb (2 ^ tasks) (r .on))))
+    -- 60,000 records are already accepted
+    ∷ (5 when leb records (s .count))
+    -- acting task not live
+    ∷ (6 when (isAct r && not (s .live (r .task))))
+    -- start of a task that is not unseen
+    ∷ (7 when (hasKind r start && not (s .unseen (r .on))))
+    -- join of the acting task
+    ∷ (8 when (hasKind r join && eqb (r .on) (r .task)))
+    -- the recordedAfter task, or any one of the marked tasks, is not live
+    ∷ (9 when ((hasKind r join && not (s .live (r .on))) || (isMark r && anyBelow tasks (λ t. names (r .on) t && not (s .live t)))))
+    ∷ []
+
+-- the highest number of a row
+abbrev pub lastRow : ℕ
+lastRow = 9
+
+-- the number of the first row that applies; 0 where none does
+abbrev pub firstRow : List Row → ℕ
+firstRow [] = zero
+firstRow (x ∷ xs) = cond (x .applies) (x .number) (firstRow xs)
+
+-- the refusal that a record gets by the table; 0 where it is accepted
+unfoldable pub refusalBy : Standing → Record → ℕ
+refusalBy s r = firstRow (rows s r)
+
+-- after a recording
+abbrev pub standing : List Event → Standing
+standing es = record { live = λ t. isLive (phase es t); unseen = λ t. isUnseen (phase es t); count = length es }
+
+abbrev pub refusal : List Event → Record → ℕ
+refusal es r = refusalBy (standing es) r
+
+-- the recording after a record was fed that got the refusal n: accepted records join it, refused ones leave it as it was
+abbrev pub recordedAfter : List Event → Record → ℕ → List Event
+recordedAfter es r zero = es ++ (eventOf r ∷ [])
+recordedAfter es r (suc n) = es
+
+-- the recording after the records of a list were fed one after the other
+abbrev pub fedAfter : List Event → List Record → List Event
+fedAfter es [] = es
+fedAfter es (r ∷ rs) = fedAfter (recordedAfter es r (refusal es r)) rs
+
+-- "recording": those records of a list, fed from a fresh state, that were accepted
+abbrev pub recording : List Record → List Event
+recording = fedAfter []

@@ -1,0 +1,4 @@
+-- The step, how contracts name its state, and the demands on what feeding answers
+pub mod Step
+pub mod Lent
+pub mod Feeding

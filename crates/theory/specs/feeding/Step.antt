@@ -1,0 +1,126 @@
+-- The step: what feeding a record to a state answers and leaves. One definition for the steps by value and in place. The running state is
+-- that of the clocks; the sets have a state and a step of their own.
+use Prim.Native.Nat.{ℕ, zero, suc, _+_}
+use mathlib.Core.Bool.{Bool, true, false, cond}
+use mathlib.Core.List.{List, [], _∷_}
+use lib.Dec.{eqb}
+use lib.ListN.{replicate, set}
+use Rattle.theory.specs.declared.record.Record.{Record}
+use Rattle.theory.specs.declared.numbers.RecordNumber.{RecordNumber}
+use Rattle.theory.specs.declared.answer.Answer.{Answer}
+use Rattle.theory.specs.declared.answer.Answer.the-variants.{Refused, Accepted, Clear, Race, Doubt}
+use Rattle.theory.specs.declared.state.State.{State}
+use Rattle.theory.specs.declared.state.Stepped.{Stepped}
+use Rattle.theory.specs.declared.state.SetState.{SetState}
+use Rattle.theory.specs.declared.state.SetStepped.{SetStepped}
+use Rattle.theory.specs.declared.masks.Masks.{Masks}
+use Rattle.theory.specs.fillings.Completion.{arrived, full}
+use Rattle.theory.specs.acceptance.Control.{countIn, refusalIn, controlAfter}
+use Rattle.theory.specs.order.Limits.{tasks}
+use Rattle.theory.specs.order.Recording.{accesses}
+use Rattle.theory.specs.tables.Rows.{cellCount}
+use Rattle.theory.specs.history.History.{slots, latestNumber, lastAfter}
+use Rattle.theory.specs.tables.Reckonings.{slotWords, clocksBy, setsBy, masksBy, clockMasks, setMasks, lowestTask}
+
+abbrev pub recordNumber : ℕ → RecordNumber
+recordNumber n = record { 0 = n }
+
+-- an answer as three numbers, for a host that knows no enum: which case it is, document 01's number (of the refusal, or of the record), and
+-- the record number of the partner, 0 where there is none
+abbrev pub answerNumbers : Answer → List ℕ
+answerNumbers (Refused n) = 0 ∷ n ∷ 0 ∷ []
+answerNumbers (Accepted n) = 1 ∷ n .0 ∷ 0 ∷ []
+answerNumbers (Clear n) = 2 ∷ n .0 ∷ 0 ∷ []
+answerNumbers (Race n w) = 3 ∷ n .0 ∷ w .0 ∷ []
+answerNumbers (Doubt n w) = 4 ∷ n .0 ∷ w .0 ∷ []
+
+-- the answer to an accepted access, by the masks of the tasks that are apart in the fullest filling and as it arrived
+abbrev pub verdictBy : Bool → Bool → List ℕ → ℕ → ℕ → ℕ → ℕ → ℕ → Answer
+verdictBy false b last k on number full arrived = Race (recordNumber number) (recordNumber (latestNumber last k on (lowestTask full)))
+verdictBy true false last k on number full arrived = Doubt (recordNumber number) (recordNumber (latestNumber last k on (lowestTask arrived)))
+verdictBy true true last k on number full arrived = Clear (recordNumber number)
+
+unfoldable pub judgedBy : List ℕ → ℕ → ℕ → ℕ → ℕ → ℕ → Answer
+judgedBy last k on number full arrived = verdictBy (eqb full 0) (eqb arrived 0) last k on number full arrived
+
+-- the answer to an accepted record
+abbrev pub answeredBy : List ℕ → ℕ → ℕ → ℕ → Masks → Answer
+answeredBy last k on number masks =
+    cond (accesses k) (judgedBy last k on number (masks .full) (masks .arrived)) (Accepted (recordNumber number))
+
+-- the number of the next record
+abbrev pub nextNumber : List ℕ → ℕ
+nextNumber control = countIn control + 1
+
+-- By the clocks
+
+abbrev pub accepted : State → Record → Stepped
+accepted s r =
+    record {
+      state =
+          record {
+            control = controlAfter (r .kind) (r .on) (s .control);
+            last = lastAfter (r .kind) (r .task) (r .on) (nextNumber (s .control)) (s .last);
+            clocks = clocksBy arrived (r .kind) (r .task) (r .on) (nextNumber (s .control)) (s .clocks);
+            fullclocks = clocksBy full (r .kind) (r .task) (r .on) (nextNumber (s .control)) (s .fullclocks);
+          };
+      answer =
+          answeredBy (s .last) (r .kind) (r .on) (nextNumber (s .control)) (clockMasks (s .clocks) (s .fullclocks) (s .last) (r .kind) (r .task) (r .on));
+    }
+
+-- a refused record leaves the state as it was
+abbrev pub stepBy : ℕ → State → Record → Stepped
+stepBy zero s r = accepted s r
+stepBy (suc n) s r = record { state = s; answer = Refused (suc n) }
+
+unfoldable pub stepOf : State → Record → Stepped
+stepOf s r = stepBy (refusalIn (s .control) r) s r
+
+-- By the sets
+
+abbrev pub setAccepted : SetState → Record → SetStepped
+setAccepted s r =
+    record {
+      state =
+          record {
+            control = controlAfter (r .kind) (r .on) (s .control);
+            last = lastAfter (r .kind) (r .task) (r .on) (nextNumber (s .control)) (s .last);
+            sets = setsBy arrived (r .kind) (r .task) (r .on) (s .sets);
+            fullsets = setsBy full (r .kind) (r .task) (r .on) (s .fullsets);
+          };
+      answer =
+          answeredBy (s .last) (r .kind) (r .on) (nextNumber (s .control)) (setMasks (s .sets) (s .fullsets) (s .last) (r .kind) (r .task) (r .on));
+    }
+
+abbrev pub setStepBy : ℕ → SetState → Record → SetStepped
+setStepBy zero s r = setAccepted s r
+setStepBy (suc n) s r = record { state = s; answer = Refused (suc n) }
+
+unfoldable pub setStepOf : SetState → Record → SetStepped
+setStepOf s r = setStepBy (refusalIn (s .control) r) s r
+
+-- a record as it is fed, from its numbers
+abbrev pub recordOf : ℕ → ℕ → ℕ → Record
+recordOf kind task on = record { kind = kind; task = task; on = on }
+
+-- the masks that a record is asked for, by the refusal that it would get: none where it would be refused
+abbrev pub masksUnless : ℕ → Masks → Masks
+masksUnless zero masks = masks
+masksUnless (suc n) masks = masksBy 0 0
+
+abbrev pub apartByClocks : State → Record → Masks
+apartByClocks s r = masksUnless (refusalIn (s .control) r) (clockMasks (s .clocks) (s .fullclocks) (s .last) (r .kind) (r .task) (r .on))
+
+abbrev pub apartBySets : SetState → Record → Masks
+apartBySets s r = masksUnless (refusalIn (s .control) r) (setMasks (s .sets) (s .fullsets) (s .last) (r .kind) (r .task) (r .on))
+
+-- Fresh states: task 0 is live, and nothing else is known
+
+abbrev pub freshControl : List ℕ
+freshControl = set (replicate 17 0) 0 1
+
+unfoldable pub freshState : State
+freshState = record { control = freshControl; last = replicate slots 0; clocks = replicate (cellCount tasks) 0; fullclocks = replicate (cellCount tasks) 0 }
+
+unfoldable pub freshSets : SetState
+freshSets = record { control = freshControl; last = replicate slots 0; sets = replicate (cellCount slotWords) 0; fullsets = replicate (cellCount slotWords) 0 }

@@ -1,0 +1,2 @@
+-- The kept accesses
+pub mod History

@@ -1,0 +1,50 @@
+-- The kept accesses, by the kind that asks: for each kind of access, variable and task the record number of the task's latest access to the
+-- variable that clashes with one of that kind, which is "its latest conflicting earlier access"; 0 where there is none.
+use Prim.Native.Nat.{ℕ, _+_, _*_}
+use mathlib.Core.Bool.{Bool, false, cond}
+use mathlib.Core.List.{List, [], _∷_}
+use lib.ListN.{getD, set, length}
+use Rattle.theory.specs.tables.Turns.{turns}
+use Rattle.theory.specs.order.Recording.{Op, read, write, about, accessNumber, opOf, Kind, of-op, of-mark, kindAt}
+use Rattle.theory.specs.order.Path.{clashes}
+
+-- the kinds of access by their numbers
+abbrev pub askers : List Op
+askers = read ∷ write ∷ []
+
+abbrev pub asker : ℕ → Op
+asker a = getD askers a read
+
+-- the number of a kind of access among them
+abbrev pub askAt : ℕ → ℕ
+askAt k = accessNumber ((about (opOf k)) .access)
+
+-- where it is kept what an access of the kind that has number a, to variable v, asks of task u
+abbrev pub slot : ℕ → ℕ → ℕ → ℕ
+slot a v u = (a * 64 + v) * 16 + u
+
+abbrev pub slots : ℕ
+slots = length askers * 64 * 16
+
+abbrev pub lastOf : List ℕ → ℕ → ℕ
+lastOf last s = getD last s 0
+
+-- task u's latest access to v that conflicts with one of kind k, by its slot and its record number
+abbrev pub latestSlot : ℕ → ℕ → ℕ → ℕ
+latestSlot k v u = slot (askAt k) v u
+
+abbrev pub latestNumber : List ℕ → ℕ → ℕ → ℕ → ℕ
+latestNumber last k v u = lastOf last (latestSlot k v u)
+
+-- what a record of a kind says clashes with an access of op p
+abbrev pub clashBy : Kind → Op → Bool
+clashBy (of-op o) p = clashes o p
+clashBy of-mark p = false
+
+-- f at each slot that an access of kind k to v by task u is kept in: under each kind that it clashes with. What is no access is kept nowhere
+unfoldable pub underEach : {A : Type 0} → (ℕ → A → A) → ℕ → ℕ → ℕ → A → A
+underEach f k v u b = turns (length askers) (λ a b. cond (clashBy (kindAt k) (asker a)) (f (slot a v u) b) b) b
+
+-- the history after an accepted record
+abbrev pub lastAfter : ℕ → ℕ → ℕ → ℕ → List ℕ → List ℕ
+lastAfter k task on number last = underEach (λ s l. set l s number) k on task last

@@ -1,0 +1,22 @@
+-- The limits of document 01, each in one place. crates/theory/src/limits.rt has them for the code.
+use Prim.Native.Nat.{ℕ}
+
+-- the tasks are 0 to 15
+abbrev pub tasks : ℕ
+tasks = 16
+
+-- the semaphores are 0 to 31
+abbrev pub semaphores : ℕ
+semaphores = 32
+
+-- the flags are 0 to 31
+abbrev pub flags : ℕ
+flags = 32
+
+-- the variables are 0 to 63
+abbrev pub variables : ℕ
+variables = 64
+
+-- a recording has at most this many records
+abbrev pub records : ℕ
+records = 60_000

@@ -1,0 +1,40 @@
+-- Steps and paths ("Order"), and which accesses conflict.
+use Prim.Native.Nat.{ℕ, _<_}
+use mathlib.Core.List.{List}
+use mathlib.Core.Logic.{_≢_}
+use mathlib.Core.Bool.{Bool, _&&_, _||_}
+use lib.Dec.{T}
+use Rattle.theory.specs.order.Recording.{Op, write, take, give, look, set, start, join, Event, act, At, isAccess, _is_}
+
+-- "step", by what the two records say: the five lines of document 01, in their order. A loss mark has no step to or from it.
+pub data Step : Event → Event → Type 0 where
+  same-task : {o p : Op} {t n m : ℕ} → Step (act o t n) (act p t m)
+  gives-takes : {t u s : ℕ} → Step (act give t s) (act take u s)
+  sets-looks : {t u f : ℕ} → Step (act set t f) (act look u f)
+  starts : {p : Op} {t u m : ℕ} → Step (act start t u) (act p u m)
+  joins : {o : Op} {t u n : ℕ} → Step (act o u n) (act join t u)
+
+-- "a step from record i to a later record j" of a list, by their places
+pub record StepAt (es : List Event) (i j : ℕ) : Type 0 where
+  pub e : Event
+  pub f : Event
+  pub from : At es i e
+  pub to : At es j f
+  pub later : i < j
+  pub step : Step e f
+
+-- "path": one or more steps. This is the happens-before relation.
+pub data HappensBefore (es : List Event) : ℕ → ℕ → Type 0 where
+  one : {i j : ℕ} → StepAt es i j → HappensBefore es i j
+  more : {i j k : ℕ} → StepAt es i j → HappensBefore es j k → HappensBefore es i k
+
+-- which two accesses clash: "at least one writes"
+unfoldable pub rule : Op → Op → Bool
+rule o p = o is write || p is write
+
+abbrev pub clashes : Op → Op → Bool
+clashes o p = isAccess o && (isAccess p && rule o p)
+
+-- "two accesses conflict": the variable is the same, the tasks differ and at least one writes
+pub data Conflict : Event → Event → Type 0 where
+  conflict : {o p : Op} {t u v : ℕ} → t ≢ u → T (clashes o p) → Conflict (act o t v) (act p u v)

@@ -1,0 +1,24 @@
+// The number of each kind of record, as `kind` and `lossMark` of specs/order/Recording.antt have it.
+pub const READ: u8 = 0;
+
+pub const WRITE: u8 = 1;
+
+pub const TAKE: u8 = 2;
+
+pub const GIVE: u8 = 3;
+
+pub const LOOK: u8 = 4;
+
+pub const SET: u8 = 5;
+
+pub const START: u8 = 6;
+
+pub const JOIN: u8 = 7;
+
+pub const LOST: u8 = 8;
+
+// How many of the kinds are accesses: each asks the history.
+pub const ASKERS: usize = 2;
+
+// How many kinds there are.
+pub const KINDS: u8 = LOST + 1;
