@@ -15,7 +15,7 @@ use Rattle.theory.specs.declared.state.SetState.{SetState}
 use Rattle.theory.specs.declared.state.SetStepped.{SetStepped}
 use Rattle.theory.specs.declared.masks.Masks.{Masks}
 use Rattle.theory.specs.fillings.Completion.{arrived, full}
-use Rattle.theory.specs.acceptance.Control.{countIn, refusalIn, controlAfter}
+use Rattle.theory.specs.acceptance.Control.{controlCells, countIn, refusalIn, controlAfter}
 use Rattle.theory.specs.order.Limits.{tasks}
 use Rattle.theory.specs.order.Recording.{accesses}
 use Rattle.theory.specs.tables.Rows.{cellCount}
@@ -117,7 +117,7 @@ apartBySets s r = masksUnless (refusalIn (s .control) r) (setMasks (s .sets) (s 
 -- Fresh states: task 0 is live, and nothing else is known
 
 abbrev pub freshControl : List ℕ
-freshControl = set (replicate 17 0) 0 1
+freshControl = set (replicate controlCells 0) 0 1
 
 unfoldable pub freshState : State
 freshState = record { control = freshControl; last = replicate slots 0; clocks = replicate (cellCount tasks) 0; fullclocks = replicate (cellCount tasks) 0 }

@@ -5,6 +5,7 @@ use mathlib.Core.Bool.{Bool, false, cond}
 use mathlib.Core.List.{List, [], _∷_}
 use lib.ListN.{getD, set, length}
 use Rattle.theory.specs.tables.Turns.{turns}
+use Rattle.theory.specs.order.Limits.{tasks, variables}
 use Rattle.theory.specs.order.Recording.{Op, read, write, about, accessNumber, opOf, Kind, of-op, of-mark, kindAt}
 use Rattle.theory.specs.order.Path.{clashes}
 
@@ -21,10 +22,10 @@ askAt k = accessNumber ((about (opOf k)) .access)
 
 -- where it is kept what an access of the kind that has number a, to variable v, asks of task u
 abbrev pub slot : ℕ → ℕ → ℕ → ℕ
-slot a v u = (a * 64 + v) * 16 + u
+slot a v u = (a * variables + v) * tasks + u
 
 abbrev pub slots : ℕ
-slots = length askers * 64 * 16
+slots = length askers * variables * tasks
 
 abbrev pub lastOf : List ℕ → ℕ → ℕ
 lastOf last s = getD last s 0
