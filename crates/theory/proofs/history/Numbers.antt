@@ -13,6 +13,7 @@ use lib.ListN.{length}
 use Rattle.theory.specs.order.Recording.{Op, Event, act, lost, series, kind, about, accessNumber, Kind, of-op, of-mark, _is_, ActsIn, acts, isAccess}
 use Rattle.theory.specs.order.Path.{clashes, Conflict, conflict}
 use Rattle.theory.specs.history.History.{askers, asker, askAt, slots, latestSlot, latestNumber}
+use Rattle.theory.specs.order.Limits.{tasks, variables}
 use Rattle.theory.proofs.basics.Reflects.{Reflects, right, wrong, at-most, by-test, is-true, passed}
 use Rattle.theory.proofs.order.Places.{Occurs, first, next}
 use Rattle.theory.proofs.order.Tests.{Again}
@@ -25,22 +26,22 @@ use Rattle.theory.proofs.order.Ops.{opOf-kind, same-op, each-op}
 
 -- the acts of a recording have numbers in their ranges
 pub record Ranged (es : List Event) : Type 0 where
-  pub in-range : (j : ℕ) (o : Op) (u n : ℕ) (after : List Event) → Occurs es j (act o u n) after → (u < 16) × (n < series o)
+  pub in-range : (j : ℕ) (o : Op) (u n : ℕ) (after : List Event) → Occurs es j (act o u n) after → (u < tasks) × (n < series o)
 
 pub fresh-ranged : Ranged []
 fresh-ranged = record { in-range = λ j o u n after q. elim q [ ] }
 
-pub ranged-act : {es : List Event} (o : Op) {t n : ℕ} → t < 16 → n < series o → Ranged es → Ranged (es ++ (act o t n ∷ []))
+pub ranged-act : {es : List Event} (o : Op) {t n : ℕ} → t < tasks → n < series o → Ranged es → Ranged (es ++ (act o t n ∷ []))
 ranged-act {es} o {t} {n} ht hn r = record { in-range = λ j p u m after q. cases (occurs-snoc es q) }
   where
-    cases : {j : ℕ} {p : Op} {u m : ℕ} {after : List Event} → Snoc es (act o t n) j (act p u m) after → (u < 16) × (m < series p)
+    cases : {j : ℕ} {p : Op} {u m : ℕ} {after : List Event} → Snoc es (act o t n) j (act p u m) after → (u < tasks) × (m < series p)
     cases (old q) = r .in-range _ _ _ _ _ q
     cases new = (ht, hn)
 
 pub ranged-mark : {es : List Event} (mask : ℕ) → Ranged es → Ranged (es ++ (lost mask ∷ []))
 ranged-mark {es} mask r = record { in-range = λ j p u m after q. cases (occurs-snoc es q) }
   where
-    cases : {j : ℕ} {p : Op} {u m : ℕ} {after : List Event} → Snoc es (lost mask) j (act p u m) after → (u < 16) × (m < series p)
+    cases : {j : ℕ} {p : Op} {u m : ℕ} {after : List Event} → Snoc es (lost mask) j (act p u m) after → (u < tasks) × (m < series p)
     cases (old q) = r .in-range _ _ _ _ _ q
 
 -- Conflicting accesses by slots
@@ -60,10 +61,10 @@ asker-op p a = rw (opOf-kind p) (passed (same-op (asker (accessNumber ((about p)
     is-asker (of-op o) = not (isAccess o) || asker (accessNumber ((about o) .access)) is o
     is-asker of-mark = true
 
-pub latest-below : (p : Op) {v u : ℕ} → v < 64 → u < 16 → latestSlot (kind p) v u < slots
+pub latest-below : (p : Op) {v u : ℕ} → v < variables → u < tasks → latestSlot (kind p) v u < slots
 latest-below p hv hu = slot-below (asker-below p) hv hu
 
-module _ {p : Op} {t v u : ℕ} (ap : T (isAccess p)) (hv : v < 64) (hu : u < 16) where
+module _ {p : Op} {t v u : ℕ} (ap : T (isAccess p)) (hv : v < variables) (hu : u < tasks) where
   slot-conflict : u ≢ t → {e : Event} → InSlot (latestSlot (kind p) v u) e → ActsIn u e × Conflict e (act p t v)
   slot-conflict apart (in-slot {o = o} {u = u′} {v = v′} a h c hu′ hv′ e) =
       let (ea, ev, eu) = slot-one {a = askAt (kind p)} {a′ = a} hv hv′ hu hu′ e in
@@ -91,7 +92,7 @@ pub occurs-same : (P : Event → List Event → Type 0) {es after after′ : Lis
 occurs-same P first first x = x
 occurs-same P (next o) (next q) x = occurs-same P o q x
 
-module _ {es : List Event} {last : List ℕ} {p : Op} {t v u : ℕ} (h : ExactHistory es last) (ap : T (isAccess p)) (hv : v < 64) (hu : u < 16) (apart : u ≢ t) where
+module _ {es : List Event} {last : List ℕ} {p : Op} {t v u : ℕ} (h : ExactHistory es last) (ap : T (isAccess p)) (hv : v < variables) (hu : u < tasks) (apart : u ≢ t) where
   number-conflicts : (m : ℕ) → (m < latestNumber last (kind p) v u) ↔ ((j : ℕ) × (m ≤ j) × ConflictAt es u (act p t v) j)
   number-conflicts m = (to, from)
     where
