@@ -36,7 +36,7 @@ same-test {a} {b} f g = decided (by-test a) (by-test b)
 
 -- a candidate's task is one of the sixteen
 task-of : {g : ℕ → List Event} {f : Event} {es : List Event} {u i : ℕ} → Ranged es → Candidate g f es u i → u < tasks
-task-of {es = es} r c = acting (c .apart .acting) (c .occurs)
+task-of {es = es} r c = acting (c .apart .against .by) (c .occurs)
   where
     acting : {u i : ℕ} {e : Event} {after : List Event} → ActsIn u e → Occurs es i e after → u < tasks
     acting acts o = r .in-range _ _ _ _ _ o .0

@@ -30,8 +30,8 @@ candidate-one : {g : ℕ → List Event} {f : Event} {es : List Event} {t i j : 
 candidate-one {i = i} {j = j} c d = decided (at-most (suc i) j) (at-most (suc j) i)
   where
     decided : {a b : Bool} → Reflects (i < j) a → Reflects (j < i) b → i ≡ j
-    decided (right h) q = absurd (c .apart .none (some-after (c .occurs) (d .occurs) h (d .apart .acting, d .apart .conflict)))
-    decided (wrong h) (right l) = absurd (d .apart .none (some-after (d .occurs) (c .occurs) l (c .apart .acting, c .apart .conflict)))
+    decided (right h) q = absurd (c .apart .none (some-after (c .occurs) (d .occurs) h (d .apart .against .by, d .apart .against .conflict)))
+    decided (wrong h) (right l) = absurd (d .apart .none (some-after (d .occurs) (c .occurs) l (c .apart .against .by, c .apart .against .conflict)))
     decided (wrong h) (wrong l) = omega arith
 
 found-same : {x y : Found} → x .task ≡ y .task → x .number ≡ y .number → x ≡ y

@@ -93,15 +93,15 @@ module _ {w : Filling} {es : List Event} {last : List ℕ} {p : Op} {t v u : ℕ
         e = f .x;
         after = f .after;
         occurs = f .occurs;
-        apart = record { acting = f .acting; conflict = f .conflict; none = f .none; unordered = λ l. n (leads-due ap l) };
+        apart = record { against = f .against; none = f .none; unordered = λ l. n (leads-due ap l) };
       }
 
 final-of : {g : ℕ → List Event} {f : Event} {es : List Event} {u i : ℕ} → Candidate g f es u i → Final u f es i
-final-of c = let a = c .apart in record { x = c .e; after = c .after; occurs = c .occurs; acting = a .acting; conflict = a .conflict; none = a .none }
+final-of c = let a = c .apart in record { x = c .e; after = c .after; occurs = c .occurs; against = a .against; none = a .none }
 
 -- a candidate's task is another than the access's
 candidate-apart : {g : ℕ → List Event} {p : Op} {t v : ℕ} {es : List Event} {u i : ℕ} → Candidate g (act p t v) es u i → u ≢ t
-candidate-apart c = of (c .apart .acting) (c .apart .conflict)
+candidate-apart c = of (c .apart .against .by) (c .apart .against .conflict)
   where
     of : {u t v : ℕ} {p : Op} {e : Event} → ActsIn u e → Conflict e (act p t v) → u ≢ t
     of acts (conflict n w) = n
@@ -143,7 +143,7 @@ module _ {w : Filling} {es : List Event} {b last : List ℕ} (p : Op) (t v : ℕ
         where
           over : (f : Final u (act p t v) es i) → Reach w (f .x) (f .after) (due t) → ⊥
           over f r =
-              let c = clock-cell u i hu .1 (record { j = i; e = f .x; after = f .after; recent = le-refl i; occurs = f .occurs; chosen = f .acting; reach = r }) in
+              let c = clock-cell u i hu .1 (record { j = i; e = f .x; after = f .after; recent = le-refl i; occurs = f .occurs; chosen = f .against .by; reach = r }) in
               let k = test in
               omega arith
 
@@ -158,7 +158,7 @@ module _ {w : Filling} {es : List Event} {b last : List ℕ} (p : Op) (t v : ℕ
         where
           by-place : {q : Bool} → Reflects (i ≡ d .j) q → Reach w (c .e) (c .after) (due t)
           by-place (right e) = occurs-same (λ e after. Reach w e after (due t)) (c .occurs) (occurs-there e (d .occurs)) (d .reach)
-          by-place (wrong n) = let k = d .recent in reach-older (c .occurs) (d .occurs) (omega arith) (c .apart .acting) (d .chosen) (d .reach)
+          by-place (wrong n) = let k = d .recent in reach-older (c .occurs) (d .occurs) (omega arith) (c .apart .against .by) (d .chosen) (d .reach)
 
       decided : {q : Bool} → Reflects (latestNumber last (kind p) v u ≤ cell tasks b t u) q → cell tasks b t u < latestNumber last (kind p) v u
       decided (right l) = absurd (c .apart .unordered (due-leads ap (ordered (clock-cell u i hu .0 (omega (arith, number))))))
