@@ -1,10 +1,10 @@
 -- Each reckoning on its own says "path" exactly where Order has one, after every list, marks included, as it arrived and in the fullest
 -- filling; so the two match. The statements are in specs/feeding/Feeding.antt. Assumes nothing.
-use mathlib.Core.Path.{_≡_, refl, sym, _∙_, ap₂, subst}
+use mathlib.Core.Path.{_≡_, refl, sym, _∙_, ap, ap₂, subst}
 use mathlib.Core.Bool.{Bool, true, false, true≢false}
 use Rattle.theory.proofs.basics.Reflects.{Reflects, right, wrong, by-test}
 use mathlib.Core.Logic.{_↔_}
-use mathlib.Core.List.{List, [], _∷_, _++_}
+use mathlib.Core.List.{List, [], _∷_, _++_, map}
 use Prim.Native.Nat.{ℕ, zero, suc, _<_}
 use lib.Dec.{T}
 use lib.ListN.{length}
@@ -16,8 +16,12 @@ use Rattle.theory.specs.order.Recording.{Op, Event, act, kind, eventOf, 
 use Rattle.theory.specs.acceptance.Table.{refusal, recording}
 use Rattle.theory.specs.verdicts.Verdict.{Latest, ApartAsArrived, ApartInAll}
 use Rattle.theory.specs.tables.Reckonings.{clockApart, setApart, maskOf, masksBy, clockMasks, setMasks}
-use Rattle.theory.specs.feeding.Step.{masksUnless, apartByClocks, apartBySets, freshState, freshSets}
-use Rattle.theory.specs.feeding.Feeding.{afterAll, byClocks, bySets, SaysPaths, ClockPaths, SetPaths, ReckoningsMatch}
+use Rattle.theory.specs.declared.answer.Answer.{Answer}
+use Rattle.theory.specs.declared.answer.Answer.the-variants as the
+use Rattle.theory.specs.verdicts.Verdict.{Verdict}
+use Rattle.theory.specs.feeding.Meaning.{Meaning, refuses, takes, judges, meaning, meanings}
+use Rattle.theory.specs.feeding.Step.{recordNumber, masksUnless, apartByClocks, apartBySets, freshState, freshSets}
+use Rattle.theory.specs.feeding.Feeding.{afterAll, byClocks, bySets, SaysPaths, ClockPaths, SetPaths, ReckoningsMatch, fed, setFed}
 use Rattle.theory.proofs.order.Places.{Ends, Occurs}
 use Rattle.theory.proofs.order.Leads.{Leads}
 use Rattle.theory.specs.fillings.Completion.{fillWith, arrived, full, filling}
@@ -124,8 +128,27 @@ same-masks {a = a} {b} {c} {d} x y =
     (mask-ext b d (λ u h. same-test (λ p. y .in-full u h .1 (x .in-full u h .0 p)) (λ q. x .in-full u h .1 (y .in-full u h .0 q))))
     (mask-ext a c (λ u h. same-test (λ p. y .as-arrived u h .1 (x .as-arrived u h .0 p)) (λ q. x .as-arrived u h .1 (y .as-arrived u h .0 q))))
 
+-- an answer is fixed by what it means
+abbrev answer-of : Meaning → Answer
+answer-of (refuses n) = the.Refused n
+answer-of (takes n) = the.Accepted (recordNumber n)
+answer-of (judges n Verdict.Clear w) = the.Clear (recordNumber n)
+answer-of (judges n Verdict.Race w) = the.Race (recordNumber n) (recordNumber w)
+answer-of (judges n Verdict.Doubt w) = the.Doubt (recordNumber n) (recordNumber w)
+
+meant : (xs : List Answer) → map answer-of (meanings xs) ≡ xs
+meant [] = refl
+meant (x ∷ xs) = ap₂ (λ (a : Answer) (l : List Answer). a ∷ l) (one x) (meant xs)
+  where
+    one : (a : Answer) → answer-of (meaning a) ≡ a
+    one (the.Refused n) = refl
+    one (the.Accepted n) = refl
+    one (the.Clear n) = refl
+    one (the.Race n w) = refl
+    one (the.Doubt n w) = refl
+
 pub reckonings-match : ReckoningsMatch
-reckonings-match rs = record { answers = clocks-demanded .by-table rs ∙ sym (sets-demanded .by-table rs); paths = paths }
+reckonings-match rs = record { answers = sym (meant (fed rs)) ∙ ap (map answer-of) (clocks-demanded .by-table rs ∙ sym (sets-demanded .by-table rs)) ∙ meant (setFed rs); paths = paths }
   where
     paths : (r : Record) → apartByClocks (afterAll byClocks freshState rs) r ≡ apartBySets (afterAll bySets freshSets rs) r
     paths r =
