@@ -3,3 +3,4 @@ pub mod Simulation
 pub mod Cases
 pub mod Demanded
 pub mod Paths
+pub mod Unused
