@@ -3,4 +3,5 @@ pub mod Simulation
 pub mod Cases
 pub mod Demanded
 pub mod Paths
+pub mod Matching
 pub mod Unused

@@ -1,7 +1,6 @@
 -- Feeding a list of records one after the other from a fresh state, and the demands on what it answers. A record may be of any kind,
 -- known or not, and refused ones are fed too. proofs/feeding/Demanded.antt proves the demands of the step, which goes by the clocks, and of the sets.
 use Prim.Native.Nat.{ℕ, zero, suc, _≤_, _<_}
-use lib.Dec.{T}
 use mathlib.Core.Path.{_≡_}
 use mathlib.Core.Bool.{Bool, true, false, cond}
 use mathlib.Core.Logic.{_↔_, _≢_}
@@ -13,16 +12,14 @@ use Rattle.theory.specs.declared.state.State.{State}
 use Rattle.theory.specs.declared.state.SetState.{SetState}
 use Rattle.theory.specs.order.Recording.{Event, act, lost, kind, kinds, lossMark, Unmarked, eventOf, accesses}
 use Rattle.theory.specs.acceptance.Table.{lastRow, refusal, recordedAfter, recording}
-use Rattle.theory.specs.verdicts.Verdict.{Verdict, Race, Clear, Doubt, AccessAt, Unordered, Latest, ApartAsArrived, ApartInAll, With}
+use Rattle.theory.specs.verdicts.Verdict.{Verdict, Race, Clear, Doubt, AccessAt, Unordered, With}
 use Rattle.theory.specs.verdicts.Demands.{Firm}
 use Rattle.theory.specs.verdicts.Search.{judge, isAccessEvent}
-use Rattle.theory.specs.order.Limits.{tasks}
 use Rattle.theory.specs.acceptance.Control.{refusalIn}
-use Rattle.theory.specs.tables.Reckonings.{clockApart, setApart}
 use Rattle.theory.specs.verdicts.Search
 use Rattle.theory.specs.verdicts.Examples.{Example, table}
 use Rattle.theory.specs.feeding.Meaning.{Meaning, refuses, takes, judges, meaning, meanings, isRefusal, refusalNumber, verdictIn}
-use Rattle.theory.specs.feeding.Step.{nextNumber, stepOf, setStepOf, apartByClocks, apartBySets, freshState, freshSets}
+use Rattle.theory.specs.feeding.Step.{nextNumber, stepOf, setStepOf, freshState, freshSets}
 
 -- What feeding answers, one answer for each record
 
@@ -127,32 +124,6 @@ answersFrom es (r ∷ rs) = answerTo es r ∷ answersFrom (recordedAfter es r (r
 abbrev pub AnswersByTable : (List Record → List Answer) → Type 0
 AnswersByTable answers = (rs : List Record) → meanings (answers rs) ≡ answersFrom [] rs
 
--- Each reckoning on its own says "path" exactly where Order has one
-
--- for the access f after the recording es: the tasks that pass the tests are those whose latest conflicting access has no path to f, as
--- it arrived and in any completion
-pub record SaysPaths (es : List Event) (f : Event) (asArrived inFull : ℕ → Bool) : Type 0 where
-  pub as-arrived : (u : ℕ) → u < tasks →
-      T (asArrived u) ↔ ((i : ℕ) × Latest (es ++ (f ∷ [])) u i (length es) × ApartAsArrived (es ++ (f ∷ [])) (length es) i)
-  pub in-full : (u : ℕ) → u < tasks → T (inFull u) ↔ ((i : ℕ) × Latest (es ++ (f ∷ [])) u i (length es) × ApartInAll (es ++ (f ∷ [])) (length es) i)
-
--- whatever was fed before, for every access that is accepted then. The masks are made of these tests, task by task.
-abbrev pub ClockPaths : Type 0
-ClockPaths =
-    (rs : List Record) (r : Record) →
-    refusal (recording rs) r ≡ 0 →
-    accesses (r .kind) ≡ true →
-    let s : State = afterAll byClocks freshState rs in
-    SaysPaths (recording rs) (eventOf r) (clockApart (s .clocks) (s .last) (r .kind) (r .task) (r .on)) (clockApart (s .fullclocks) (s .last) (r .kind) (r .task) (r .on))
-
-abbrev pub SetPaths : Type 0
-SetPaths =
-    (rs : List Record) (r : Record) →
-    refusal (recording rs) r ≡ 0 →
-    accesses (r .kind) ≡ true →
-    let s : SetState = afterAll bySets freshSets rs in
-    SaysPaths (recording rs) (eventOf r) (setApart (s .sets) (s .last) (r .kind) (r .task) (r .on)) (setApart (s .fullsets) (s .last) (r .kind) (r .task) (r .on))
-
 -- Demand 1, for records, of a checker: in any state a record is refused with the number of the first row of the table that applies, "and not
 -- otherwise", and the state is as it was; or it is taken in, an access with a verdict and any other with its record number
 
@@ -192,15 +163,6 @@ pub record SameUse (r r′ : Record) : Type 0 where
 -- in any state such records are answered alike, and leave the same state
 abbrev pub Overlooks : {S : Type 0} → Checker S → Type 0
 Overlooks {S} c = (s : S) (r r′ : Record) → SameUse r r′ → (c .answer s r ≡ c .answer s r′) × (c .next s r ≡ c .next s r′)
-
--- Clocks and sets match, after every list of records from a fresh state: they answered each record alike, and whatever record comes next,
--- they say the same of every path that they are asked about, as it arrived and in the fullest filling
-pub record Match (rs : List Record) : Type 0 where
-  pub answers : fed rs ≡ setFed rs
-  pub paths : (r : Record) → apartByClocks (afterAll byClocks freshState rs) r ≡ apartBySets (afterAll bySets freshSets rs) r
-
-abbrev pub ReckoningsMatch : Type 0
-ReckoningsMatch = (rs : List Record) → Match rs
 
 -- The short recordings, fed
 
