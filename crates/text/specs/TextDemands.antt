@@ -13,7 +13,7 @@ use Rattle.theory.specs.acceptance.Table.{lastRow}
 use Rattle.theory.specs.order.Recording.{accesses}
 use Rattle.theory.specs.feeding.Meaning.{takes, judges, meaning}
 use Rattle.theory.specs.feeding.Step.{freshState}
-use Rattle.theory.specs.feeding.Feeding.{byClocks, refusalOf, numberOf, fed}
+use Rattle.theory.specs.feeding.Feeding.{byClocks, rowFor, numberFor, fed}
 use Rattle.text.specs.Lines.{linesOf}
 use Rattle.text.specs.LineForm.{textOf, Sayable}
 use Rattle.text.specs.ReportLines.{wordFor, accessLine, refusedLine, reportLine}
@@ -31,14 +31,14 @@ pub data LineGot (n : ℕ) (s : State) (line : List ℕ) : State → List ℕ �
   -- "A line that yields no record is refused with 1"
   no-record : ((r : Record) → ¬ TextForm line r) → LineGot n s line s (refusedLine n 1)
   -- its record is refused with the number of the first row that applies, and the state stays
-  refused : {r : Record} {k : ℕ} → TextForm line r → refusalOf byClocks s r ≡ k → 1 ≤ k → k ≤ lastRow → LineGot n s line s (refusedLine n k)
+  refused : {r : Record} {k : ℕ} → TextForm line r → rowFor byClocks s r ≡ k → 1 ≤ k → k ≤ lastRow → LineGot n s line s (refusedLine n k)
   -- "One line for an accepted access", with its record number, its verdict and the partner
-  judged : {r : Record} {v : Verdict} {w : ℕ} → TextForm line r → refusalOf byClocks s r ≡ 0 → accesses (r .kind) ≡ true →
-      meaning (byClocks .answer s r) ≡ judges (numberOf byClocks s) v w →
-      LineGot n s line (byClocks .next s r) (accessLine (numberOf byClocks s) (r .task) (r .on) (wordFor v) w)
+  judged : {r : Record} {v : Verdict} {w : ℕ} → TextForm line r → rowFor byClocks s r ≡ 0 → accesses (r .kind) ≡ true →
+      meaning (byClocks .answer s r) ≡ judges (numberFor byClocks s) v w →
+      LineGot n s line (byClocks .next s r) (accessLine (numberFor byClocks s) (r .task) (r .on) (wordFor v) w)
   -- "none for other records"
-  taken : {r : Record} → TextForm line r → refusalOf byClocks s r ≡ 0 → accesses (r .kind) ≡ false →
-      meaning (byClocks .answer s r) ≡ takes (numberOf byClocks s) → LineGot n s line (byClocks .next s r) []
+  taken : {r : Record} → TextForm line r → rowFor byClocks s r ≡ 0 → accesses (r .kind) ≡ false →
+      meaning (byClocks .answer s r) ≡ takes (numberFor byClocks s) → LineGot n s line (byClocks .next s r) []
 
 -- A text
 

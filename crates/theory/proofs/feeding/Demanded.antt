@@ -21,8 +21,8 @@ use Rattle.theory.specs.tables.Turns.{turns}
 use Rattle.theory.specs.order.Path.{rule}
 use Rattle.theory.specs.fillings.Completion.{rounds, round, part, onEach}
 use Rattle.theory.specs.verdicts.Examples.{Example, table}
-use Rattle.theory.specs.feeding.Meaning.{Meaning, refuses, takes, judges, meaning, meanings, isRefusal, refusalNumber}
-use Rattle.theory.specs.feeding.Feeding.{recordOf, verdictsOf, acceptedOf, Got, got-now, got-later, got-refused, EachAccess, FedDemand2, FedDemand3, FedPartner, FedAcceptance, refusalsAfter, acceptedAnswer, answerBy, answersFrom, AnswersByTable, Checker, byClocks, bySets, fedBy, fed, setFed, Demanded, refusalOf, numberOf, Judged, GetsVerdict, Demand1, Handled, refused, access-taken, other-taken}
+use Rattle.theory.specs.feeding.Meaning.{Meaning, refuses, takes, judges, meaning, isRefusal, refusalNumber}
+use Rattle.theory.specs.feeding.Feeding.{recordOf, verdictsOf, acceptedOf, Got, got-now, got-later, got-refused, EachAccess, FedDemand2, FedDemand3, FedPartner, FedAcceptance, refusalsAfter, acceptedAnswer, answerBy, answersFrom, AnswersByTable, Checker, byClocks, bySets, fedBy, fed, setFed, Demanded, rowFor, numberFor, Judged, GetsVerdict, Demand1, Handled, refused, access-taken, other-taken}
 use Rattle.theory.proofs.basics.Reflects.{by-test, is-true}
 use Rattle.theory.proofs.order.Places.{Ends, ends, onward, at-ends}
 use Rattle.theory.proofs.verdicts.Demands.{Ruling, judge-ruling, ruling-firm, ruling-with, firm-unmarked}
@@ -133,17 +133,17 @@ accepted-verdict : (last : List ℕ) (k on number : ℕ) (m : Masks) → accesse
 accepted-verdict last k on number m q = rw q (judged-by last k on number (m .full) (m .arrived))
 
 -- from what a checker does with a record that a row refuses, and with one that none does
-module _ {S : Type 0} (c : Checker S) (s : S) (r : Record) (refuse : (n : ℕ) → refusalOf c s r ≡ suc n → (meaning (c .answer s r) ≡ refuses (suc n)) × (c .next s r ≡ s))
-    (judge : refusalOf c s r ≡ 0 → accesses (r .kind) ≡ true → Judged (c .answer s r) (numberOf c s))
-    (take : refusalOf c s r ≡ 0 → accesses (r .kind) ≡ false → meaning (c .answer s r) ≡ takes (numberOf c s)) where
+module _ {S : Type 0} (c : Checker S) (s : S) (r : Record) (refuse : (n : ℕ) → rowFor c s r ≡ suc n → (meaning (c .answer s r) ≡ refuses (suc n)) × (c .next s r ≡ s))
+    (judge : rowFor c s r ≡ 0 → accesses (r .kind) ≡ true → Judged (c .answer s r) (numberFor c s))
+    (take : rowFor c s r ≡ 0 → accesses (r .kind) ≡ false → meaning (c .answer s r) ≡ takes (numberFor c s)) where
   handled : Handled c s r
-  handled = decided (refusalOf c s r) (refusal-bound _ r) refl
+  handled = decided (rowFor c s r) (refusal-bound _ r) refl
     where
-      taken : (b : Bool) → accesses (r .kind) ≡ b → refusalOf c s r ≡ 0 → Handled c s r
+      taken : (b : Bool) → accesses (r .kind) ≡ b → rowFor c s r ≡ 0 → Handled c s r
       taken true q e = access-taken e q (judge e q)
       taken false q e = other-taken e q (take e q)
 
-      decided : (n : ℕ) → refusalOf c s r ≤ lastRow → refusalOf c s r ≡ n → Handled c s r
+      decided : (n : ℕ) → rowFor c s r ≤ lastRow → rowFor c s r ≡ n → Handled c s r
       decided (suc n) h e = let (a, b) = refuse n e in refused (suc n) e (omega arith) (omega arith) a b
       decided zero h e = taken (accesses (r .kind)) refl e
 
@@ -166,7 +166,7 @@ sets-demand1 s r =
 pub gets-verdict : {S : Type 0} {c : Checker S} → Demand1 c → GetsVerdict c
 gets-verdict {c = c} d s r a z = by-cases (d s r)
   where
-    by-cases : Handled c s r → Judged (c .answer s r) (numberOf c s)
+    by-cases : Handled c s r → Judged (c .answer s r) (numberFor c s)
     by-cases (refused n e l h m q) = absurd (omega arith)
     by-cases (access-taken e q j) = j
     by-cases (other-taken e q m) = absurd (true≢false (sym a ∙ q))
@@ -174,7 +174,7 @@ gets-verdict {c = c} d s r a z = by-cases (d s r)
 -- K1 to K12 come out of feeding as they come out of the definitions
 
 same-rows : (answers : List Record → List Answer) → AnswersByTable answers → (xs : List Example) →
-    map (λ (x : Example). verdictsOf (meanings (answers (map recordOf (x .events))))) xs ≡ map (λ (x : Example). verdictsOf (answersFrom [] (map recordOf (x .events)))) xs
+    map (λ (x : Example). verdictsOf (map meaning (answers (map recordOf (x .events))))) xs ≡ map (λ (x : Example). verdictsOf (answersFrom [] (map recordOf (x .events)))) xs
 same-rows answers right [] = refl
 same-rows answers right (x ∷ xs) = rw (right (map recordOf (x .events)), same-rows answers right xs)
 

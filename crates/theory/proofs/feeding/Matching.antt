@@ -1,8 +1,7 @@
 -- Clocks and sets match, since each says "path" exactly where Order has one. Of paths nothing else is used: the two claims are handed over.
 -- Assumes nothing.
-use mathlib.Core.Path.{_≡_, refl, sym, _∙_, ap, ap₂, subst}
+use mathlib.Core.Path.{_≡_, refl, sym, _∙_, ap, ap₂}
 use mathlib.Core.Bool.{Bool, true, false, not, _||_, true≢false}
-use mathlib.Core.Logic.{_↔_}
 use mathlib.Core.List.{List, [], _∷_, _++_}
 use Prim.Native.Nat.{ℕ, zero, suc, _<_, zero-le}
 use native.Mathlib.Omega.{arith}
@@ -12,17 +11,16 @@ use Rattle.theory.specs.declared.record.Record.{Record}
 use Rattle.theory.specs.declared.answer.Answer.{Answer}
 use Rattle.theory.specs.declared.state.State.{State}
 use Rattle.theory.specs.declared.state.SetState.{SetState}
-use Rattle.theory.specs.declared.masks.Masks.{Masks}
 use Rattle.theory.specs.order.Limits.{tasks, variables}
-use Rattle.theory.specs.order.Recording.{Op, Event, Kind, of-op, of-mark, kind, opOf, accesses, isAccess}
+use Rattle.theory.specs.order.Recording.{Op, Kind, of-op, of-mark, kind, opOf, accesses, isAccess}
 use Rattle.theory.specs.acceptance.Table.{isAct, refusal, recording}
 use Rattle.theory.specs.acceptance.Control.{refusalIn, controlAfter}
 use Rattle.theory.specs.tables.Rows.{taskRow, cell}
 use Rattle.theory.specs.history.History.{latestNumber, lastAfter}
-use Rattle.theory.specs.tables.Reckonings.{clockApart, setApart, maskOf, masksBy, clockMasks, setMasks}
+use Rattle.theory.specs.tables.Reckonings.{clockApart, setApart, masksBy, clockMasks, setMasks}
 use Rattle.theory.specs.feeding.Step.{nextNumber, answeredBy, masksUnless, apartByClocks, apartBySets, stepBy, stepOf, setStepBy, setStepOf, freshState, freshSets}
 use Rattle.theory.specs.feeding.Feeding.{Checker, fedTo, afterAll, byClocks, bySets}
-use Rattle.theory.specs.feeding.Paths.{clocks, sets, leftBy, Kept, SaysPath, acquires, ExactPaths, ReckoningsMatch}
+use Rattle.theory.specs.feeding.Paths.{clocks, sets, leftBy, acquiring, ExactPaths, ReckoningsMatch}
 use Rattle.theory.proofs.basics.Reflects.{Reflects, right, wrong, by-test, is-true}
 use Rattle.theory.proofs.order.Ops.{each-op, no-mark, opOf-kind, access-tests, other-tests, on-series, access-on}
 use Rattle.theory.proofs.tables.Bits.{mask-ext}
@@ -43,14 +41,14 @@ same-failing {a} {b} f g = decided a b f g
     decided false false f g = refl
 
 -- order comes to an access from its own task alone
-access-acquires : (o : Op) → T (isAccess o) → acquires o ≡ false
-access-acquires o a = decided (acquires o) refl
+access-acquires : (o : Op) → T (isAccess o) → acquiring o ≡ false
+access-acquires o a = decided (acquiring o) refl
   where
     test : Kind → Bool
-    test (of-op o) = not (isAccess o) || not (acquires o)
+    test (of-op o) = not (isAccess o) || not (acquiring o)
     test of-mark = true
 
-    decided : (b : Bool) → acquires o ≡ b → acquires o ≡ false
+    decided : (b : Bool) → acquiring o ≡ b → acquiring o ≡ false
     decided false e = e
     decided true e = absurd (true≢false (sym (rw (e, is-true (by-test (isAccess o)) a) at (each-op test refl refl o))))
 
@@ -78,7 +76,7 @@ module _ (by-clocks : ExactPaths clocks) (by-sets : ExactPaths sets) (rs : List 
     an-act-comes : isAct r ≡ true
     an-act-comes = rw (no-mark o)
 
-    own-alone : acquires (opOf (kind o)) ≡ false
+    own-alone : acquiring (opOf (kind o)) ≡ false
     own-alone = rw (opOf-kind o) (access-acquires o a)
 
     asked : (u : ℕ) → u < tasks →

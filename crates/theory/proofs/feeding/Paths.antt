@@ -18,10 +18,9 @@ use Rattle.theory.specs.order.Path.{HappensBefore, rule, clashes}
 use Rattle.theory.specs.fillings.Completion.{Filling, arrived, full, filling, fillWith, fullest, rounds, nothing}
 use Rattle.theory.specs.acceptance.Table.{isAct, refusal, recording, recordedAfter}
 use Rattle.theory.specs.tables.Rows.{cell}
-use Rattle.theory.specs.history.History.{asker, askAt, slots, latestSlot, latestNumber}
+use Rattle.theory.specs.history.History.{asker, askAt, latestSlot, latestNumber}
 use Rattle.theory.specs.tables.Reckonings.{hasSlot, clockApart, setApart}
-use Rattle.theory.specs.feeding.Feeding.{Checker, afterAll}
-use Rattle.theory.specs.feeding.Paths.{Reckoning, clocks, sets, leftBy, Kept, inFullest, SaysPath, SaysPaths, acquires, PathsAfter, ExactPaths}
+use Rattle.theory.specs.feeding.Paths.{Reckoning, clocks, sets, leftBy, Kept, inFullest, ExactAt, SaysPaths, acquiring, ExactPaths}
 use Rattle.theory.proofs.basics.Reflects.{Reflects, right, wrong, by-test, equal, at-most, both, fails, passed, passes}
 use Rattle.theory.proofs.order.Leads.{Leads, leads-survives, leads-as-arrived, filled-with}
 use Rattle.theory.proofs.order.Places.{Ends, Occurs, first, next, leads-path, path-leads}
@@ -167,15 +166,15 @@ module _ {w : Filling} {es : List Event} {b last : List ℕ} (p : Op) {t v u : �
 
 -- Paths to the act that comes next, by what has been reached
 
--- to an act that acquires nothing beside
-acquires-own : {q : Op} {t n : ℕ} {m : Node} → acquires q ≡ false → Acquires m (act q t n) → m ≡ due t
+-- to an act that acquires nothing beside its own task
+acquires-own : {q : Op} {t n : ℕ} {m : Node} → acquiring q ≡ false → Acquires m (act q t n) → m ≡ due t
 acquires-own e own = refl
 acquires-own e by-take = absurd (true≢false e)
 acquires-own e by-look = absurd (true≢false e)
 acquires-own e by-join = absurd (true≢false e)
 
 module _ {w : Filling} {e : Event} (after : List Event) {q : Op} {t n : ℕ} where
-  leads-before : acquires q ≡ false → Leads e (fillWith (filling w) after) (act q t n) ↔ Reach w e after (due t)
+  leads-before : acquiring q ≡ false → Leads e (fillWith (filling w) after) (act q t n) ↔ Reach w e after (due t)
   leads-before f = (
     λ l. let (m, r, h) = leads-reach {w = w} {e = e} .0 l in subst (Reach w e after) (acquires-own f h) r,
     λ r. leads-reach {w = w} {e = e} .1 (due t, r, own),
@@ -212,7 +211,7 @@ module _ (w : Filling) {es : List Event} {last : List ℕ} (p q : Op) (t n : ℕ
   abbrev Path : Type 0
   Path = Leads (act (k .op) u v) (fillWith (filling w) (later k)) (act q t n)
 
-  said-before : {apart : Bool} → Tells w es last p t v u apart → acquires q ≡ false → T (not apart) ↔ Path
+  said-before : {apart : Bool} → Tells w es last p t v u apart → acquiring q ≡ false → T (not apart) ↔ Path
   said-before x f = through (x .tells (stands-at k) (kept-number p (asks k) hv hu h k)) (leads-before (later k) f)
 
   -- once the act is fed: the access is kept still, or the act is kept in its place, which is one of the same task
@@ -317,8 +316,8 @@ kept-ranged {p = p} r k =
 
 -- so it says paths of an act that comes next, before that is fed and after
 module _ {S : Type 0} {x : Reckoning S} {es : List Event} {s : S} (y : Exactly x es s) (q : Op) (t n : ℕ) (ht : t < tasks) where
-  paths-before : acquires q ≡ false → (p : Op) (v u i : ℕ) → Kept es p v u i →
-      SaysPath (es ++ (act q t n ∷ [])) i (length es) (x .apart s (kind p) t v u) (x .apartInFull s (kind p) t v u)
+  paths-before : acquiring q ≡ false → (p : Op) (v u i : ℕ) → Kept es p v u i →
+      ExactAt (es ++ (act q t n ∷ [])) i (length es) (x .apart s (kind p) t v u) (x .apartInFull s (kind p) t v u)
   paths-before f p v u i k =
       let (hu, hv) = kept-ranged (y .ranged) k in
       record {
@@ -327,7 +326,7 @@ module _ {S : Type 0} {x : Reckoning S} {es : List Event} {s : S} (y : Exactly x
       }
 
   paths-after : {s′ : S} → Exactly x (es ++ (act q t n ∷ [])) s′ → (p : Op) (v u i : ℕ) → Kept es p v u i →
-      SaysPath (es ++ (act q t n ∷ [])) i (length es) (x .apart s′ (kind p) t v u) (x .apartInFull s′ (kind p) t v u)
+      ExactAt (es ++ (act q t n ∷ [])) i (length es) (x .apart s′ (kind p) t v u) (x .apartInFull s′ (kind p) t v u)
   paths-after z p v u i k =
       let (hu, hv) = kept-ranged (y .ranged) k in
       record {
@@ -356,7 +355,7 @@ module _ {S : Type 0} {x : Reckoning S} {R : List Event → S → Type 0} (simul
       now : Exactly x (recording rs) (leftBy x rs)
       now = exactly _ _ (represents rs)
 
-      before : {r : Record} → Shape (recording rs) r → isAct r ≡ true → acquires (opOf (r .kind)) ≡ false → SaysPaths x (leftBy x rs) (recording rs) r
+      before : {r : Record} → Shape (recording rs) r → isAct r ≡ true → acquiring (opOf (r .kind)) ≡ false → SaysPaths x (leftBy x rs) (recording rs) r
       before (an-act q t n a) b f = rw (event-act q t n) (paths-before now q t n (a .fits .task-fits) (rw (opOf-kind q) at f))
       before (a-mark t n m) b f = absurd (true≢false (sym b))
 

@@ -1,7 +1,7 @@
 -- Feeding answers what the recording so far says: of the clocks and of the sets. Assumes nothing.
 use mathlib.Core.Path.{_≡_, refl, sym, _∙_, ap, subst}
 use mathlib.Core.Bool.{Bool, true, false}
-use mathlib.Core.List.{List, [], _∷_, _++_}
+use mathlib.Core.List.{List, [], _∷_, _++_, map}
 use Prim.Native.Nat.{ℕ, zero, suc, _+_, _/_, _%_, _^_, _<_}
 use native.Mathlib.Nat.{pow-suc}
 use native.Mathlib.Omega.{arith}
@@ -18,7 +18,7 @@ use Rattle.theory.specs.acceptance.Table.{isLive, phase, Standing, stand
 use Rattle.theory.specs.acceptance.Control.{controlAfter}
 use Rattle.theory.specs.history.History.{slots, lastAfter}
 use Rattle.theory.specs.tables.Reckonings.{clocksBy, setsBy, clockMask, setMask, clockMasks, setMasks}
-use Rattle.theory.specs.feeding.Meaning.{meaning, meanings}
+use Rattle.theory.specs.feeding.Meaning.{meaning}
 use Rattle.theory.specs.feeding.Step.{nextNumber, answeredBy, stepOf, stepBy, setStepOf, setStepBy, freshControl, freshState, freshSets}
 use Rattle.theory.specs.verdicts.Search.{partner}
 use Rattle.theory.specs.feeding.Feeding.{Checker, fedTo, afterAll, byClocks, bySets, acceptedAnswer, answerBy, answerTo, answersFrom}
@@ -202,7 +202,7 @@ pub record Simulates {S : Type 0} (c : Checker S) (R : List Event → S → Type
   pub begins : R [] (c .fresh)
   pub steps : (es : List Event) (s : S) (r : Record) → R es s → (meaning (c .answer s r) ≡ answerTo es r) × R (recordedAfter es r (refusal es r)) (c .next s r)
 
-pub fed-to : {S : Type 0} {c : Checker S} {R : List Event → S → Type 0} → Simulates c R → (es : List Event) (s : S) (rs : List Record) → R es s → meanings (fedTo c s rs) ≡ answersFrom es rs
+pub fed-to : {S : Type 0} {c : Checker S} {R : List Event → S → Type 0} → Simulates c R → (es : List Event) (s : S) (rs : List Record) → R es s → map meaning (fedTo c s rs) ≡ answersFrom es rs
 fed-to x es s [] h = refl
 fed-to {c = c} x es s (r ∷ rs) h =
     let (e, y) = x .steps es s r h in

@@ -12,7 +12,6 @@ use Rattle.theory.specs.tables.Reckonings.{clockApart, setApart, clockMa
 use Rattle.theory.specs.verdicts.Search.{judged, judge, partner}
 use Rattle.theory.specs.feeding.Step.{verdictBy, judgedBy}
 use Rattle.theory.specs.feeding.Meaning.{judges, meaning}
-use Rattle.theory.proofs.basics.Reflects.{Reflects, right, wrong, by-test}
 use Rattle.theory.proofs.order.Places.{Occurs}
 use Rattle.theory.proofs.verdicts.Search.{Candidate}
 use Rattle.theory.proofs.tables.ClockTables.{ExactClocks}
@@ -23,15 +22,6 @@ use Rattle.theory.proofs.tables.Reckoned.{clock-sound, clock-complete, 
 use Rattle.theory.proofs.tables.Masked.{foundBy, mask-partner}
 
 -- The masks of an access
-
-pub same-test : {a b : Bool} → (T a → T b) → (T b → T a) → a ≡ b
-same-test {a} {b} f g = decided (by-test a) (by-test b)
-  where
-    decided : {c d : Bool} → Reflects (T a) c → Reflects (T b) d → c ≡ d
-    decided (right x) (right y) = refl
-    decided (right x) (wrong n) = absurd (n (f x))
-    decided (wrong n) (right y) = absurd (n (g y))
-    decided (wrong n) (wrong m) = refl
 
 -- a candidate's task is one of the sixteen
 task-of : {g : ℕ → List Event} {f : Event} {es : List Event} {u i : ℕ} → Ranged es → Candidate g f es u i → u < 16

@@ -2,7 +2,7 @@
 -- known or not, and refused ones are fed too. proofs/feeding/Demanded.antt proves the demands of the step, which goes by the clocks, and of the sets.
 use Prim.Native.Nat.{ℕ, zero, suc, _≤_, _<_}
 use mathlib.Core.Path.{_≡_}
-use mathlib.Core.Bool.{Bool, true, false, cond}
+use mathlib.Core.Bool.{true, false, cond}
 use mathlib.Core.Logic.{_↔_, _≢_}
 use mathlib.Core.List.{List, [], _∷_, _++_, map}
 use lib.ListN.{length}
@@ -12,13 +12,13 @@ use Rattle.theory.specs.declared.state.State.{State}
 use Rattle.theory.specs.declared.state.SetState.{SetState}
 use Rattle.theory.specs.order.Recording.{Event, act, lost, kind, kinds, lossMark, Unmarked, eventOf, accesses}
 use Rattle.theory.specs.acceptance.Table.{lastRow, refusal, recordedAfter, recording}
-use Rattle.theory.specs.verdicts.Verdict.{Verdict, Race, Clear, Doubt, AccessAt, Unordered, With}
+use Rattle.theory.specs.verdicts.Verdict.{Verdict, Race, Clear, AccessAt, Unordered, With}
 use Rattle.theory.specs.verdicts.Demands.{Firm}
 use Rattle.theory.specs.verdicts.Search.{judge, isAccessEvent}
 use Rattle.theory.specs.acceptance.Control.{refusalIn}
 use Rattle.theory.specs.verdicts.Search
 use Rattle.theory.specs.verdicts.Examples.{Example, table}
-use Rattle.theory.specs.feeding.Meaning.{Meaning, refuses, takes, judges, meaning, meanings, isRefusal, refusalNumber, verdictIn}
+use Rattle.theory.specs.feeding.Meaning.{Meaning, refuses, takes, judges, meaning, isRefusal, refusalNumber, verdictIn}
 use Rattle.theory.specs.feeding.Step.{nextNumber, stepOf, setStepOf, freshState, freshSets}
 
 -- What feeding answers, one answer for each record
@@ -72,14 +72,14 @@ pub data Got : List Meaning → ℕ → Meaning → Type 0 where
 
 -- the recording that is made of a list of records
 abbrev pub recordedBy : (List Record → List Answer) → List Record → List Event
-recordedBy answers rs = acceptedOf rs (meanings (answers rs))
+recordedBy answers rs = acceptedOf rs (map meaning (answers rs))
 
 -- each access of the recording got, under its record number, a verdict and a partner that are as P says
 abbrev pub EachAccess : (List Record → List Answer) → (List Event → ℕ → Verdict → ℕ → Type 0) → Type 0
 EachAccess answers P =
     (rs : List Record) (k : ℕ) →
     AccessAt (recordedBy answers rs) k →
-    (v : Verdict) × (w : ℕ) × Got (meanings (answers rs)) k (judges (suc k) v w) × P (recordedBy answers rs) k v w
+    (v : Verdict) × (w : ℕ) × Got (map meaning (answers rs)) k (judges (suc k) v w) × P (recordedBy answers rs) k v w
 
 -- demand 3: nobody who fills in the lost records can overturn a verdict
 abbrev pub FedDemand3 : (List Record → List Answer) → Type 0
@@ -100,7 +100,7 @@ refusalsAfter es (r ∷ rs) = refusal es r ∷ refusalsAfter (recordedAfter es r
 
 abbrev pub FedAcceptance : (List Record → List Answer) → Type 0
 FedAcceptance answers =
-    (rs : List Record) → (recordedBy answers rs ≡ recording rs) × (map refusalNumber (meanings (answers rs)) ≡ refusalsAfter [] rs)
+    (rs : List Record) → (recordedBy answers rs ≡ recording rs) × (map refusalNumber (map meaning (answers rs)) ≡ refusalsAfter [] rs)
 
 -- What is answered, in full: by the table of refusals and the search of verdicts/Search.antt over the recording so far
 
@@ -122,34 +122,37 @@ answersFrom es (r ∷ rs) = answerTo es r ∷ answersFrom (recordedAfter es r (r
 
 -- the answers are those of the table and of the verdict's search, over the recording so far
 abbrev pub AnswersByTable : (List Record → List Answer) → Type 0
-AnswersByTable answers = (rs : List Record) → meanings (answers rs) ≡ answersFrom [] rs
+AnswersByTable answers = (rs : List Record) → map meaning (answers rs) ≡ answersFrom [] rs
 
 -- Demand 1, for records, of a checker: in any state a record is refused with the number of the first row of the table that applies, "and not
 -- otherwise", and the state is as it was; or it is taken in, an access with a verdict and any other with its record number
 
--- the refusal that the table has for a record in a state; 0 where no row applies
-abbrev pub refusalOf : {S : Type 0} → Checker S → S → Record → ℕ
-refusalOf c s r = refusalIn (c .control s) r
+-- the number of the first row of the table that applies to a record in a state; 0 where none does
+abbrev pub rowFor : {S : Type 0} → Checker S → S → Record → ℕ
+rowFor c s r = refusalIn (c .control s) r
 
 -- the number that an accepted record gets there
-abbrev pub numberOf : {S : Type 0} → Checker S → S → ℕ
-numberOf c s = nextNumber (c .control s)
+abbrev pub numberFor : {S : Type 0} → Checker S → S → ℕ
+numberFor c s = nextNumber (c .control s)
 
 -- the record n is answered by a verdict with a partner
 abbrev pub Judged : Answer → ℕ → Type 0
 Judged a n = (v : Verdict) × (w : ℕ) × (meaning a ≡ judges n v w)
 
 pub data Handled {S : Type 0} (c : Checker S) (s : S) (r : Record) : Type 0 where
-  refused : (n : ℕ) → refusalOf c s r ≡ n → 1 ≤ n → n ≤ lastRow → meaning (c .answer s r) ≡ refuses n → c .next s r ≡ s → Handled c s r
-  access-taken : refusalOf c s r ≡ 0 → accesses (r .kind) ≡ true → Judged (c .answer s r) (numberOf c s) → Handled c s r
-  other-taken : refusalOf c s r ≡ 0 → accesses (r .kind) ≡ false → meaning (c .answer s r) ≡ takes (numberOf c s) → Handled c s r
+  -- a row applies
+  refused : (n : ℕ) → rowFor c s r ≡ n → 1 ≤ n → n ≤ lastRow → meaning (c .answer s r) ≡ refuses n → c .next s r ≡ s → Handled c s r
+  -- none does, and it is an access
+  access-taken : rowFor c s r ≡ 0 → accesses (r .kind) ≡ true → Judged (c .answer s r) (numberFor c s) → Handled c s r
+  -- none does, and it is no access
+  other-taken : rowFor c s r ≡ 0 → accesses (r .kind) ≡ false → meaning (c .answer s r) ≡ takes (numberFor c s) → Handled c s r
 
 abbrev pub Demand1 : {S : Type 0} → Checker S → Type 0
 Demand1 {S} c = (s : S) (r : Record) → Handled c s r
 
 -- "A user may now count on each access that passes rows 1 to 9 getting a verdict"
 abbrev pub GetsVerdict : {S : Type 0} → Checker S → Type 0
-GetsVerdict {S} c = (s : S) (r : Record) → accesses (r .kind) ≡ true → refusalOf c s r ≡ 0 → Judged (c .answer s r) (numberOf c s)
+GetsVerdict {S} c = (s : S) (r : Record) → accesses (r .kind) ≡ true → rowFor c s r ≡ 0 → Judged (c .answer s r) (numberFor c s)
 
 -- "A field that an op does not use is not looked at", by a checker
 
@@ -178,7 +181,7 @@ verdictsOf (a ∷ answers) = verdictIn a ++ verdictsOf answers
 
 -- the recordings of Examples.antt, fed, give the verdicts that stand there
 abbrev pub FedExamples : (List Record → List Answer) → Type 0
-FedExamples answers = map (λ (x : Example). verdictsOf (meanings (answers (map recordOf (x .events))))) table ≡ map (λ (x : Example). x .answered) table
+FedExamples answers = map (λ (x : Example). verdictsOf (map meaning (answers (map recordOf (x .events))))) table ≡ map (λ (x : Example). x .answered) table
 
 -- All of these demands together, of whatever answers lists of records
 pub record Demanded (answers : List Record → List Answer) : Type 0 where

@@ -2,7 +2,7 @@
 -- the numbers for a host in C and the lines of the report are made from it.
 use Prim.Native.Nat.{ℕ}
 use mathlib.Core.Bool.{Bool, true, false}
-use mathlib.Core.List.{List, [], _∷_, map}
+use mathlib.Core.List.{List, [], _∷_}
 use Rattle.theory.specs.declared.answer.Answer.{Answer}
 use Rattle.theory.specs.declared.answer.Answer.the-variants.{Refused, Accepted}
 use Rattle.theory.specs.declared.answer.Answer.the-variants as the
@@ -23,9 +23,6 @@ meaning (Accepted n) = takes (n .0)
 meaning (the.Clear n) = judges (n .0) Clear 0
 meaning (the.Race n w) = judges (n .0) Race (w .0)
 meaning (the.Doubt n w) = judges (n .0) Doubt (w .0)
-
-abbrev pub meanings : List Answer → List Meaning
-meanings = map meaning
 
 -- What is read off it
 

@@ -68,7 +68,7 @@ abbrev pub inFullest : List Event → ℕ → ℕ
 inFullest es i = length (fullest (ListN.take i es))
 
 -- of the records at places i and k "path" is said exactly where there is one, as it arrived and in the fullest filling
-pub record SaysPath (es : List Event) (i k : ℕ) (apart apartInFull : Bool) : Type 0 where
+pub record ExactAt (es : List Event) (i k : ℕ) (apart apartInFull : Bool) : Type 0 where
   pub as-arrived : T (not apart) ↔ HappensBefore es i k
   pub in-fullest : T (not apartInFull) ↔ HappensBefore (fullest es) (inFullest es i) (inFullest es k)
 
@@ -79,18 +79,18 @@ abbrev pub SaysPaths : {S : Type 0} → Reckoning S → S → List Event → Rec
 SaysPaths x s es r =
     (p : Op) (v u i : ℕ) →
     Kept es p v u i →
-    SaysPath (es ++ (eventOf r ∷ [])) i (length es) (x .apart s (kind p) (r .task) v u) (x .apartInFull s (kind p) (r .task) v u)
+    ExactAt (es ++ (eventOf r ∷ [])) i (length es) (x .apart s (kind p) (r .task) v u) (x .apartInFull s (kind p) (r .task) v u)
 
 -- order can come to a take, a look and a join from elsewhere than from their own task (steps 2, 3 and 5)
-abbrev pub acquires : Op → Bool
-acquires o = o is take || o is look || o is join
+abbrev pub acquiring : Op → Bool
+acquiring o = o is take || o is look || o is join
 
 pub record PathsAfter {S : Type 0} (x : Reckoning S) (rs : List Record) : Type 0 where
   -- it keeps what it should
   pub keeps : (p : Op) (v u i : ℕ) → T (isAccess p) → v < variables → u < tasks →
       (x .number (leftBy x rs) (kind p) v u ≡ suc i) ↔ Kept (recording rs) p v u i
   -- an access that comes next, or another act to which order comes from its own task alone: the state says it before that act is fed
-  pub before : (r : Record) → refusal (recording rs) r ≡ 0 → isAct r ≡ true → acquires (opOf (r .kind)) ≡ false →
+  pub before : (r : Record) → refusal (recording rs) r ≡ 0 → isAct r ≡ true → acquiring (opOf (r .kind)) ≡ false →
       SaysPaths x (leftBy x rs) (recording rs) r
   -- any act that comes next: the state says it once that act is fed
   pub after : (r : Record) → refusal (recording rs) r ≡ 0 → isAct r ≡ true → SaysPaths x (x .checker .next (leftBy x rs) r) (recording rs) r
