@@ -103,7 +103,7 @@ pub record PathsAfter {S : Type 0} (x : Reckoning S) (rs : List Record) : Type 0
   -- an access that comes next, or another act to which order comes from its own task alone: the state says it before that act is fed
   pub before : (r : Record) → refusal (recording rs) r ≡ 0 → isAct r ≡ true → acquiring (opOf (r .kind)) ≡ false →
       SaysPaths x (leftBy x rs) (recording rs) r
-  -- any act that comes next: the state says it once that act is fed
+  -- any act that comes next: the state says it once that act is fed. Where that act is itself kept in the access's place, both are of one task
   pub after : (r : Record) → refusal (recording rs) r ≡ 0 → isAct r ≡ true → SaysPaths x (x .checker .next (leftBy x rs) r) (recording rs) r
 
 -- after every list of records
