@@ -11,9 +11,8 @@ use Rattle.theory.specs.history.History.{latestNumber}
 use Rattle.theory.specs.tables.Reckonings.{clockApart, setApart, clockMask, setMask, lowestTask}
 use Rattle.theory.specs.verdicts.Search.{judged, judge, partner}
 use Rattle.theory.specs.feeding.Step.{verdictBy, judgedBy}
-use Rattle.theory.specs.feeding.Feeding.{verdictAnswer}
+use Rattle.theory.specs.feeding.Meaning.{judges, meaning}
 use Rattle.theory.specs.order.Limits.{tasks, variables}
-use Rattle.theory.proofs.basics.Reflects.{Reflects, right, wrong, by-test}
 use Rattle.theory.proofs.order.Places.{Occurs}
 use Rattle.theory.proofs.verdicts.Search.{Candidate}
 use Rattle.theory.proofs.tables.ClockTables.{ExactClocks}
@@ -24,15 +23,6 @@ use Rattle.theory.proofs.tables.Reckoned.{clock-sound, clock-complete, 
 use Rattle.theory.proofs.tables.Masked.{foundBy, mask-partner}
 
 -- The masks of an access
-
-pub same-test : {a b : Bool} → (T a → T b) → (T b → T a) → a ≡ b
-same-test {a} {b} f g = decided (by-test a) (by-test b)
-  where
-    decided : {c d : Bool} → Reflects (T a) c → Reflects (T b) d → c ≡ d
-    decided (right x) (right y) = refl
-    decided (right x) (wrong n) = absurd (n (f x))
-    decided (wrong n) (right y) = absurd (n (g y))
-    decided (wrong n) (wrong m) = refl
 
 -- a candidate's task is one of the sixteen
 task-of : {g : ℕ → List Event} {f : Event} {es : List Event} {u i : ℕ} → Ranged es → Candidate g f es u i → u < tasks
@@ -54,8 +44,8 @@ module _ {w : Filling} {es : List Event} {last : List ℕ} (p : Op) (t v : ℕ) 
 
 -- the answer that masks make is that of what they find
 answer-found : (a b : Bool) (last : List ℕ) (k on number fm am : ℕ) →
-    verdictBy a b last k on number fm am
-    ≡ verdictAnswer number
+    meaning (verdictBy a b last k on number fm am)
+    ≡ judges number
     ((judged (cond a none (some (record { task = lowestTask fm; number = latestNumber last k on (lowestTask fm) }))) (cond b none (some (record { task = lowestTask am; number = latestNumber last k on (lowestTask am) })))) .verdict)
     ((judged (cond a none (some (record { task = lowestTask fm; number = latestNumber last k on (lowestTask fm) }))) (cond b none (some (record { task = lowestTask am; number = latestNumber last k on (lowestTask am) })))) .partner)
 answer-found true true last k on number fm am = refl
@@ -66,6 +56,6 @@ answer-found false false last k on number fm am = refl
 pub judged-found : (last : List ℕ) (k on number fm am : ℕ) (f : Event) (es : List Event) →
     foundBy (latestNumber last k on) fm ≡ partner rounds f 1 es →
     foundBy (latestNumber last k on) am ≡ partner nothing f 1 es →
-    judgedBy last k on number fm am ≡ verdictAnswer number ((judge es f) .verdict) ((judge es f) .partner)
+    meaning (judgedBy last k on number fm am) ≡ judges number ((judge es f) .verdict) ((judge es f) .partner)
 unfolding judgedBy judge
 judged-found last k on number fm am f es e q = rw (← e, ← q) (answer-found (eqb fm 0) (eqb am 0) last k on number fm am)

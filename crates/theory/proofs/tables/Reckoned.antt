@@ -62,14 +62,14 @@ carry-later first acts r = move own (r .released) (r .carried)
 carry-later {w} (next {x = act o t m} q) a r = pass (carry-later q a r)
 carry-later {w} (next {x = lost mask} q) a r = carry-append (carry-skip (filling w mask)) (carry-later q a r)
 
-reach-older : {w : Filling} {es after after′ : List Event} {i j u : ℕ} {e x : Event} {n : Node} → Occurs es i x after → Occurs es j e after′ → i < j →
+pub reach-older : {w : Filling} {es after after′ : List Event} {i j u : ℕ} {e x : Event} {n : Node} → Occurs es i x after → Occurs es j e after′ → i < j →
     ActsIn u x → ActsIn u e → Reach w e after′ n → Reach w x after n
 reach-older first first h a b r = absurd (omega arith)
 reach-older {u = u} first (next q) h acts b r = record { n = due u; released = own-next; carried = carry-later q b r }
 reach-older (next o) first h a b r = absurd (omega arith)
 reach-older (next o) (next q) h a b r = reach-older o q (omega arith) a b r
 
-occurs-there : {es after : List Event} {i j : ℕ} {e : Event} → i ≡ j → Occurs es j e after → Occurs es i e after
+pub occurs-there : {es after : List Event} {i j : ℕ} {e : Event} → i ≡ j → Occurs es j e after → Occurs es i e after
 occurs-there {es} {after} {e = e} q o = subst (λ (k : ℕ). Occurs es k e after) (sym q) o
 
 -- What a slot keeps
@@ -80,7 +80,7 @@ slot-task p {u = u} hv hu (in-slot {o = o} {u = t} {v = n} a h c ht hn e) =
     subst (λ (y : ℕ). ActsIn u (act o y n)) (slot-one {a = askAt (kind p)} {a′ = a} hv hn hu ht e .2) acts
 
 -- order from an act of a task has come to the task's next act
-acts-reach : {w : Filling} {u : ℕ} {e : Event} {after : List Event} → ActsIn u e → Reach w e after (due u)
+pub acts-reach : {w : Filling} {u : ℕ} {e : Event} {after : List Event} → ActsIn u e → Reach w e after (due u)
 acts-reach {u = u} acts = record { n = due u; released = own-next; carried = carry-skip _ }
 
 -- Candidates by the number
@@ -111,7 +111,7 @@ candidate-apart c = of (c .apart .against .by) (c .apart .against .conflict)
 module _ {w : Filling} {es : List Event} {b last : List ℕ} (p : Op) (t v : ℕ) (x : ExactClocks w es b) (h : ExactHistory es last) (ap : T (isAccess p)) (ht : t < tasks)
     (hv : v < variables) where
   -- what the cell of the task's next act and column u says
-  clock-cell : (u i : ℕ) → u < tasks → (i < cell tasks b t u) ↔ Came w (OfTask u) es i (due t)
+  pub clock-cell : (u i : ℕ) → u < tasks → (i < cell tasks b t u) ↔ Came w (OfTask u) es i (due t)
   clock-cell u i hu = (λ l. x .column u i hu .cells (due t) (due-in ht) .0 (record { knows = l }), λ c. x .column u i hu .cells (due t) (due-in ht) .1 c .knows)
 
   clock-test : (u : ℕ) → Reflects (cell tasks b t u < latestNumber last (kind p) v u) (clockApart b last (kind p) t v u)
@@ -168,7 +168,7 @@ module _ {w : Filling} {es : List Event} {b last : List ℕ} (p : Op) (t v : ℕ
 
 module _ {w : Filling} {es : List Event} {b last : List ℕ} (p : Op) (t v : ℕ) (x : ExactSets w es b) (h : ExactHistory es last) (ap : T (isAccess p)) (ht : t < tasks)
     (hv : v < variables) where
-  set-cell : (s : ℕ) → s < slots → T (hasSlot b t s) ↔ Came w (KeptIn s) es 0 (due t)
+  pub set-cell : (s : ℕ) → s < slots → T (hasSlot b t s) ↔ Came w (KeptIn s) es 0 (due t)
   set-cell s l = (λ k. x .column s l .cells (due t) (due-in ht) .0 (record { knows = k }), λ c. x .column s l .cells (due t) (due-in ht) .1 c .knows)
 
   set-test : (u : ℕ) → Reflects ((0 < latestNumber last (kind p) v u) × (¬ T (hasSlot b t (latestSlot (kind p) v u)))) (setApart b last (kind p) t v u)
@@ -178,7 +178,7 @@ module _ {w : Filling} {es : List Event} {b last : List ℕ} (p : Op) (t v : ℕ
   slot-in u hu = latest-below p hv hu
 
   -- the access at the place that the slot's number tells is the one that the slot keeps
-  kept-at : (u i : ℕ) → u < tasks → latestNumber last (kind p) v u ≡ suc i → {e : Event} {after : List Event} → Occurs es i e after → KeptIn (latestSlot (kind p) v u) e after
+  pub kept-at : (u i : ℕ) → u < tasks → latestNumber last (kind p) v u ≡ suc i → {e : Event} {after : List Event} → Occurs es i e after → KeptIn (latestSlot (kind p) v u) e after
   kept-at u i hu n {after = rest} o =
       let d = h .held (latestSlot (kind p) v u) i (slot-in u hu) .0 (omega arith) in
       let k = h .held (latestSlot (kind p) v u) (d .j) (slot-in u hu) .1 (record { j = d .j; e = d .e; after = d .after; recent = le-refl _; occurs = d .occurs; inside = d .inside }) in

@@ -20,6 +20,8 @@ use Rattle.theory.specs.order.Limits.{tasks}
 use Rattle.theory.specs.order.Recording.{accesses}
 use Rattle.theory.specs.tables.Rows.{cellCount}
 use Rattle.theory.specs.history.History.{slots, latestNumber, lastAfter}
+use Rattle.theory.specs.verdicts.Verdict.{Verdict}
+use Rattle.theory.specs.feeding.Meaning.{Meaning, refuses, takes, judges, meaning}
 use Rattle.theory.specs.tables.Reckonings.{slotWords, clocksBy, setsBy, masksBy, clockMasks, setMasks, lowestTask}
 
 abbrev pub recordNumber : ℕ → RecordNumber
@@ -27,12 +29,18 @@ recordNumber n = record { 0 = n }
 
 -- an answer as three numbers, for a host that knows no enum: which case it is, document 01's number (of the refusal, or of the record), and
 -- the record number of the partner, 0 where there is none
+abbrev pub verdictCase : Verdict → ℕ
+verdictCase Verdict.Clear = 2
+verdictCase Verdict.Race = 3
+verdictCase Verdict.Doubt = 4
+
+abbrev pub threeNumbers : Meaning → List ℕ
+threeNumbers (refuses n) = 0 ∷ n ∷ 0 ∷ []
+threeNumbers (takes n) = 1 ∷ n ∷ 0 ∷ []
+threeNumbers (judges n v w) = verdictCase v ∷ n ∷ w ∷ []
+
 abbrev pub answerNumbers : Answer → List ℕ
-answerNumbers (Refused n) = 0 ∷ n ∷ 0 ∷ []
-answerNumbers (Accepted n) = 1 ∷ n .0 ∷ 0 ∷ []
-answerNumbers (Clear n) = 2 ∷ n .0 ∷ 0 ∷ []
-answerNumbers (Race n w) = 3 ∷ n .0 ∷ w .0 ∷ []
-answerNumbers (Doubt n w) = 4 ∷ n .0 ∷ w .0 ∷ []
+answerNumbers a = threeNumbers (meaning a)
 
 -- the answer to an accepted access, by the masks of the tasks that are apart in the fullest filling and as it arrived
 abbrev pub verdictBy : Bool → Bool → List ℕ → ℕ → ℕ → ℕ → ℕ → ℕ → Answer
