@@ -1,4 +1,5 @@
 // The order checker below the text layer: the code, each function proved against the definitions of crates/theory.
+mod acting;
 mod asking;
 mod clocks;
 mod control;

@@ -1,4 +1,5 @@
 -- The refusal is the number of the first row that applies.
+use native.Mathlib.Omega.{arith}
 use borrow.Author.Tests.{le-leb}
 use lib.ListN.{length}
 use Rattle.theory.specs.order.Recording.{kinds}
@@ -7,11 +8,15 @@ use borrow.Author.Needs.{needs}
 use Rattle.checker.proofs.refusals.refusal.Statement.{statement}
 use Rattle.checker.proofs.refusals.refusal.Tie as tie
 
-returns : tie.Need-returns
+mark-refusal-requires : tie.Need-mark-refusal-requires
+mark-refusal-requires c κs = c .match .keys1
+
+act-refusal-requires : tie.Need-act-refusal-requires
+act-refusal-requires c κs = record { known = omega arith; no-mark = c .before .match .rest .1 }
+
+returns-3 : tie.Need-returns-3
 unfolding refusalBy
-returns c = rw (le-leb (length kinds) (c .before .before .args .r .kind) (c .if1 .taken))
+returns-3 c = rw (le-leb (length kinds) (c .before .before .args .r .kind) (omega (arith, c .before .match .rest .1)))
 
 pub refusal-spec : {M : Type 1} → statement M
-refusal-spec =
-    tie.close (tie.spec
-    returns (λ c κs. search needs) (λ c. search needs) (λ c κs. search needs) (λ c. search needs))
+refusal-spec = tie.close (tie.spec mark-refusal-requires act-refusal-requires (λ c. search needs) (λ c. search needs) returns-3)

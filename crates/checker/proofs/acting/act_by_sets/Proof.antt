@@ -1,0 +1,81 @@
+-- An access acquires from and releases to no other row; another act is kept nowhere, and passes order on.
+use mathlib.Core.Path.{_≡_, sym, ap, _∙_}
+use mathlib.Core.Bool.{Bool, true, false}
+use mathlib.Core.List.{List}
+use Prim.Native.Nat.{ℕ, _<_}
+use lib.Bits.{bitOr}
+use lib.ListN.{set}
+use borrow.Author.Tests.{ne-eqb}
+use Rattle.theory.specs.order.Limits.{tasks}
+use Rattle.theory.specs.order.Recording.{accesses}
+use Rattle.theory.specs.tables.Rows.{noteActed, onward}
+use Rattle.theory.specs.tables.Reckonings.{slotWords, addSlot, clearSlot, setOwn, setAct}
+use Rattle.theory.proofs.history.Unkept.{kept-nowhere}
+use Rattle.theory.proofs.tables.Rows.{same-or}
+use Rattle.theory.proofs.tables.Ranges.{access-fits, access-onward}
+use borrow.Author.Needs.{needs}
+use Rattle.checker.proofs.acting.act_by_sets.Statement.{statement}
+use Rattle.checker.proofs.acting.act_by_sets.Tie as tie
+
+-- an act that is no access takes no slots
+noted : (k t n : ℕ) (b : List ℕ) {x : List ℕ} → accesses k ≡ false → x ≡ noteActed slotWords t b → x ≡ setOwn k t n b
+noted k t n b h e = e ∙ ap (noteActed slotWords t) (sym (kept-nowhere (λ s b. addSlot t s (clearSlot s b)) k n t b h))
+
+module _ (asked : Bool) (k t n : ℕ) (b : List ℕ) {x : List ℕ} (e : x ≡ setOwn k t n b) where
+  -- after an access its own part is all
+  accessed : accesses k ≡ true → t < tasks → x ≡ setAct asked k t n b
+  accessed h l = e ∙ access-onward same-or slotWords asked k t n (setOwn k t n b) h l
+
+  -- after another act its order, too
+  passed : {y : List ℕ} → y ≡ onward bitOr slotWords asked k t n x → y ≡ setAct asked k t n b
+  passed q = q ∙ ap (onward bitOr slotWords asked k t n) e
+
+access-by-sets-requires : tie.Need-access-by-sets-requires
+access-by-sets-requires c κs =
+    let at-if1 = c .before .before .before in
+    let h = sym (at-if1 .before .is-access .ensures) ∙ at-if1 .if1 .taken in
+    let f = at-if1 .before .before .pre .0 in
+    (h, f .task-fits, access-fits f h)
+
+returns : tie.Need-returns
+returns c =
+    let at-if1 = c .before .before .before .before in
+    let a = at-if1 .before .before .args in
+    let (f, n) = at-if1 .before .before .pre in
+    let h = sym (at-if1 .before .is-access .ensures) ∙ at-if1 .if1 .taken in
+    let q = c .access-by-sets .ensures in (
+      simp h (q .0),
+      q .1,
+      simp (ne-eqb _ _ n) (accessed false (a .kind) (a .task .0) (a .on) (a .sets .now) (q .2) h (f .task-fits)),
+      simp (ne-eqb _ _ n) (accessed true (a .kind) (a .task .0) (a .on) (a .fullsets .now) (q .3) h (f .task-fits)),
+    )
+
+note-acted-requires : tie.Need-note-acted-requires
+note-acted-requires c κs = c .before .before .before .pre .0 .task-fits
+
+note-acted-requires-2 : tie.Need-note-acted-requires-2
+note-acted-requires-2 c κs = c .before .before .before .before .before .pre .0 .task-fits
+
+pass-on-requires : tie.Need-pass-on-requires
+pass-on-requires c κs = c .before .before .before .before .before .before .before .pre .0
+
+pass-on-requires-2 : tie.Need-pass-on-requires-2
+pass-on-requires-2 c κs = c .before .before .before .before .before .before .before .before .before .pre .0
+
+returns-2 : tie.Need-returns-2
+returns-2 c =
+    let at-own2 = c .before .before .before .before in
+    let at-own = at-own2 .before .before in
+    let at-if1 = at-own .before .before in
+    let a = at-if1 .before .before .args in
+    let (f, n) = at-if1 .before .before .pre in
+    let h = sym (at-if1 .before .is-access .ensures) ∙ at-if1 .if1 .left in (
+      simp h,
+      sym (kept-nowhere (λ s l. set l s (a .number .0)) (a .kind) (a .on) (a .task .0) (a .last .now) h),
+      simp (ne-eqb _ _ n) (passed false (a .kind) (a .task .0) (a .on) (a .sets .now) (noted (a .kind) (a .task .0) (a .on) (a .sets .now) h (at-own .note-acted .ensures)) (c .before .before .pass-on .ensures)),
+      simp (ne-eqb _ _ n) (passed true (a .kind) (a .task .0) (a .on) (a .fullsets .now) (noted (a .kind) (a .task .0) (a .on) (a .fullsets .now) h (at-own2 .note-acted2 .ensures)) (c .pass-on2 .ensures)),
+    )
+
+pub act-by-sets-spec : {M : Type 1} → statement M
+act-by-sets-spec = tie.close (tie.spec
+    (λ c κs. search needs) access-by-sets-requires returns note-acted-requires note-acted-requires-2 pass-on-requires pass-on-requires-2 returns-2)
