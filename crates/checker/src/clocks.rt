@@ -1,11 +1,11 @@
 // Clocks: a table with a row for each node and a column for each task, and one row more that says which tasks have acted. A cell has the
 // number of the task's last record from which order has come to the row's node. One table is for the recording as it arrived, one for the
 // fullest filling.
+use crate::bools::either;
 use crate::history::ask_at;
 use crate::history::slot;
 use crate::masks::lower_half;
 use crate::masks::weight_of;
-use crate::refusals::either;
 use crate::rows::acquired_row;
 use crate::rows::acted_after;
 use crate::rows::has_bit;

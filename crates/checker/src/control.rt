@@ -13,7 +13,7 @@ ghost use Rattle.theory.specs.acceptance.Control.{liveIn, unseenIn, countIn, co
 
 const UNSEEN: u32 = 0;
 
-const LIVE: u32 = 1;
+pub(crate) const LIVE: u32 = 1;
 
 const ENDED: u32 = 2;
 

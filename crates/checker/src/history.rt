@@ -1,7 +1,7 @@
 // The kept accesses, by the kind that asks: for each kind of access, variable and task the task's latest access to the variable that clashes
 // with one of that kind, by its record number.
-use crate::refusals::both;
-use crate::refusals::either;
+use crate::bools::both;
+use crate::bools::either;
 use theory::ASKERS;
 use theory::COLUMNS;
 use theory::History;

@@ -1,4 +1,6 @@
 // Which records are refused, and by which row of the refusal table. crates/theory/specs/acceptance/Table.antt has the rows, and each test here is one of them.
+use crate::bools::both;
+use crate::bools::either;
 use crate::control::is_live;
 use crate::control::is_unseen;
 use crate::masks::MASKS;
@@ -36,19 +38,6 @@ ghost use Rattle.theory.specs.acceptance.Control.{liveIn, unseenIn, countIn, re
 const LAST_KIND: u8 = KINDS - 1;
 
 const LAST_MASK: u32 = MASKS - 1;
-
-// `||` and `&&` as calls, so that no branches are left to join where they stand.
-pub(crate) fn either(a: bool, b: bool) -> bool
-    ensures { λ r. ⌜ r ≡ (a || b) ⌝ }
-{
-    if a { true } else { b }
-}
-
-pub(crate) fn both(a: bool, b: bool) -> bool
-    ensures { λ r. ⌜ r ≡ (a && b) ⌝ }
-{
-    if a { b } else { false }
-}
 
 // Row 3: the number is none of the kind's series.
 fn outside(kind: u8, on: u32) -> bool

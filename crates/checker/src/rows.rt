@@ -4,6 +4,7 @@ use theory::FIRST_SEMAPHORE;
 use theory::Flag;
 use theory::GIVE;
 use theory::HUB;
+use theory::JOIN;
 use theory::LOOK;
 use theory::SET;
 use theory::START;
@@ -11,9 +12,10 @@ use theory::Semaphore;
 use theory::TAKE;
 use theory::Task;
 ghost use mathlib.Core.Path.{_≡_};
-ghost use mathlib.Core.Bool.{cond};
+ghost use mathlib.Core.Bool.{true, cond};
 ghost use Prim.Native.Nat.{_<_};
 ghost use Rattle.theory.specs.order.Limits.{tasks};
+ghost use Rattle.theory.specs.order.Recording.{Op, kind as number};
 ghost use Rattle.theory.specs.fillings.Completion.{bit};
 ghost use Rattle.theory.specs.tables.Rows.{taskRow, semaphoreRow, flagRow, hub, rowCount, acquiredRow, releasedRow, isReleased, rowOrHub};
 
@@ -48,12 +50,14 @@ fn flag_row(f: Flag) -> usize
 
 // The row that an act acquires beside its own task's; that own row where there is none. A join reads the ended task's, if that has acted.
 pub(crate) fn acquired_row(kind: u8, task: Task, on: u32, joins: bool) -> usize
+    requires { ⌜ (joins ≡ true → kind ≡ number Op.join) ⌝ }
     ensures { λ r. ⌜ r ≡ acquiredRow kind (task .0) on joins ⌝ }
 {
     match kind {
         TAKE => semaphore_row(Semaphore(on)),
         LOOK => flag_row(Flag(on)),
-        _ => task_row_of(joins, Task(on), task),
+        JOIN => task_row_of(joins, Task(on), task),
+        _ => task_row(task),
     }
 }
 

@@ -1,6 +1,8 @@
 // Sets: a table with a row for each node and a bit for each kept access, and one row more that says which tasks have acted. A bit is 1
 // where order from the access has come to the row's node, so that a slot's bits are the set of tasks and objects that document 004 grows.
 // One table is for the recording as it arrived, one for the fullest filling. All sets grow together, a row at a time.
+use crate::bools::both;
+use crate::bools::either;
 use crate::history::ask_at;
 use crate::history::clashes;
 use crate::history::latest_number;
@@ -8,8 +10,6 @@ use crate::history::slot;
 use crate::masks::lower_half;
 use crate::masks::weight;
 use crate::masks::weight_of;
-use crate::refusals::both;
-use crate::refusals::either;
 use crate::rows::acquired_row;
 use crate::rows::acted_after;
 use crate::rows::has_bit;
