@@ -1,5 +1,5 @@
-// What an accepted act does to the history and to the tables of a reckoning, and its answer: by the clocks, and the same by the sets. Its number
-// is told apart here: that of an access is a variable.
+// What an accepted act does to the history and to the tables of a reckoning, and its answer: by the clocks, and the same by the sets. The
+// number of an access is a variable; that of any other act goes on with its kind, which says in clocks.rt, sets.rt and rows.rt what it is.
 use crate::clocks;
 use crate::clocks::clock_masks;
 use crate::history::is_access;
@@ -47,7 +47,7 @@ fn take_in(
     answer
 }
 
-// An access acquires from and releases to no other row.
+// An access, by the clocks: its own cells are all that changes there, since it acquires from and releases to no other row.
 fn access_by_clocks(
     last: &mut History,
     clocks: &mut Clocks,
@@ -70,7 +70,7 @@ fn access_by_clocks(
     take_in(last, kind, task, v, number, masks)
 }
 
-// An access by its variable; any other act hands over.
+// An act, by the clocks. One that is no access is kept nowhere, and passes order on.
 pub(crate) fn act_by_clocks(
     last: &mut History,
     clocks: &mut Clocks,
@@ -97,6 +97,7 @@ pub(crate) fn act_by_clocks(
     Answer::Accepted(number)
 }
 
+// An access, by the sets: it takes its slots anew.
 fn access_by_sets(
     last: &mut History,
     sets: &mut Sets,
@@ -119,6 +120,7 @@ fn access_by_sets(
     take_in(last, kind, task, v, number, masks)
 }
 
+// An act, by the sets.
 pub(crate) fn act_by_sets(
     last: &mut History,
     sets: &mut Sets,

@@ -48,9 +48,6 @@ ghost use Rattle.theory.proofs.tables.Reckoned.{apartBy};
 // Where the row of what has acted begins.
 const FIRST_ACTED: usize = ACTED * SLOT_WORDS;
 
-// A word with all its bits.
-const ALL: u32 = 4_294_967_295;
-
 // What row `from` knows is known to row `to` as well.
 fn join_row(cells: &mut Sets, to: usize, from: usize)
     requires { ⌜ (to ≤ actedRow) × (from ≤ actedRow) ⌝ }
@@ -179,7 +176,7 @@ fn all_but(k: u32) -> u32
     requires { ⌜ k < wordBits ⌝ }
     ensures { λ r. ⌜ r ≡ 2 ^ wordBits - 1 - 2 ^ k ⌝ }
 {
-    ALL - weight(k)
+    !weight(k)
 }
 
 // No row knows of the slot's access.

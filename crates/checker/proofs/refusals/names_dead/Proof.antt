@@ -1,4 +1,4 @@
--- `checker::refusals::names_dead`: the task is below 16, so that its bit alone decides whether the mask names it. Assumes nothing.
+-- `checker::refusals::names_dead`: the task is one of the tasks, so that its bit alone decides whether the mask names it. Assumes nothing.
 use borrow.Author.Tests.{lt-ltb}
 use Rattle.theory.specs.order.Limits.{tasks}
 use borrow.Author.Needs.{needs}
