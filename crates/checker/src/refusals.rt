@@ -185,8 +185,10 @@ pub fn refusal(control: &Control, r: Record) -> u32
 {
     let kind = r.kind;
     match kind {
-        LOST => mark_refusal(control, r),
-        0..=LAST_KIND => act_refusal(control, r),
+        0..=LAST_KIND => match kind {
+            LOST => mark_refusal(control, r),
+            _ => act_refusal(control, r),
+        },
         _ => 1,
     }
 }

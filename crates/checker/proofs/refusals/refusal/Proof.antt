@@ -1,5 +1,4 @@
 -- The refusal is the number of the first row that applies.
-use native.Mathlib.Omega.{arith}
 use borrow.Author.Tests.{le-leb}
 use lib.ListN.{length}
 use Rattle.theory.specs.order.Recording.{kinds}
@@ -8,15 +7,12 @@ use borrow.Author.Needs.{needs}
 use Rattle.checker.proofs.refusals.refusal.Statement.{statement}
 use Rattle.checker.proofs.refusals.refusal.Tie as tie
 
-mark-refusal-requires : tie.Need-mark-refusal-requires
-mark-refusal-requires c κs = c .match .keys1
-
 act-refusal-requires : tie.Need-act-refusal-requires
-act-refusal-requires c κs = record { known = omega arith; no-mark = c .before .match .rest .1 }
+act-refusal-requires c κs = record { known = c .before .if1 .taken; no-mark = c .match .rest .1 }
 
 returns-3 : tie.Need-returns-3
 unfolding refusalBy
-returns-3 c = rw (le-leb (length kinds) (c .before .before .args .r .kind) (omega (arith, c .before .match .rest .1)))
+returns-3 c = rw (le-leb (length kinds) (c .before .args .r .kind) (c .if1 .left))
 
 pub refusal-spec : {M : Type 1} → statement M
-refusal-spec = tie.close (tie.spec mark-refusal-requires act-refusal-requires (λ c. search needs) (λ c. search needs) returns-3)
+refusal-spec = tie.close (tie.spec (λ c κs. c .match .keys1) act-refusal-requires (λ c. search needs) (λ c. search needs) returns-3)
