@@ -58,11 +58,12 @@ fn access_by_clocks(
     number: RecordNumber,
 ) -> Answer
     requires { ⌜ (accesses kind ≡ true) × (task .0 < tasks) × (v .0 < variables) ⌝ }
-    ensures { λ a. let l = seen last in ⌜ (a ≡ judgedBy (l .entry) kind (v .0) (number .0) (clockMask (now (fullclocks .entry)) (l .entry) kind (task .0) (v .0))
-        (clockMask (now (clocks .entry)) (l .entry) kind (task .0) (v .0)))
+    ensures { λ a. let l = seen last in let c = seen clocks in let f = seen fullclocks in
+        ⌜ (a ≡ judgedBy (l .entry) kind (v .0) (number .0)
+        (clockMask (f .entry) (l .entry) kind (task .0) (v .0)) (clockMask (c .entry) (l .entry) kind (task .0) (v .0)))
         × (l .exit ≡ lastAfter kind (task .0) (v .0) (number .0) (l .entry))
-        × (now (clocks .exit) ≡ clockOwn (task .0) (number .0) (now (clocks .entry)))
-        × (now (fullclocks .exit) ≡ clockOwn (task .0) (number .0) (now (fullclocks .entry))) ⌝ }
+        × (c .exit ≡ clockOwn (task .0) (number .0) (c .entry))
+        × (f .exit ≡ clockOwn (task .0) (number .0) (f .entry)) ⌝ }
 {
     let masks = clock_masks(clocks, fullclocks, last, kind, task, v);
     clocks::own(clocks, task, number);
@@ -108,11 +109,12 @@ fn access_by_sets(
     number: RecordNumber,
 ) -> Answer
     requires { ⌜ (accesses kind ≡ true) × (task .0 < tasks) × (v .0 < variables) ⌝ }
-    ensures { λ a. let l = seen last in ⌜ (a ≡ judgedBy (l .entry) kind (v .0) (number .0) (setMask (now (fullsets .entry)) (l .entry) kind (task .0) (v .0))
-        (setMask (now (sets .entry)) (l .entry) kind (task .0) (v .0)))
+    ensures { λ a. let l = seen last in let s = seen sets in let f = seen fullsets in
+        ⌜ (a ≡ judgedBy (l .entry) kind (v .0) (number .0)
+        (setMask (f .entry) (l .entry) kind (task .0) (v .0)) (setMask (s .entry) (l .entry) kind (task .0) (v .0)))
         × (l .exit ≡ lastAfter kind (task .0) (v .0) (number .0) (l .entry))
-        × (now (sets .exit) ≡ setOwn kind (task .0) (v .0) (now (sets .entry)))
-        × (now (fullsets .exit) ≡ setOwn kind (task .0) (v .0) (now (fullsets .entry))) ⌝ }
+        × (s .exit ≡ setOwn kind (task .0) (v .0) (s .entry))
+        × (f .exit ≡ setOwn kind (task .0) (v .0) (f .entry)) ⌝ }
 {
     let masks = set_masks(sets, fullsets, last, kind, task, v);
     sets::own(sets, kind, task, v);
@@ -131,10 +133,10 @@ pub(crate) fn act_by_sets(
     number: RecordNumber,
 ) -> Answer
     requires { ⌜ Fitting kind (task .0) on × (kind ≢ lossMark) ⌝ }
-    ensures { λ a. let l = seen last in let c = seen sets in let f = seen fullsets in
-        ⌜ (a ≡ answeredBy (l .entry) kind on (number .0) (setMasks (c .entry) (f .entry) (l .entry) kind (task .0) on))
+    ensures { λ a. let l = seen last in let s = seen sets in let f = seen fullsets in
+        ⌜ (a ≡ answeredBy (l .entry) kind on (number .0) (setMasks (s .entry) (f .entry) (l .entry) kind (task .0) on))
         × (l .exit ≡ lastAfter kind (task .0) on (number .0) (l .entry))
-        × (c .exit ≡ setsBy arrived kind (task .0) on (c .entry))
+        × (s .exit ≡ setsBy arrived kind (task .0) on (s .entry))
         × (f .exit ≡ setsBy full kind (task .0) on (f .entry)) ⌝ }
 {
     if is_access(kind) {

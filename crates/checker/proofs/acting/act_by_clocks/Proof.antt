@@ -11,19 +11,11 @@ use Rattle.theory.specs.tables.Rows.{onward}
 use Rattle.theory.specs.tables.Reckonings.{clockOwn, clockAct}
 use Rattle.theory.proofs.history.Unkept.{kept-nowhere}
 use Rattle.theory.proofs.tables.Rows.{same-max}
-use Rattle.theory.proofs.tables.Ranges.{access-fits, access-onward}
+use Rattle.theory.proofs.tables.Ranges.{access-fits}
+use Rattle.theory.proofs.tables.Onward.{accessed, passed-on}
 use borrow.Author.Needs.{needs}
 use Rattle.checker.proofs.acting.act_by_clocks.Statement.{statement}
 use Rattle.checker.proofs.acting.act_by_clocks.Tie as tie
-
-module _ (asked : Bool) (k t n m : ℕ) (b : List ℕ) {x : List ℕ} (e : x ≡ clockOwn t m b) where
-  -- after an access its own part is all
-  accessed : accesses k ≡ true → t < tasks → x ≡ clockAct asked k t n m b
-  accessed h l = e ∙ access-onward same-max tasks asked k t n (clockOwn t m b) h l
-
-  -- after another act its order, too
-  passed : {y : List ℕ} → y ≡ onward max tasks asked k t n x → y ≡ clockAct asked k t n m b
-  passed q = q ∙ ap (onward max tasks asked k t n) e
 
 access-by-clocks-requires : tie.Need-access-by-clocks-requires
 access-by-clocks-requires c κs =
@@ -41,8 +33,8 @@ returns c =
     let q = c .access-by-clocks .ensures in (
       simp h (q .0),
       q .1,
-      simp (ne-eqb _ _ n) (accessed false (a .kind) (a .task .0) (a .on) (a .number .0) (a .clocks .now) (q .2) h (f .task-fits)),
-      simp (ne-eqb _ _ n) (accessed true (a .kind) (a .task .0) (a .on) (a .number .0) (a .fullclocks .now) (q .3) h (f .task-fits)),
+      simp (ne-eqb _ _ n) (accessed same-max tasks false (a .kind) (a .task .0) (a .on) (clockOwn (a .task .0) (a .number .0) (a .clocks .now)) (q .2) h (f .task-fits)),
+      simp (ne-eqb _ _ n) (accessed same-max tasks true (a .kind) (a .task .0) (a .on) (clockOwn (a .task .0) (a .number .0) (a .fullclocks .now)) (q .3) h (f .task-fits)),
     )
 
 own-requires : tie.Need-own-requires
@@ -67,8 +59,8 @@ returns-2 c =
     let h = sym (at-if1 .before .is-access .ensures) ∙ at-if1 .if1 .left in (
       simp h,
       sym (kept-nowhere (λ s l. set l s (a .number .0)) (a .kind) (a .on) (a .task .0) (a .last .now) h),
-      simp (ne-eqb _ _ n) (passed false (a .kind) (a .task .0) (a .on) (a .number .0) (a .clocks .now) (at-own .own .ensures) (c .before .before .pass-on .ensures)),
-      simp (ne-eqb _ _ n) (passed true (a .kind) (a .task .0) (a .on) (a .number .0) (a .fullclocks .now) (at-own2 .own2 .ensures) (c .pass-on2 .ensures)),
+      simp (ne-eqb _ _ n) (passed-on same-max tasks false (a .kind) (a .task .0) (a .on) (clockOwn (a .task .0) (a .number .0) (a .clocks .now)) (at-own .own .ensures) (c .before .before .pass-on .ensures)),
+      simp (ne-eqb _ _ n) (passed-on same-max tasks true (a .kind) (a .task .0) (a .on) (clockOwn (a .task .0) (a .number .0) (a .fullclocks .now)) (at-own2 .own2 .ensures) (c .pass-on2 .ensures)),
     )
 
 pub act-by-clocks-spec : {M : Type 1} → statement M

@@ -12,7 +12,8 @@ use Rattle.theory.specs.tables.Rows.{noteActed, onward}
 use Rattle.theory.specs.tables.Reckonings.{slotWords, addSlot, clearSlot, setOwn, setAct}
 use Rattle.theory.proofs.history.Unkept.{kept-nowhere}
 use Rattle.theory.proofs.tables.Rows.{same-or}
-use Rattle.theory.proofs.tables.Ranges.{access-fits, access-onward}
+use Rattle.theory.proofs.tables.Ranges.{access-fits}
+use Rattle.theory.proofs.tables.Onward.{accessed, passed-on}
 use borrow.Author.Needs.{needs}
 use Rattle.checker.proofs.acting.act_by_sets.Statement.{statement}
 use Rattle.checker.proofs.acting.act_by_sets.Tie as tie
@@ -20,15 +21,6 @@ use Rattle.checker.proofs.acting.act_by_sets.Tie as tie
 -- an act that is no access takes no slots
 noted : (k t n : ℕ) (b : List ℕ) {x : List ℕ} → accesses k ≡ false → x ≡ noteActed slotWords t b → x ≡ setOwn k t n b
 noted k t n b h e = e ∙ ap (noteActed slotWords t) (sym (kept-nowhere (λ s b. addSlot t s (clearSlot s b)) k n t b h))
-
-module _ (asked : Bool) (k t n : ℕ) (b : List ℕ) {x : List ℕ} (e : x ≡ setOwn k t n b) where
-  -- after an access its own part is all
-  accessed : accesses k ≡ true → t < tasks → x ≡ setAct asked k t n b
-  accessed h l = e ∙ access-onward same-or slotWords asked k t n (setOwn k t n b) h l
-
-  -- after another act its order, too
-  passed : {y : List ℕ} → y ≡ onward bitOr slotWords asked k t n x → y ≡ setAct asked k t n b
-  passed q = q ∙ ap (onward bitOr slotWords asked k t n) e
 
 access-by-sets-requires : tie.Need-access-by-sets-requires
 access-by-sets-requires c κs =
@@ -46,8 +38,8 @@ returns c =
     let q = c .access-by-sets .ensures in (
       simp h (q .0),
       q .1,
-      simp (ne-eqb _ _ n) (accessed false (a .kind) (a .task .0) (a .on) (a .sets .now) (q .2) h (f .task-fits)),
-      simp (ne-eqb _ _ n) (accessed true (a .kind) (a .task .0) (a .on) (a .fullsets .now) (q .3) h (f .task-fits)),
+      simp (ne-eqb _ _ n) (accessed same-or slotWords false (a .kind) (a .task .0) (a .on) (setOwn (a .kind) (a .task .0) (a .on) (a .sets .now)) (q .2) h (f .task-fits)),
+      simp (ne-eqb _ _ n) (accessed same-or slotWords true (a .kind) (a .task .0) (a .on) (setOwn (a .kind) (a .task .0) (a .on) (a .fullsets .now)) (q .3) h (f .task-fits)),
     )
 
 note-acted-requires : tie.Need-note-acted-requires
@@ -72,8 +64,8 @@ returns-2 c =
     let h = sym (at-if1 .before .is-access .ensures) ∙ at-if1 .if1 .left in (
       simp h,
       sym (kept-nowhere (λ s l. set l s (a .number .0)) (a .kind) (a .on) (a .task .0) (a .last .now) h),
-      simp (ne-eqb _ _ n) (passed false (a .kind) (a .task .0) (a .on) (a .sets .now) (noted (a .kind) (a .task .0) (a .on) (a .sets .now) h (at-own .note-acted .ensures)) (c .before .before .pass-on .ensures)),
-      simp (ne-eqb _ _ n) (passed true (a .kind) (a .task .0) (a .on) (a .fullsets .now) (noted (a .kind) (a .task .0) (a .on) (a .fullsets .now) h (at-own2 .note-acted2 .ensures)) (c .pass-on2 .ensures)),
+      simp (ne-eqb _ _ n) (passed-on same-or slotWords false (a .kind) (a .task .0) (a .on) (setOwn (a .kind) (a .task .0) (a .on) (a .sets .now)) (noted (a .kind) (a .task .0) (a .on) (a .sets .now) h (at-own .note-acted .ensures)) (c .before .before .pass-on .ensures)),
+      simp (ne-eqb _ _ n) (passed-on same-or slotWords true (a .kind) (a .task .0) (a .on) (setOwn (a .kind) (a .task .0) (a .on) (a .fullsets .now)) (noted (a .kind) (a .task .0) (a .on) (a .fullsets .now) h (at-own2 .note-acted2 .ensures)) (c .pass-on2 .ensures)),
     )
 
 pub act-by-sets-spec : {M : Type 1} → statement M

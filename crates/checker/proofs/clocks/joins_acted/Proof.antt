@@ -1,6 +1,5 @@
 -- A join's task is looked up in the row of what has acted; any other act joins none.
 use borrow.Author.Tests.{ne-eqb}
-use borrow.Author.Needs.{needs}
 use Rattle.checker.proofs.clocks.joins_acted.Statement.{statement}
 use Rattle.checker.proofs.clocks.joins_acted.Tie as tie
 
@@ -14,4 +13,5 @@ returns-2 : tie.Need-returns-2
 returns-2 c = rw (ne-eqb _ _ (c .match .rest .1))
 
 pub joins-acted-spec : {M : Type 1} → statement M
-joins-acted-spec = tie.close (tie.spec has-acted-requires returns returns-2)
+joins-acted-spec = tie.close (tie.spec
+    has-acted-requires returns returns-2)

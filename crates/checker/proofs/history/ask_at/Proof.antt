@@ -15,4 +15,5 @@ returns-3 : tie.Need-returns-3
 returns-3 c = rw (no-access-else (c .before .args .kind) (search needs)) (refl, refl)
 
 pub ask-at-spec : {M : Type 1} → statement M
-ask-at-spec = tie.close (tie.spec returns returns-2 returns-3)
+ask-at-spec = tie.close (tie.spec
+    returns returns-2 returns-3)

@@ -10,4 +10,5 @@ returns : tie.Need-returns
 returns c = (refl, trailing-lt tasks (c .args .mask) (c .pre) (omega arith))
 
 pub lowest-spec : {M : Type 1} → statement M
-lowest-spec = tie.close (tie.spec returns)
+lowest-spec = tie.close (tie.spec
+    returns)

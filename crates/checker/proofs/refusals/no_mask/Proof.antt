@@ -16,4 +16,5 @@ returns-3 : tie.Need-returns-3
 returns-3 c = rw (ne-eqb (c .before .before .args .on) 0 (λ e. omega arith), le-leb (2 ^ tasks) _ (c .if2 .left))
 
 pub no-mask-spec : {M : Type 1} → statement M
-no-mask-spec = tie.close (tie.spec returns returns-2 returns-3)
+no-mask-spec = tie.close (tie.spec
+    returns returns-2 returns-3)

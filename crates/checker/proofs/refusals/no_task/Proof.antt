@@ -12,4 +12,5 @@ returns-2 : tie.Need-returns-2
 returns-2 c = sym (le-leb tasks _ (c .if1 .left))
 
 pub no-task-spec : {M : Type 1} → statement M
-no-task-spec = tie.close (tie.spec returns returns-2)
+no-task-spec = tie.close (tie.spec
+    returns returns-2)

@@ -50,4 +50,5 @@ returns-8 c =
     beyond (a .kind) variables (a .on) (⊎-elim (λ w. series-pair (kind Op.read) (a .kind) variables refl refl (omega arith) (w .taken)) (λ w. series-above (a .kind) (w .3 .left)) (c .before .if1 .came)) (c .if8 .left)
 
 pub outside-spec : {M : Type 1} → statement M
-outside-spec = tie.close (tie.spec returns returns-2 returns-3 returns-4 returns-5 returns-6 returns-7 returns-8)
+outside-spec = tie.close (tie.spec
+    returns returns-2 returns-3 returns-4 returns-5 returns-6 returns-7 returns-8)
