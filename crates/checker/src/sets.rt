@@ -41,7 +41,7 @@ ghost use Rattle.theory.specs.order.Limits.{tasks, variables};
 ghost use Rattle.theory.specs.order.Recording.{Op, kind as number, kindAt, accesses};
 ghost use Rattle.theory.specs.acceptance.Table.{Fitting};
 ghost use Rattle.theory.specs.history.History.{askers, asker, clashBy, slot as slotOf, slots, underEach};
-ghost use Rattle.theory.specs.tables.Rows.{rowCount, actedRow, cell, joinRow, rowOf, joinWith, putRow, flow, noteActed, joinsActed, onward, gather, spread, noteNamed, mix};
+ghost use Rattle.theory.specs.tables.Rows.{actedRow, cell, joinRow, rowOf, joinWith, putRow, flow, noteActed, joinsActed, onward, gather, spread, noteNamed, mix};
 ghost use Rattle.theory.specs.tables.Reckonings.{wordBits, slotWords, knownSlots, clearSlot, addSlot, setOwn, setMask, masksBy};
 ghost use Rattle.theory.proofs.tables.Reckoned.{apartBy};
 

@@ -1,14 +1,10 @@
 -- An access acquires from and releases to no other row; another act is kept nowhere, and passes order on.
-use mathlib.Core.Path.{_≡_, sym, ap, _∙_}
-use mathlib.Core.Bool.{Bool, true, false}
-use mathlib.Core.List.{List}
-use Prim.Native.Nat.{ℕ, _<_, max}
+use mathlib.Core.Path.{sym, _∙_}
+use mathlib.Core.Bool.{true, false}
 use lib.ListN.{set}
 use borrow.Author.Tests.{ne-eqb}
 use Rattle.theory.specs.order.Limits.{tasks}
-use Rattle.theory.specs.order.Recording.{accesses}
-use Rattle.theory.specs.tables.Rows.{onward}
-use Rattle.theory.specs.tables.Reckonings.{clockOwn, clockAct}
+use Rattle.theory.specs.tables.Reckonings.{clockOwn}
 use Rattle.theory.proofs.history.Unkept.{kept-nowhere}
 use Rattle.theory.proofs.tables.Rows.{same-max}
 use Rattle.theory.proofs.tables.Ranges.{access-fits}

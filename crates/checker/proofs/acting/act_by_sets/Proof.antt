@@ -1,15 +1,13 @@
 -- An access acquires from and releases to no other row; another act is kept nowhere, and passes order on.
 use mathlib.Core.Path.{_≡_, sym, ap, _∙_}
-use mathlib.Core.Bool.{Bool, true, false}
+use mathlib.Core.Bool.{true, false}
 use mathlib.Core.List.{List}
-use Prim.Native.Nat.{ℕ, _<_}
-use lib.Bits.{bitOr}
+use Prim.Native.Nat.{ℕ}
 use lib.ListN.{set}
 use borrow.Author.Tests.{ne-eqb}
-use Rattle.theory.specs.order.Limits.{tasks}
 use Rattle.theory.specs.order.Recording.{accesses}
-use Rattle.theory.specs.tables.Rows.{noteActed, onward}
-use Rattle.theory.specs.tables.Reckonings.{slotWords, addSlot, clearSlot, setOwn, setAct}
+use Rattle.theory.specs.tables.Rows.{noteActed}
+use Rattle.theory.specs.tables.Reckonings.{slotWords, addSlot, clearSlot, setOwn}
 use Rattle.theory.proofs.history.Unkept.{kept-nowhere}
 use Rattle.theory.proofs.tables.Rows.{same-or}
 use Rattle.theory.proofs.tables.Ranges.{access-fits}
