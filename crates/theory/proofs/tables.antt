@@ -11,6 +11,7 @@ pub mod Exact
 pub mod ClockTables
 pub mod SetTables
 pub mod Ranges
+pub mod Onward
 pub mod Reckoned
 pub mod Masked
 pub mod Finds

@@ -12,11 +12,11 @@ use Rattle.checker.proofs.sets.keep_anew.Statement.{statement}
 use Rattle.checker.proofs.sets.keep_anew.Tie as tie
 
 abbrev Inv-loop : tie.InvT-loop
-Inv-loop cells₀ kind task on a₀ cells a =
-    (a ≤ length askers) × Turned (λ a b. cond (clashBy (kindAt kind) (asker a)) (addSlot task (slot a on task) (clearSlot (slot a on task) b)) b) cells₀ a cells
+Inv-loop cells₀ kind task v a₀ cells a =
+    (a ≤ length askers) × Turned (λ a b. cond (clashBy (kindAt kind) (asker a)) (addSlot (task .0) (slot a (v .0) (task .0)) (clearSlot (slot a (v .0) (task .0)) b)) b) cells₀ a cells
 
 abbrev μ-loop : tie.MeasureT-loop
-μ-loop cells₀ kind task on a₀ cells a = length askers - a
+μ-loop cells₀ kind task v a₀ cells a = length askers - a
 
 loop-holds : tie.Need-loop-holds Inv-loop μ-loop
 loop-holds c = (search needs, no-turn)
