@@ -1,10 +1,8 @@
 // The functions for a host in C that keeps a running state. They are an archive of their own: in one with `order_report` the step would
 // have two callers, and the compiler would no longer make it part of the loop over lines.
 mod feeding;
-mod pieces;
 
 pub use feeding::order_begin;
 pub use feeding::order_feed;
 pub use feeding::order_sets_begin;
 pub use feeding::order_sets_feed;
-pub use pieces::order_piece;

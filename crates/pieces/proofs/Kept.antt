@@ -8,7 +8,7 @@ use lib.ListN.{length, set, getD}
 use lib.Seq.{sets, set-getD}
 use Rattle.text.specs.declared.progress.Progress.{Progress}
 use Rattle.text.specs.Pieces.{Kept, saidIn, afterPiece, progressAfter, refused}
-use Rattle.host.specs.Begun.{begun, counts}
+use Rattle.pieces.specs.Begun.{begun, counts}
 
 -- the numbers with the progress written into them
 abbrev stored : List ℕ → Progress → List ℕ

@@ -2,11 +2,11 @@
 use lib.ListN.{length}
 use Rattle.theory.specs.feeding.Lent.{stateOf}
 use Rattle.text.specs.Pieces.{keptOf, fits}
-use Rattle.host.specs.Begun.{begun}
+use Rattle.pieces.specs.Begun.{begun}
 use borrow.Author.Needs.{needs}
-use Rattle.host.proofs.Kept.{numbers-after}
-use Rattle.host.proofs.pieces.order_piece.Statement.{statement}
-use Rattle.host.proofs.pieces.order_piece.Tie as tie
+use Rattle.pieces.proofs.Kept.{numbers-after}
+use Rattle.pieces.proofs.order_piece.Statement.{statement}
+use Rattle.pieces.proofs.order_piece.Tie as tie
 
 returns : tie.Need-returns
 returns c =

@@ -1,4 +1,5 @@
-// A text that comes in pieces, for a host program in C that keeps what is between them.
+// A text that comes in pieces, for a host program in C that keeps what is between them; include/order.h has the same function for C. It is
+// an archive of its own: in one with `order_feed` the step would have two callers, and the compiler would no longer make it part of either.
 use report::report_piece;
 use text::Progress;
 use theory::Clocks;
@@ -11,7 +12,7 @@ ghost use lib.ListN.{length};
 ghost use lib.Seq.{sets as written};
 ghost use Rattle.theory.specs.feeding.Lent.{tables};
 ghost use Rattle.text.specs.Pieces.{keptOf, fits, saidIn, afterPiece};
-ghost use Rattle.host.specs.Begun.{begun, counts};
+ghost use Rattle.pieces.specs.Begun.{begun, counts};
 
 // So many bytes of a line are held at most.
 const HELD: usize = 65;
