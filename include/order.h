@@ -109,7 +109,8 @@ struct order_text {
  *
  * A text may end without LF. Its last line is then answered by one piece more, of LF alone.
  *
- * The pointers must be valid for their lengths and sizes, aligned and not null, also where a length is 0, and no two may overlap. */
+ * The pointers must be valid for their lengths and sizes, aligned and not null, also where a length is 0, and no two may overlap.
+ * The call needs under 1 kilobyte of stack. */
 uint64_t order_piece(const uint8_t *piece, size_t piece_len, uint8_t *report, size_t report_len, uint8_t held[ORDER_HELD_BYTES],
                      uint64_t progress[2], uint32_t control[ORDER_CONTROL_CELLS], uint32_t last[ORDER_HISTORY_CELLS],
                      uint32_t clocks[ORDER_CLOCK_CELLS], uint32_t fullclocks[ORDER_CLOCK_CELLS]);

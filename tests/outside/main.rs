@@ -8,11 +8,11 @@ mod cuts;
 mod entry;
 mod examples;
 mod feeding;
-mod gateway;
 mod generate;
 mod numbers;
 mod oracle;
 mod program;
+mod streaming;
 mod tally;
 
 use cuts::{Cuts, WAYS};
@@ -33,7 +33,7 @@ fn run_examples(tally: &mut Tally, order: Option<&str>) {
         tally.expect(&format!("oracle, {name}"), &example.text, &example.report, Ok(oracle::report_of(&example.text).into()));
         tally.expect(&format!("entry, {name}"), &example.text, &example.report, entry::report(&example.text, at));
         for cuts in WAYS {
-            let answer = gateway::report(&example.text, cuts);
+            let answer = streaming::report(&example.text, cuts);
             tally.expect(&format!("pieces, {name}, cut {cuts:?}"), &example.text, &example.report, answer);
         }
         let reading = oracle::read(&example.text);
@@ -58,7 +58,7 @@ fn run_full(tally: &mut Tally, order: Option<&str>) {
     tally.check(refused == 7, || format!("oracle, row 5: {refused} lines refused"));
     let whole = |answer: Result<Vec<u8>, String>| answer.is_ok_and(|got| got == example.report.as_bytes());
     tally.check(whole(entry::report(&example.text, 0)), || "entry, row 5".to_string());
-    tally.check(whole(gateway::report(&example.text, Cuts::Anywhere(5))), || "pieces, row 5".to_string());
+    tally.check(whole(streaming::report(&example.text, Cuts::Anywhere(5))), || "pieces, row 5".to_string());
     // The search would take too long; one task alone has no conflict.
     let clear = |access| Judged { access, verdict: Verdict::Clear, with: 0 };
     let judged: Vec<_> = oracle::accesses(&reading.recording).into_iter().map(clear).collect();
@@ -107,7 +107,7 @@ fn run_between(tally: &mut Tally) {
         let judged = oracle::judge(&reading.recording);
         let report = oracle::report(&reading, &judged);
         tally.expect("entry, in between", &text, &report, entry::report(&text, 0));
-        tally.expect("pieces, in between", &text, &report, gateway::report(&text, gateway::way(&text)));
+        tally.expect("pieces, in between", &text, &report, streaming::report(&text, streaming::way(&text)));
         feeding::expect(tally, "in between", &feeding::records(&text), &reading, &judged);
     }
 }
@@ -156,8 +156,8 @@ fn run_one(tally: &mut Tally, random: &mut Random, name: &str, shape: &Shape, or
     }
     tally.see("recordings with a mark", reading.recording.iter().any(|record| matches!(record, oracle::Record::Lost(_))) as usize);
     tally.expect(&format!("entry, {name}"), &text, &report, entry::report(&text, random.below(70)));
-    let cuts = gateway::way(&text);
-    tally.expect(&format!("pieces, {name}, cut {cuts:?}"), &text, &report, gateway::report(&text, cuts));
+    let cuts = streaming::way(&text);
+    tally.expect(&format!("pieces, {name}, cut {cuts:?}"), &text, &report, streaming::report(&text, cuts));
     feeding::expect(tally, name, &feeding::records(&text), &reading, &judged);
     run_row_11(tally, &text);
     if let Some((order, cuts)) = order {
