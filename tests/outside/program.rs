@@ -1,6 +1,6 @@
 //! The program `order`, fed through a pipe in pieces.
 
-use crate::generate::Random;
+use crate::cuts::{pieces, Cuts};
 use std::io::{Read, Write};
 use std::os::fd::{AsRawFd, RawFd};
 use std::process::{Child, Command, Stdio};
@@ -11,48 +11,6 @@ const FIONREAD: u64 = 0x541b;
 
 extern "C" {
     fn ioctl(fd: i32, request: u64, ...) -> i32;
-}
-
-/// Where the text is cut into pieces.
-#[derive(Clone, Copy, Debug)]
-pub enum Cuts {
-    Nowhere,
-    /// Pieces of so many bytes.
-    Every(usize),
-    BeforeLf,
-    AfterLf,
-    MidLine,
-    /// Pieces of some twenty bytes, by this seed.
-    Anywhere(u64),
-}
-
-pub const WAYS: [Cuts; 6] = [Cuts::Nowhere, Cuts::Every(1), Cuts::BeforeLf, Cuts::AfterLf, Cuts::MidLine, Cuts::Anywhere(1)];
-
-fn pieces(text: &[u8], cuts: Cuts) -> Vec<&[u8]> {
-    let mut random = Random::new(if let Cuts::Anywhere(seed) = cuts { seed } else { 0 });
-    let cut_after = |at: usize| -> bool {
-        match cuts {
-            Cuts::Nowhere => false,
-            Cuts::Every(size) => (at + 1) % size == 0,
-            Cuts::BeforeLf => text.get(at + 1) == Some(&b'\n'),
-            Cuts::AfterLf => text[at] == b'\n',
-            Cuts::MidLine => text[at] == b'=' || text[at] == b' ',
-            Cuts::Anywhere(_) => random.percent(5),
-        }
-    };
-    split_after(text, cut_after)
-}
-
-fn split_after(text: &[u8], mut cut_after: impl FnMut(usize) -> bool) -> Vec<&[u8]> {
-    let mut list = Vec::new();
-    let mut from = 0;
-    for at in 0..text.len() {
-        if cut_after(at) || at + 1 == text.len() {
-            list.push(&text[from..=at]);
-            from = at + 1;
-        }
-    }
-    list
 }
 
 /// Waits until the program has taken all that was written, so that no read of it gets two pieces at once.
