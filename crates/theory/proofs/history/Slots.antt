@@ -12,6 +12,7 @@ use Rattle.theory.specs.tables.Turns.{turns}
 use Rattle.theory.specs.order.Recording.{Op, Event, act, lost, lossMark, series, kind, kindAt, isAccess}
 use Rattle.theory.specs.order.Path.{rule, clashes}
 use Rattle.theory.specs.history.History.{askers, asker, clashBy, slot, slots, lastOf, underEach, lastAfter}
+use Rattle.theory.specs.order.Limits.{tasks, variables}
 use Rattle.theory.proofs.order.Ops.{kindAt-kind, access-on}
 use Rattle.theory.proofs.basics.Reflects.{Reflects, right, wrong, equal, by-test, both, passed}
 use Rattle.theory.proofs.order.Places.{Occurs, nowhere}
@@ -21,7 +22,7 @@ use Rattle.theory.proofs.fillings.Came.{Snoc, old, new, occurs-snoc, oc
 
 -- the event is an access, in range, that the slot is for: it clashes with the kind that asks there
 pub data InSlot (s : ℕ) : Event → Type 0 where
-  in-slot : {o : Op} {u v : ℕ} (a : ℕ) → a < length askers → T (clashes o (asker a)) → u < 16 → v < 64 → s ≡ slot a v u → InSlot s (act o u v)
+  in-slot : {o : Op} {u v : ℕ} (a : ℕ) → a < length askers → T (clashes o (asker a)) → u < tasks → v < variables → s ≡ slot a v u → InSlot s (act o u v)
 
 -- an access in the slot stands at place i or later
 pub record Held (es : List Event) (s i : ℕ) : Type 0 where
@@ -38,11 +39,11 @@ pub record ExactHistory (es : List Event) (last : List ℕ) : Type 0 where
 
 -- Slots
 
-pub slot-below : {a v u : ℕ} → a < length askers → v < 64 → u < 16 → slot a v u < slots
+pub slot-below : {a v u : ℕ} → a < length askers → v < variables → u < tasks → slot a v u < slots
 slot-below ha hv hu = omega arith
 
 -- the slot tells the kind that asks, the variable and the task
-pub slot-one : {a a′ v v′ u u′ : ℕ} → v < 64 → v′ < 64 → u < 16 → u′ < 16 → slot a v u ≡ slot a′ v′ u′ → (a ≡ a′) × (v ≡ v′) × (u ≡ u′)
+pub slot-one : {a a′ v v′ u u′ : ℕ} → v < variables → v′ < variables → u < tasks → u′ < tasks → slot a v u ≡ slot a′ v′ u′ → (a ≡ a′) × (v ≡ v′) × (u ≡ u′)
 slot-one hv hv′ hu hu′ e = omega arith
 
 -- what clashes is an access
@@ -113,13 +114,13 @@ module _ {A : Type 0} (f : ℕ → A → A) (k v u : ℕ) where
 pub in-under : {A : Type 0} {f : ℕ → A → A} {o : Op} {s t n : ℕ} → InSlot s (act o t n) → Under f (kind o) n t (length askers) s
 in-under {o = o} (in-slot a h c hu hv e) = record { a = a; among = h; clash = rw (kindAt-kind o) c; place = e }
 
-pub under-in : {A : Type 0} {f : ℕ → A → A} (o : Op) {s t n : ℕ} → t < 16 → n < series o → Under f (kind o) n t (length askers) s → InSlot s (act o t n)
+pub under-in : {A : Type 0} {f : ℕ → A → A} (o : Op) {s t n : ℕ} → t < tasks → n < series o → Under f (kind o) n t (length askers) s → InSlot s (act o t n)
 under-in o ht hn x =
     let c : T (clashes o (asker (x .a))) = rw (kindAt-kind o) at (x .clash) in
     in-slot (x .a) (x .among) c ht (access-on o (clash-access o (asker (x .a)) c) hn) (x .place)
 
 -- the variable of an act that is kept
-pub kept-on : (o : Op) (a : ℕ) {n : ℕ} → n < series o → T (clashBy (kindAt (kind o)) (asker a)) → n < 64
+pub kept-on : (o : Op) (a : ℕ) {n : ℕ} → n < series o → T (clashBy (kindAt (kind o)) (asker a)) → n < variables
 kept-on o a hn c = access-on o (clash-access o (asker a) (rw (kindAt-kind o) at c)) hn
 
 pub no-slot-mark : {mask s : ℕ} → ¬ InSlot s (lost mask)
@@ -138,7 +139,7 @@ snoc-held : (es : List Event) (x : Event) {s i : ℕ} → Held es s i ⊎ ((i �
 snoc-held es x (inl h) = record { j = h .j; e = h .e; after = h .after ++ (x ∷ []); recent = h .recent; occurs = occurs-old x (h .occurs); inside = h .inside }
 snoc-held es x (inr (r, q)) = record { j = length es; e = x; after = []; recent = r; occurs = occurs-new es; inside = q }
 
-module _ {es : List Event} {last : List ℕ} {t n number : ℕ} (o : Op) (h : ExactHistory es last) (ht : t < 16) (hn : n < series o) (numbered : number ≡ suc (length es)) where
+module _ {es : List Event} {last : List ℕ} {t n number : ℕ} (o : Op) (h : ExactHistory es last) (ht : t < tasks) (hn : n < series o) (numbered : number ≡ suc (length es)) where
   abbrev keep : ℕ → List ℕ → List ℕ
   keep s l = set l s number
 

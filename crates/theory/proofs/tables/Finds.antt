@@ -12,6 +12,7 @@ use Rattle.theory.specs.tables.Reckonings.{clockApart, setApart, clockMa
 use Rattle.theory.specs.verdicts.Search.{judged, judge, partner}
 use Rattle.theory.specs.feeding.Step.{verdictBy, judgedBy}
 use Rattle.theory.specs.feeding.Meaning.{judges, meaning}
+use Rattle.theory.specs.order.Limits.{tasks, variables}
 use Rattle.theory.proofs.order.Places.{Occurs}
 use Rattle.theory.proofs.verdicts.Search.{Candidate}
 use Rattle.theory.proofs.tables.ClockTables.{ExactClocks}
@@ -24,13 +25,13 @@ use Rattle.theory.proofs.tables.Masked.{foundBy, mask-partner}
 -- The masks of an access
 
 -- a candidate's task is one of the sixteen
-task-of : {g : ℕ → List Event} {f : Event} {es : List Event} {u i : ℕ} → Ranged es → Candidate g f es u i → u < 16
-task-of {es = es} r c = acting (c .apart .acting) (c .occurs)
+task-of : {g : ℕ → List Event} {f : Event} {es : List Event} {u i : ℕ} → Ranged es → Candidate g f es u i → u < tasks
+task-of {es = es} r c = acting (c .apart .against .by) (c .occurs)
   where
-    acting : {u i : ℕ} {e : Event} {after : List Event} → ActsIn u e → Occurs es i e after → u < 16
+    acting : {u i : ℕ} {e : Event} {after : List Event} → ActsIn u e → Occurs es i e after → u < tasks
     acting acts o = r .in-range _ _ _ _ _ o .0
 
-module _ {w : Filling} {es : List Event} {last : List ℕ} (p : Op) (t v : ℕ) (h : ExactHistory es last) (r : Ranged es) (ap : T (isAccess p)) (ht : t < 16) (hv : v < 64) where
+module _ {w : Filling} {es : List Event} {last : List ℕ} (p : Op) (t v : ℕ) (h : ExactHistory es last) (r : Ranged es) (ap : T (isAccess p)) (ht : t < tasks) (hv : v < variables) where
   pub clock-finds : {b : List ℕ} → ExactClocks w es b → foundBy (latestNumber last (kind p) v) (clockMask b last (kind p) t v) ≡ partner (filling w) (act p t v) 1 es
   clock-finds {b} x =
       mask-partner (clockApart b last (kind p) t v) (latestNumber last (kind p) v) (clock-sound p t v x h ap ht hv)

@@ -15,6 +15,7 @@ use Rattle.theory.specs.fillings.Completion.{bit, fillWith, Filling, fil
 use Rattle.theory.specs.tables.Rows.{cell}
 use Rattle.theory.specs.history.History.{askAt, slot, slots, latestSlot, latestNumber}
 use Rattle.theory.specs.tables.Reckonings.{hasSlot, knownSlots, clockApart, setApart, maskOf, setMask, clockMask}
+use Rattle.theory.specs.order.Limits.{tasks, variables}
 use Rattle.theory.proofs.basics.Reflects.{Reflects, right, wrong, by-test, equal, at-most, fails, both, passed, passes}
 use Rattle.theory.proofs.order.Leads.{Leads}
 use Rattle.theory.proofs.order.Carry.{Node, due, Acquires, own, own-next, Carry, pass, move, carry-skip, carry-append}
@@ -74,7 +75,7 @@ occurs-there {es} {after} {e = e} q o = subst (λ (k : ℕ). Occurs es k e after
 -- What a slot keeps
 
 -- a slot of a task keeps accesses of the task
-slot-task : (p : Op) {v u : ℕ} {e : Event} → v < 64 → u < 16 → InSlot (latestSlot (kind p) v u) e → ActsIn u e
+slot-task : (p : Op) {v u : ℕ} {e : Event} → v < variables → u < tasks → InSlot (latestSlot (kind p) v u) e → ActsIn u e
 slot-task p {u = u} hv hu (in-slot {o = o} {u = t} {v = n} a h c ht hn e) =
     subst (λ (y : ℕ). ActsIn u (act o y n)) (slot-one {a = askAt (kind p)} {a′ = a} hv hn hu ht e .2) acts
 
@@ -85,39 +86,39 @@ acts-reach {u = u} acts = record { n = due u; released = own-next; carried = car
 -- Candidates by the number
 
 -- the latest conflicting access of task u, by its number and place, with or without a path
-module _ {w : Filling} {es : List Event} {last : List ℕ} {p : Op} {t v u : ℕ} (h : ExactHistory es last) (ap : T (isAccess p)) (hv : v < 64) (hu : u < 16) (apart : u ≢ t) where
+module _ {w : Filling} {es : List Event} {last : List ℕ} {p : Op} {t v u : ℕ} (h : ExactHistory es last) (ap : T (isAccess p)) (hv : v < variables) (hu : u < tasks) (apart : u ≢ t) where
   candidate-of : {i : ℕ} (f : Final u (act p t v) es i) → ¬ Reach w (f .x) (f .after) (due t) → Candidate (filling w) (act p t v) es u i
   candidate-of f n =
       record {
         e = f .x;
         after = f .after;
         occurs = f .occurs;
-        apart = record { acting = f .acting; conflict = f .conflict; none = f .none; unordered = λ l. n (leads-due ap l) };
+        apart = record { against = f .against; none = f .none; unordered = λ l. n (leads-due ap l) };
       }
 
 final-of : {g : ℕ → List Event} {f : Event} {es : List Event} {u i : ℕ} → Candidate g f es u i → Final u f es i
-final-of c = let a = c .apart in record { x = c .e; after = c .after; occurs = c .occurs; acting = a .acting; conflict = a .conflict; none = a .none }
+final-of c = let a = c .apart in record { x = c .e; after = c .after; occurs = c .occurs; against = a .against; none = a .none }
 
 -- a candidate's task is another than the access's
 candidate-apart : {g : ℕ → List Event} {p : Op} {t v : ℕ} {es : List Event} {u i : ℕ} → Candidate g (act p t v) es u i → u ≢ t
-candidate-apart c = of (c .apart .acting) (c .apart .conflict)
+candidate-apart c = of (c .apart .against .by) (c .apart .against .conflict)
   where
     of : {u t v : ℕ} {p : Op} {e : Event} → ActsIn u e → Conflict e (act p t v) → u ≢ t
     of acts (conflict n w) = n
 
 -- Clocks
 
-module _ {w : Filling} {es : List Event} {b last : List ℕ} (p : Op) (t v : ℕ) (x : ExactClocks w es b) (h : ExactHistory es last) (ap : T (isAccess p)) (ht : t < 16)
-    (hv : v < 64) where
+module _ {w : Filling} {es : List Event} {b last : List ℕ} (p : Op) (t v : ℕ) (x : ExactClocks w es b) (h : ExactHistory es last) (ap : T (isAccess p)) (ht : t < tasks)
+    (hv : v < variables) where
   -- what the cell of the task's next act and column u says
-  pub clock-cell : (u i : ℕ) → u < 16 → (i < cell 16 b t u) ↔ Came w (OfTask u) es i (due t)
+  pub clock-cell : (u i : ℕ) → u < tasks → (i < cell tasks b t u) ↔ Came w (OfTask u) es i (due t)
   clock-cell u i hu = (λ l. x .column u i hu .cells (due t) (due-in ht) .0 (record { knows = l }), λ c. x .column u i hu .cells (due t) (due-in ht) .1 c .knows)
 
-  clock-test : (u : ℕ) → Reflects (cell 16 b t u < latestNumber last (kind p) v u) (clockApart b last (kind p) t v u)
-  clock-test u = at-most (suc (cell 16 b t u)) (latestNumber last (kind p) v u)
+  clock-test : (u : ℕ) → Reflects (cell tasks b t u < latestNumber last (kind p) v u) (clockApart b last (kind p) t v u)
+  clock-test u = at-most (suc (cell tasks b t u)) (latestNumber last (kind p) v u)
 
   -- the task knows of its own
-  clock-other : (u i : ℕ) → u < 16 → latestNumber last (kind p) v u ≡ suc i → cell 16 b t u < suc i → u ≢ t
+  clock-other : (u i : ℕ) → u < tasks → latestNumber last (kind p) v u ≡ suc i → cell tasks b t u < suc i → u ≢ t
   clock-other u i hu n l e = let k = clock-cell u i hu .1 (subst (λ (y : ℕ). Came w (OfTask u) es i (due y)) e own-came) in omega arith
     where
       own-came : Came w (OfTask u) es i (due u)
@@ -126,11 +127,11 @@ module _ {w : Filling} {es : List Event} {b last : List ℕ} (p : Op) (t v : ℕ
           let a = slot-task p hv hu (d .inside) in
           record { j = d .j; e = d .e; after = d .after; recent = d .recent; occurs = d .occurs; chosen = a; reach = acts-reach a }
 
-  pub clock-sound : (u : ℕ) → u < 16 → T (clockApart b last (kind p) t v u) →
+  pub clock-sound : (u : ℕ) → u < tasks → T (clockApart b last (kind p) t v u) →
       (i : ℕ) × Candidate (filling w) (act p t v) es u i × (latestNumber last (kind p) v u ≡ suc i)
   clock-sound u hu a = found (latestNumber last (kind p) v u) refl
     where
-      test : cell 16 b t u < latestNumber last (kind p) v u
+      test : cell tasks b t u < latestNumber last (kind p) v u
       test = passed (clock-test u) a
 
       found : (l : ℕ) → latestNumber last (kind p) v u ≡ l → (i : ℕ) × Candidate (filling w) (act p t v) es u i × (latestNumber last (kind p) v u ≡ suc i)
@@ -142,12 +143,12 @@ module _ {w : Filling} {es : List Event} {b last : List ℕ} (p : Op) (t v : ℕ
         where
           over : (f : Final u (act p t v) es i) → Reach w (f .x) (f .after) (due t) → ⊥
           over f r =
-              let c = clock-cell u i hu .1 (record { j = i; e = f .x; after = f .after; recent = le-refl i; occurs = f .occurs; chosen = f .acting; reach = r }) in
+              let c = clock-cell u i hu .1 (record { j = i; e = f .x; after = f .after; recent = le-refl i; occurs = f .occurs; chosen = f .against .by; reach = r }) in
               let k = test in
               omega arith
 
-  pub clock-complete : (u i : ℕ) → u < 16 → Candidate (filling w) (act p t v) es u i → T (clockApart b last (kind p) t v u)
-  clock-complete u i hu c = passes (clock-test u) (decided (at-most (latestNumber last (kind p) v u) (cell 16 b t u)))
+  pub clock-complete : (u i : ℕ) → u < tasks → Candidate (filling w) (act p t v) es u i → T (clockApart b last (kind p) t v u)
+  clock-complete u i hu c = passes (clock-test u) (decided (at-most (latestNumber last (kind p) v u) (cell tasks b t u)))
     where
       number : latestNumber last (kind p) v u ≡ suc i
       number = final-number h ap hv hu (candidate-apart c) (final-of c)
@@ -157,27 +158,27 @@ module _ {w : Filling} {es : List Event} {b last : List ℕ} (p : Op) (t v : ℕ
         where
           by-place : {q : Bool} → Reflects (i ≡ d .j) q → Reach w (c .e) (c .after) (due t)
           by-place (right e) = occurs-same (λ e after. Reach w e after (due t)) (c .occurs) (occurs-there e (d .occurs)) (d .reach)
-          by-place (wrong n) = let k = d .recent in reach-older (c .occurs) (d .occurs) (omega arith) (c .apart .acting) (d .chosen) (d .reach)
+          by-place (wrong n) = let k = d .recent in reach-older (c .occurs) (d .occurs) (omega arith) (c .apart .against .by) (d .chosen) (d .reach)
 
-      decided : {q : Bool} → Reflects (latestNumber last (kind p) v u ≤ cell 16 b t u) q → cell 16 b t u < latestNumber last (kind p) v u
+      decided : {q : Bool} → Reflects (latestNumber last (kind p) v u ≤ cell tasks b t u) q → cell tasks b t u < latestNumber last (kind p) v u
       decided (right l) = absurd (c .apart .unordered (due-leads ap (ordered (clock-cell u i hu .0 (omega (arith, number))))))
       decided (wrong l) = omega arith
 
 -- Sets
 
-module _ {w : Filling} {es : List Event} {b last : List ℕ} (p : Op) (t v : ℕ) (x : ExactSets w es b) (h : ExactHistory es last) (ap : T (isAccess p)) (ht : t < 16)
-    (hv : v < 64) where
+module _ {w : Filling} {es : List Event} {b last : List ℕ} (p : Op) (t v : ℕ) (x : ExactSets w es b) (h : ExactHistory es last) (ap : T (isAccess p)) (ht : t < tasks)
+    (hv : v < variables) where
   pub set-cell : (s : ℕ) → s < slots → T (hasSlot b t s) ↔ Came w (KeptIn s) es 0 (due t)
   set-cell s l = (λ k. x .column s l .cells (due t) (due-in ht) .0 (record { knows = k }), λ c. x .column s l .cells (due t) (due-in ht) .1 c .knows)
 
   set-test : (u : ℕ) → Reflects ((0 < latestNumber last (kind p) v u) × (¬ T (hasSlot b t (latestSlot (kind p) v u)))) (setApart b last (kind p) t v u)
   set-test u = both (at-most 1 (latestNumber last (kind p) v u)) (fails (by-test (hasSlot b t (latestSlot (kind p) v u))))
 
-  slot-in : (u : ℕ) → u < 16 → latestSlot (kind p) v u < slots
+  slot-in : (u : ℕ) → u < tasks → latestSlot (kind p) v u < slots
   slot-in u hu = latest-below p hv hu
 
   -- the access at the place that the slot's number tells is the one that the slot keeps
-  pub kept-at : (u i : ℕ) → u < 16 → latestNumber last (kind p) v u ≡ suc i → {e : Event} {after : List Event} → Occurs es i e after → KeptIn (latestSlot (kind p) v u) e after
+  pub kept-at : (u i : ℕ) → u < tasks → latestNumber last (kind p) v u ≡ suc i → {e : Event} {after : List Event} → Occurs es i e after → KeptIn (latestSlot (kind p) v u) e after
   kept-at u i hu n {after = rest} o =
       let d = h .held (latestSlot (kind p) v u) i (slot-in u hu) .0 (omega arith) in
       let k = h .held (latestSlot (kind p) v u) (d .j) (slot-in u hu) .1 (record { j = d .j; e = d .e; after = d .after; recent = le-refl _; occurs = d .occurs; inside = d .inside }) in
@@ -191,7 +192,7 @@ module _ {w : Filling} {es : List Event} {b last : List ℕ} (p : Op) (t v : ℕ
           let k = h .held (latestSlot (kind p) v u) j′ (slot-in u hu) .1 (record { j = j′; e = e; after = after′; recent = le-refl _; occurs = r; inside = a }) in
           omega arith
 
-  set-other : (u i : ℕ) → u < 16 → latestNumber last (kind p) v u ≡ suc i → ¬ T (hasSlot b t (latestSlot (kind p) v u)) → u ≢ t
+  set-other : (u i : ℕ) → u < tasks → latestNumber last (kind p) v u ≡ suc i → ¬ T (hasSlot b t (latestSlot (kind p) v u)) → u ≢ t
   set-other u i hu n f e = f (set-cell (latestSlot (kind p) v u) (slot-in u hu) .1 (subst (λ (y : ℕ). Came w (KeptIn (latestSlot (kind p) v u)) es 0 (due y)) e own-came))
     where
       own-came : Came w (KeptIn (latestSlot (kind p) v u)) es 0 (due u)
@@ -203,7 +204,7 @@ module _ {w : Filling} {es : List Event} {b last : List ℕ} (p : Op) (t v : ℕ
           let o = occurs-there q (d .occurs) in
           record { j = i; e = d .e; after = d .after; recent = zero-le; occurs = o; chosen = kept-at u i hu n o; reach = acts-reach (slot-task p hv hu (d .inside)) }
 
-  pub set-sound : (u : ℕ) → u < 16 → T (setApart b last (kind p) t v u) →
+  pub set-sound : (u : ℕ) → u < tasks → T (setApart b last (kind p) t v u) →
       (i : ℕ) × Candidate (filling w) (act p t v) es u i × (latestNumber last (kind p) v u ≡ suc i)
   set-sound u hu a = found (latestNumber last (kind p) v u) refl
     where
@@ -222,7 +223,7 @@ module _ {w : Filling} {es : List Event} {b last : List ℕ} (p : Op) (t v : ℕ
               test .1 (set-cell (latestSlot (kind p) v u) (slot-in u hu) .1
               (record { j = i; e = f .x; after = f .after; recent = zero-le; occurs = f .occurs; chosen = kept-at u i hu e (f .occurs); reach = r }))
 
-  pub set-complete : (u i : ℕ) → u < 16 → Candidate (filling w) (act p t v) es u i → T (setApart b last (kind p) t v u)
+  pub set-complete : (u i : ℕ) → u < tasks → Candidate (filling w) (act p t v) es u i → T (setApart b last (kind p) t v u)
   set-complete u i hu c = passes (set-test u) (omega (arith, number), λ a. c .apart .unordered (due-leads ap (ordered (set-cell (latestSlot (kind p) v u) (slot-in u hu) .0 a))))
     where
       number : latestNumber last (kind p) v u ≡ suc i
@@ -242,7 +243,7 @@ module _ {w : Filling} {es : List Event} {b last : List ℕ} (p : Op) (t v : ℕ
 -- By rows
 
 -- the clocks' mask from the task's row and from what the history has for the kind
-pub mask-by-rows : (b last : List ℕ) (k t v : ℕ) {row from : ℕ} → row ≡ t * 16 → from ≡ slot (askAt k) v 0 →
+pub mask-by-rows : (b last : List ℕ) (k t v : ℕ) {row from : ℕ} → row ≡ t * tasks → from ≡ slot (askAt k) v 0 →
     maskOf (λ u. ltb (getD b (row + u) 0) (getD last (from + u) 0)) ≡ clockMask b last k t v
 mask-by-rows b last k t v e q =
     mask-ext _ (clockApart b last k t v) (λ u h. let p : slot (askAt k) v 0 + u ≡ slot (askAt k) v u = omega arith in rw (e, q, p))

@@ -31,9 +31,12 @@ rowCount = hub + 1
 abbrev pub actedRow : ℕ
 actedRow = rowCount
 
--- so many cells has a table of a width
+-- so many rows and cells has a table of a width
+abbrev pub tableRows : ℕ
+tableRows = actedRow + 1
+
 abbrev pub cellCount : ℕ → ℕ
-cellCount w = (rowCount + 1) * w
+cellCount w = tableRows * w
 
 -- the cell of row r and column c in a table of a width
 abbrev pub cell : ℕ → List ℕ → ℕ → ℕ → ℕ
