@@ -5,7 +5,7 @@ use mathlib.Core.List.{List, [], _∷_, _++_}
 use lib.Dec.{T, ltb, eqb}
 use lib.ListN.{length}
 use Rattle.theory.specs.order.Limits.{tasks}
-use Rattle.theory.specs.order.Recording.{Op, take, give, look, set, Event, act, lost, series, losable}
+use Rattle.theory.specs.order.Recording.{Op, take, give, look, set, Event, act, lost, Every, series, losable}
 
 -- the bit of weight 2 to the power t is in the mask
 abbrev pub bit : ℕ → ℕ → Bool
@@ -22,11 +22,6 @@ pub record Named (mask t : ℕ) : Type 0 where
 -- a record that a completion may put for a mark: by a task that the mark names, on a semaphore or flag 0 to 31
 pub data Filler (mask : ℕ) : Event → Type 0 where
   filler : {o : Op} {t n : ℕ} → T (losable o) → Named mask t → n < series o → Filler mask (act o t n)
-
--- every event of the list is as P says
-pub data Every (P : Event → Type 0) : List Event → Type 0 where
-  no-more : Every P []
-  and-more : {e : Event} {es : List Event} → P e → Every P es → Every P (e ∷ es)
 
 -- `Filled Fills es fs`: fs is es with each mark replaced by a list that `Fills` allows for its mask, and nothing else altered
 pub data Filled (Fills : ℕ → List Event → Type 0) : List Event → List Event → Type 0 where
