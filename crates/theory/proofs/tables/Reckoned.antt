@@ -9,7 +9,7 @@ use native.Mathlib.Nat.{le-refl}
 use native.Mathlib.Omega.{arith}
 use lib.ListN.{getD}
 use lib.Dec.{T, ltb}
-use Rattle.theory.specs.order.Recording.{Op, Event, act, lost, kind, ActsIn, acts, isAccess}
+use Rattle.theory.specs.order.Recording.{Op, Event, act, lost, Every, kind, ActsIn, acts, isAccess}
 use Rattle.theory.specs.order.Path.{Conflict, conflict}
 use Rattle.theory.specs.fillings.Completion.{bit, fillWith, Filling, filling}
 use Rattle.theory.specs.tables.Rows.{cell}
@@ -21,13 +21,13 @@ use Rattle.theory.proofs.order.Leads.{Leads}
 use Rattle.theory.proofs.order.Carry.{Node, due, Acquires, own, own-next, Carry, pass, move, carry-skip, carry-append}
 use Rattle.theory.proofs.fillings.Reach.{Reach, leads-reach}
 use Rattle.theory.proofs.order.Places.{Occurs, first, next}
-use Rattle.theory.proofs.verdicts.Latest.{Final, some-after, some-occurs, occurs-after}
+use Rattle.theory.proofs.verdicts.Latest.{Final, some-after, some-occurs, occurs-after, every-after}
 use Rattle.theory.proofs.verdicts.Search.{Candidate}
 use Rattle.theory.proofs.tables.Nodes.{due-in, acquiredNode, acquires-cases, plain-acquired}
 use Rattle.theory.proofs.fillings.Came.{Came}
 use Rattle.theory.proofs.tables.ClockTables.{ExactClocks, OfTask}
 use Rattle.theory.proofs.tables.SetTables.{ExactSets, KeptIn}
-use Rattle.theory.proofs.history.Slots.{InSlot, in-slot, ExactHistory, slot-one}
+use Rattle.theory.proofs.history.Slots.{InSlot, in-slot, Frees, ExactHistory, slot-one}
 use Rattle.theory.proofs.history.Numbers.{latest-below, occurs-same, number-final, final-number}
 use Rattle.theory.proofs.order.Ops.{Role, a-take, a-give, a-look, a-set, a-start, a-join, plain, role}
 use Rattle.theory.proofs.tables.Words.{slot-known}
@@ -177,19 +177,34 @@ module _ {w : Filling} {es : List Event} {b last : List ℕ} (p : Op) (t v : ℕ
   slot-in : (u : ℕ) → u < tasks → latestSlot (kind p) v u < slots
   slot-in u hu = latest-below p hv hu
 
-  -- the access at the place that the slot's number tells is the one that the slot keeps
-  pub kept-at : (u i : ℕ) → u < tasks → latestNumber last (kind p) v u ≡ suc i → {e : Event} {after : List Event} → Occurs es i e after → KeptIn (latestSlot (kind p) v u) e after
-  kept-at u i hu n {after = rest} o =
+  -- the access that the slot's number tells: since then the slot was not emptied
+  told : (u i : ℕ) → u < tasks → latestNumber last (kind p) v u ≡ suc i →
+      (e : Event) × (after : List Event) × Occurs es i e after × (InSlot (latestSlot (kind p) v u) e × Every (λ d. ¬ Frees (latestSlot (kind p) v u) d) after)
+  told u i hu n =
       let d = h .held (latestSlot (kind p) v u) i (slot-in u hu) .0 (omega arith) in
-      let k = h .held (latestSlot (kind p) v u) (d .j) (slot-in u hu) .1 (record { j = d .j; e = d .e; after = d .after; recent = le-refl _; occurs = d .occurs; inside = d .inside }) in
+      let k =
+      h .held (latestSlot (kind p) v u) (d .j) (slot-in u hu) .1
+      (record { j = d .j; e = d .e; after = d .after; recent = le-refl _; occurs = d .occurs; inside = d .inside; since = d .since })
+      in
       let l = d .recent in
       let q : i ≡ d .j = omega arith in
-      (occurs-same (λ e after. InSlot (latestSlot (kind p) v u) e) o (occurs-there q (d .occurs)) (d .inside), λ s. later (some-occurs s))
+      (d .e, d .after, occurs-there q (d .occurs), (d .inside, d .since))
+
+  -- the access at the place that the slot's number tells is the one that the slot keeps
+  pub kept-at : (u i : ℕ) → u < tasks → latestNumber last (kind p) v u ≡ suc i → {e : Event} {after : List Event} → Occurs es i e after → KeptIn (latestSlot (kind p) v u) e after
+  kept-at u i hu n {e = here} {after = rest} o = let x = same in (x .0, λ s. later (x .1) (some-occurs s))
     where
-      later : (j : ℕ) × (e : Event) × (after′ : List Event) × Occurs rest j e after′ × InSlot (latestSlot (kind p) v u) e → ⊥
-      later (j, e, after′, q, a) =
+      same : InSlot (latestSlot (kind p) v u) here × Every (λ d. ¬ Frees (latestSlot (kind p) v u) d) rest
+      same = let d = told u i hu n in occurs-same (λ e after. InSlot (latestSlot (kind p) v u) e × Every (λ d. ¬ Frees (latestSlot (kind p) v u) d) after) o (d .2) (d .3)
+
+      later : Every (λ d. ¬ Frees (latestSlot (kind p) v u) d) rest →
+          (j : ℕ) × (e : Event) × (after′ : List Event) × Occurs rest j e after′ × InSlot (latestSlot (kind p) v u) e → ⊥
+      later f (j, e, after′, q, a) =
           let (j′, m, r) = occurs-after o q in
-          let k = h .held (latestSlot (kind p) v u) j′ (slot-in u hu) .1 (record { j = j′; e = e; after = after′; recent = le-refl _; occurs = r; inside = a }) in
+          let k =
+          h .held (latestSlot (kind p) v u) j′ (slot-in u hu) .1
+          (record { j = j′; e = e; after = after′; recent = le-refl _; occurs = r; inside = a; since = every-after q f })
+          in
           omega arith
 
   set-other : (u i : ℕ) → u < tasks → latestNumber last (kind p) v u ≡ suc i → ¬ T (hasSlot b t (latestSlot (kind p) v u)) → u ≢ t
@@ -197,12 +212,8 @@ module _ {w : Filling} {es : List Event} {b last : List ℕ} (p : Op) (t v : ℕ
     where
       own-came : Came w (KeptIn (latestSlot (kind p) v u)) es 0 (due u)
       own-came =
-          let d = h .held (latestSlot (kind p) v u) i (slot-in u hu) .0 (omega arith) in
-          let k = h .held (latestSlot (kind p) v u) (d .j) (slot-in u hu) .1 (record { j = d .j; e = d .e; after = d .after; recent = le-refl _; occurs = d .occurs; inside = d .inside }) in
-          let l = d .recent in
-          let q : i ≡ d .j = omega arith in
-          let o = occurs-there q (d .occurs) in
-          record { j = i; e = d .e; after = d .after; recent = zero-le; occurs = o; chosen = kept-at u i hu n o; reach = acts-reach (slot-task p hv hu (d .inside)) }
+          let (e, after, o, (a, _)) = told u i hu n in
+          record { j = i; e = e; after = after; recent = zero-le; occurs = o; chosen = kept-at u i hu n o; reach = acts-reach (slot-task p hv hu a) }
 
   pub set-sound : (u : ℕ) → u < tasks → T (setApart b last (kind p) t v u) →
       (i : ℕ) × Candidate (filling w) (act p t v) es u i × (latestNumber last (kind p) v u ≡ suc i)
@@ -231,14 +242,15 @@ module _ {w : Filling} {es : List Event} {b last : List ℕ} (p : Op) (t v : ℕ
 
       -- the slot keeps one access, the candidate
       ordered : Came w (KeptIn (latestSlot (kind p) v u)) es 0 (due t) → Reach w (c .e) (c .after) (due t)
-      ordered d = by-place (equal i (d .j))
+      ordered d = by-place (at-most (suc i) (d .j)) (at-most (suc (d .j)) i)
         where
-          held-number : d .j < latestNumber last (kind p) v u
-          held-number = h .held (latestSlot (kind p) v u) (d .j) (slot-in u hu) .1 (record { j = d .j; e = d .e; after = d .after; recent = le-refl _; occurs = d .occurs; inside = d .chosen .0 })
+          kept : KeptIn (latestSlot (kind p) v u) (c .e) (c .after)
+          kept = kept-at u i hu number (c .occurs)
 
-          by-place : {q : Bool} → Reflects (i ≡ d .j) q → Reach w (c .e) (c .after) (due t)
-          by-place (right e) = occurs-same (λ e after. Reach w e after (due t)) (c .occurs) (occurs-there e (d .occurs)) (d .reach)
-          by-place (wrong n) = absurd (d .chosen .1 (some-after (d .occurs) (c .occurs) (omega (arith, number, held-number)) (kept-at u i hu number (c .occurs) .0)))
+          by-place : {q r : Bool} → Reflects (i < d .j) q → Reflects (d .j < i) r → Reach w (c .e) (c .after) (due t)
+          by-place (right l) _ = absurd (kept .1 (some-after (c .occurs) (d .occurs) l (d .chosen .0)))
+          by-place (wrong m) (right l) = absurd (d .chosen .1 (some-after (d .occurs) (c .occurs) l (kept .0)))
+          by-place (wrong m) (wrong n) = occurs-same (λ e after. Reach w e after (due t)) (c .occurs) (occurs-there (omega arith) (d .occurs)) (d .reach)
 
 -- By rows
 
