@@ -74,11 +74,11 @@ snoc-every x no-more p = and-more p no-more
 snoc-every x (and-more q r) p = and-more q (snoc-every x r p)
 
 -- a list of which no event is as P says
-none-every : {P : Event → Type 0} (es : List Event) → ¬ Some P es → Every (λ e. ¬ P e) es
+pub none-every : {P : Event → Type 0} (es : List Event) → ¬ Some P es → Every (λ e. ¬ P e) es
 none-every [] n = no-more
 none-every (e ∷ es) n = and-more (λ p. n (this p)) (none-every es (λ s. n (further s)))
 
-every-none : {P : Event → Type 0} {es : List Event} → Every (λ e. ¬ P e) es → ¬ Some P es
+pub every-none : {P : Event → Type 0} {es : List Event} → Every (λ e. ¬ P e) es → ¬ Some P es
 every-none (and-more n r) (this p) = n p
 every-none (and-more n r) (further s) = every-none r s
 
