@@ -2,6 +2,7 @@
 pub mod Rows
 pub mod Words
 pub mod Bits
+pub mod MaskBits
 pub mod Acts
 pub mod Marks
 pub mod Nodes

@@ -1,32 +1,30 @@
 -- Clocks and sets match, since each says "path" exactly where Order has one. Of paths nothing else is used: the two claims are handed over.
 -- Assumes nothing.
 use mathlib.Core.Path.{_≡_, refl, sym, _∙_, ap, ap₂}
-use mathlib.Core.Bool.{Bool, true, false, not, _||_, true≢false}
+use mathlib.Core.Bool.{Bool, true, false, not}
 use mathlib.Core.List.{List, [], _∷_, _++_}
-use Prim.Native.Nat.{ℕ, zero, suc, _<_, zero-le}
+use Prim.Native.Nat.{ℕ, zero, suc, _<_}
 use native.Mathlib.Omega.{arith}
-use borrow.Author.Tests.{le-ltb}
 use lib.Dec.{T}
 use Rattle.theory.specs.declared.record.Record.{Record}
 use Rattle.theory.specs.declared.answer.Answer.{Answer}
 use Rattle.theory.specs.declared.state.State.{State}
 use Rattle.theory.specs.declared.state.SetState.{SetState}
-use Rattle.theory.specs.order.Limits.{tasks, variables}
-use Rattle.theory.specs.order.Recording.{Op, Kind, of-op, of-mark, kind, opOf, accesses, isAccess}
-use Rattle.theory.specs.acceptance.Table.{isAct, refusal, recording}
+use Rattle.theory.specs.order.Limits.{tasks}
+use Rattle.theory.specs.order.Recording.{kind, accesses}
+use Rattle.theory.specs.acceptance.Table.{refusal, recording}
 use Rattle.theory.specs.acceptance.Control.{refusalIn, controlAfter}
-use Rattle.theory.specs.tables.Rows.{taskRow, cell}
-use Rattle.theory.specs.history.History.{latestNumber, lastAfter}
-use Rattle.theory.specs.tables.Reckonings.{clockApart, setApart, masksBy, clockMasks, setMasks}
+use Rattle.theory.specs.history.History.{lastAfter}
+use Rattle.theory.specs.tables.Reckonings.{masksBy, clockMasks, setMasks}
 use Rattle.theory.specs.feeding.Step.{nextNumber, answeredBy, masksUnless, apartByClocks, apartBySets, stepBy, stepOf, setStepBy, setStepOf, freshState, freshSets}
 use Rattle.theory.specs.feeding.Feeding.{Checker, fedTo, afterAll, byClocks, bySets}
-use Rattle.theory.specs.feeding.Paths.{clocks, sets, leftBy, acquiring, ExactPaths, ReckoningsMatch}
-use Rattle.theory.proofs.basics.Reflects.{Reflects, right, wrong, by-test, is-true}
-use Rattle.theory.proofs.order.Ops.{each-op, no-mark, opOf-kind, access-tests, other-tests, on-series, access-on}
+use Rattle.theory.specs.feeding.Paths.{clocks, sets, leftBy, ExactPaths, ReckoningsMatch}
+use Rattle.theory.proofs.order.Ops.{no-mark, opOf-kind}
 use Rattle.theory.proofs.tables.Bits.{mask-ext}
-use Rattle.theory.proofs.acceptance.ControlTable.{ExactControl, same-refusal}
-use Rattle.theory.proofs.feeding.Simulation.{Shape, an-act, a-mark, shape-of, after-all, clocks-simulate, sets-simulate}
+use Rattle.theory.proofs.acceptance.ControlTable.{same-refusal}
+use Rattle.theory.proofs.feeding.Simulation.{after-all, clocks-simulate, sets-simulate}
 use Rattle.theory.proofs.feeding.Paths.{clock-paths, set-paths}
+use Rattle.theory.proofs.feeding.Asked.{access-alone, AccessShape, an-access, access-shape, clocks-tested, sets-tested}
 
 -- Tests
 
@@ -40,94 +38,50 @@ same-failing {a} {b} f g = decided a b f g
     decided false true f g = absurd (f tt)
     decided false false f g = refl
 
--- order comes to an access from its own task alone
-access-acquires : (o : Op) → T (isAccess o) → acquiring o ≡ false
-access-acquires o a = decided (acquiring o) refl
-  where
-    test : Kind → Bool
-    test (of-op o) = not (isAccess o) || not (acquiring o)
-    test of-mark = true
-
-    decided : (b : Bool) → acquiring o ≡ b → acquiring o ≡ false
-    decided false e = e
-    decided true e = absurd (true≢false (sym (rw (e, is-true (by-test (isAccess o)) a) at (each-op test refl refl o))))
-
-access-op : (o : Op) → accesses (kind o) ≡ true → T (isAccess o)
-access-op o e = decided (by-test (isAccess o))
-  where
-    decided : {b : Bool} → Reflects (T (isAccess o)) b → T (isAccess o)
-    decided (right a) = a
-    decided (wrong n) = absurd (true≢false (sym e ∙ other-tests o n))
-
 -- The masks, from the two claims
 
 module _ (by-clocks : ExactPaths clocks) (by-sets : ExactPaths sets) (rs : List Record) where
-  abbrev s : State
-  s = leftBy clocks rs
-
-  abbrev s′ : SetState
-  s′ = leftBy sets rs
-
   -- an access asks each task in turn: of a kept access both say whether there is a path, and where none is kept both tests fail
-  module _ (o : Op) (t n : ℕ) (a : T (isAccess o)) (hn : n < variables) (e : refusal (recording rs) (record { kind = kind o; task = t; on = n }) ≡ 0) where
-    abbrev r : Record
-    r = record { kind = kind o; task = t; on = n }
-
-    an-act-comes : isAct r ≡ true
-    an-act-comes = rw (no-mark o)
-
-    own-alone : acquiring (opOf (kind o)) ≡ false
-    own-alone = rw (opOf-kind o) (access-acquires o a)
-
-    asked : (u : ℕ) → u < tasks →
-        (clockApart (s .clocks) (s .last) (kind o) t n u ≡ setApart (s′ .sets) (s′ .last) (kind o) t n u)
-        × (clockApart (s .fullclocks) (s .last) (kind o) t n u ≡ setApart (s′ .fullsets) (s′ .last) (kind o) t n u)
-    asked u hu = decided (latestNumber (s .last) (kind o) n u) refl (latestNumber (s′ .last) (kind o) n u) refl
-      where
-        decided : (i : ℕ) → latestNumber (s .last) (kind o) n u ≡ i → (j : ℕ) → latestNumber (s′ .last) (kind o) n u ≡ j →
-            (clockApart (s .clocks) (s .last) (kind o) t n u ≡ setApart (s′ .sets) (s′ .last) (kind o) t n u)
-            × (clockApart (s .fullclocks) (s .last) (kind o) t n u ≡ setApart (s′ .fullsets) (s′ .last) (kind o) t n u)
-        decided (suc i) q j q′ =
-            let k = by-clocks rs .keeps o n u i a hn hu .0 q in
-            let x = by-clocks rs .before r e an-act-comes own-alone o n u i k in
-            let y = by-sets rs .before r e an-act-comes own-alone o n u i k in (
-              same-failing (λ z. y .as-arrived .1 (x .as-arrived .0 z)) (λ z. x .as-arrived .1 (y .as-arrived .0 z)),
-              same-failing (λ z. y .in-fullest .1 (x .in-fullest .0 z)) (λ z. x .in-fullest .1 (y .in-fullest .0 z)),
-            )
-        decided zero q zero q′ = (rw (q, q′, le-ltb (cell tasks (s .clocks) (taskRow t) u) 0 zero-le), rw (q, q′, le-ltb (cell tasks (s .fullclocks) (taskRow t) u) 0 zero-le))
-        decided zero q (suc j) q′ =
-            let z = by-clocks rs .keeps o n u j a hn hu .1 (by-sets rs .keeps o n u j a hn hu .0 q′) in
-            absurd (omega arith)
-
-    same-masks : clockMasks (s .clocks) (s .fullclocks) (s .last) (kind o) t n ≡ setMasks (s′ .sets) (s′ .fullsets) (s′ .last) (kind o) t n
-    same-masks =
-        rw (access-tests o a)
-        (ap₂ masksBy (mask-ext _ _ (λ u h. asked u h .1)) (mask-ext _ _ (λ u h. asked u h .0)))
+  same-tests : {r : Record} → AccessShape (recording rs) r → refusal (recording rs) r ≡ 0 → (u : ℕ) → u < tasks →
+      (clocks .apart (leftBy clocks rs) (r .kind) (r .task) (r .on) u ≡ sets .apart (leftBy sets rs) (r .kind) (r .task) (r .on) u)
+      × (clocks .apartInFull (leftBy clocks rs) (r .kind) (r .task) (r .on) u ≡ sets .apartInFull (leftBy sets rs) (r .kind) (r .task) (r .on) u)
+  same-tests (an-access o t n a hn) e u hu = decided (clocks .number (leftBy clocks rs) (kind o) n u) refl (sets .number (leftBy sets rs) (kind o) n u) refl
+    where
+      decided : (i : ℕ) → clocks .number (leftBy clocks rs) (kind o) n u ≡ i → (j : ℕ) → sets .number (leftBy sets rs) (kind o) n u ≡ j →
+          (clocks .apart (leftBy clocks rs) (kind o) t n u ≡ sets .apart (leftBy sets rs) (kind o) t n u)
+          × (clocks .apartInFull (leftBy clocks rs) (kind o) t n u ≡ sets .apartInFull (leftBy sets rs) (kind o) t n u)
+      decided (suc i) q j q′ =
+          let k = by-clocks rs .keeps o n u i a hn hu .0 q in
+          let x = by-clocks rs .before (record { kind = kind o; task = t; on = n }) e (rw (no-mark o)) (rw (opOf-kind o) (access-alone o a)) o n u i k in
+          let y = by-sets rs .before (record { kind = kind o; task = t; on = n }) e (rw (no-mark o)) (rw (opOf-kind o) (access-alone o a)) o n u i k in (
+            same-failing (λ z. y .as-arrived .1 (x .as-arrived .0 z)) (λ z. x .as-arrived .1 (y .as-arrived .0 z)),
+            same-failing (λ z. y .in-fullest .1 (x .in-fullest .0 z)) (λ z. x .in-fullest .1 (y .in-fullest .0 z)),
+          )
+      decided zero q zero q′ =
+          let (x, y) = by-clocks rs .keeps-none (kind o) t n u q in
+          let (x′, y′) = by-sets rs .keeps-none (kind o) t n u q′ in
+          (x ∙ sym x′, y ∙ sym y′)
+      decided zero q (suc j) q′ =
+          let z = by-clocks rs .keeps o n u j a hn hu .1 (by-sets rs .keeps o n u j a hn hu .0 q′) in
+          absurd (omega arith)
 
   -- of whatever record comes next
-  same-apart : (r : Record) → apartByClocks s r ≡ apartBySets s′ r
-  same-apart r = rw (same-refusal clocks-control r, same-refusal sets-control r) (decided (refusal (recording rs) r) refl)
+  same-apart : (r : Record) → apartByClocks (leftBy clocks rs) r ≡ apartBySets (leftBy sets rs) r
+  same-apart r = decided (refusal (recording rs) r) refl (accesses (r .kind)) refl
     where
-      clocks-control : ExactControl (recording rs) (s .control)
-      clocks-control = after-all clocks-simulate [] freshState rs (clocks-simulate .begins) .base .control-exact
+      clocks-refuse : refusalIn ((leftBy clocks rs) .control) r ≡ refusal (recording rs) r
+      clocks-refuse = same-refusal (after-all clocks-simulate [] freshState rs (clocks-simulate .begins) .base .control-exact) r
 
-      sets-control : ExactControl (recording rs) (s′ .control)
-      sets-control = after-all sets-simulate [] freshSets rs (sets-simulate .begins) .base .control-exact
+      sets-refuse : refusalIn ((leftBy sets rs) .control) r ≡ refusal (recording rs) r
+      sets-refuse = same-refusal (after-all sets-simulate [] freshSets rs (sets-simulate .begins) .base .control-exact) r
 
-      of-shape : {r : Record} → Shape (recording rs) r → refusal (recording rs) r ≡ 0 →
-          clockMasks (s .clocks) (s .fullclocks) (s .last) (r .kind) (r .task) (r .on) ≡ setMasks (s′ .sets) (s′ .fullsets) (s′ .last) (r .kind) (r .task) (r .on)
-      of-shape (a-mark t n m) e = refl
-      of-shape (an-act o t n q) e = of-op (accesses (kind o)) refl
-        where
-          of-op : (b : Bool) → accesses (kind o) ≡ b → clockMasks (s .clocks) (s .fullclocks) (s .last) (kind o) t n ≡ setMasks (s′ .sets) (s′ .fullsets) (s′ .last) (kind o) t n
-          of-op true b = let a = access-op o b in same-masks o t n a (access-on o a (on-series o (q .fits))) e
-          of-op false b = rw b
-
-      decided : (n : ℕ) → refusal (recording rs) r ≡ n →
-          masksUnless n (clockMasks (s .clocks) (s .fullclocks) (s .last) (r .kind) (r .task) (r .on))
-          ≡ masksUnless n (setMasks (s′ .sets) (s′ .fullsets) (s′ .last) (r .kind) (r .task) (r .on))
-      decided (suc n) e = refl
-      decided zero e = of-shape (shape-of (recording rs) r e) e
+      decided : (n : ℕ) → refusal (recording rs) r ≡ n → (b : Bool) → accesses (r .kind) ≡ b → apartByClocks (leftBy clocks rs) r ≡ apartBySets (leftBy sets rs) r
+      decided (suc n) e b q = rw (clocks-refuse, sets-refuse, e)
+      decided zero e false q = rw (clocks-refuse, sets-refuse, e, q)
+      decided zero e true q =
+          let x = access-shape (recording rs) r e q in
+          clocks-tested rs r e q .told
+          ∙ (ap₂ masksBy (mask-ext _ _ (λ u h. same-tests x e u h .1)) (mask-ext _ _ (λ u h. same-tests x e u h .0)) ∙ sym (sets-tested rs r e q .told))
 
 -- The answers, from the masks: what else the two steps go by is the same table of phases and the same history
 

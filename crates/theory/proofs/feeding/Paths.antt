@@ -7,6 +7,7 @@ use mathlib.Core.List.{List, [], _∷_, _++_}
 use Prim.Native.Nat.{ℕ, suc, _≤_, _<_, zero-le}
 use native.Mathlib.Nat.{le-refl}
 use native.Mathlib.Omega.{arith}
+use borrow.Author.Tests.{le-ltb}
 use lib.Dec.{T}
 use lib.ListN.{length, length-append}
 use Rattle.theory.specs.declared.record.Record.{Record}
@@ -329,6 +330,7 @@ module _ {es after : List Event} {i : ℕ} {o q : Op} {t u v n : ℕ} (x : Occur
 record Exactly {S : Type 0} (x : Reckoning S) (es : List Event) (s : S) : Type 0 where
   last : List ℕ
   numbers : (k v u : ℕ) → x .number s k v u ≡ latestNumber last k v u
+  none : (k t v u : ℕ) → x .number s k v u ≡ 0 → (x .apart s k t v u ≡ false) × (x .apartInFull s k t v u ≡ false)
   history : ExactHistory es last
   ranged : Ranged es
   as-arrived : (p : Op) (t v u : ℕ) → T (isAccess p) → t < tasks → v < variables → u < tasks → Tells arrived es last p t v u (x .apart s (kind p) t v u)
@@ -339,6 +341,7 @@ clocks-exactly {s = s} x =
     record {
       last = s .last;
       numbers = λ k v u. refl;
+      none = λ k t v u e. (rw (e, le-ltb (cell tasks (s .clocks) t u) 0 zero-le), rw (e, le-ltb (cell tasks (s .fullclocks) t u) 0 zero-le));
       history = x .base .history;
       ranged = x .base .ranged;
       as-arrived = λ p t v u a ht hv hu. clock-tells p (x .base .history) a ht hv hu (x .clocks .as-arrived);
@@ -350,6 +353,7 @@ sets-exactly {s = s} x =
     record {
       last = s .last;
       numbers = λ k v u. refl;
+      none = λ k t v u e. (rw e, rw e);
       history = x .base .history;
       ranged = x .base .ranged;
       as-arrived = λ p t v u a ht hv hu. set-tells p (x .base .history) a ht hv hu (x .sets .as-arrived);
@@ -396,6 +400,7 @@ module _ {S : Type 0} {x : Reckoning S} {R : List Event → S → Type 0} (simul
   exact-paths rs =
       record {
         keeps = λ p v u i a hv hu. (λ e. number-kept p a hv hu (now .history) (sym (now .numbers (kind p) v u) ∙ e), λ k. now .numbers (kind p) v u ∙ kept-number p a hv hu (now .history) k);
+        keeps-none = now .none;
         before = λ r e a f. before (shape-of (recording rs) r e) a f;
         after = λ r e a f. after (shape-of (recording rs) r e) a f (next-exactly rs r e);
       }

@@ -9,12 +9,13 @@ use lib.Dec.{T}
 use lib.ListN.{length}
 use lib.ListN as ListN
 use Rattle.theory.specs.declared.record.Record.{Record}
+use Rattle.theory.specs.declared.masks.Masks.{Masks}
 use Rattle.theory.specs.declared.state.State.{State}
 use Rattle.theory.specs.declared.state.SetState.{SetState}
 use Rattle.theory.specs.order.Limits.{tasks, variables}
-use Rattle.theory.specs.order.Recording.{Op, take, look, join, fresh, Event, act, At, kind, isAccess, opOf, eventOf, _is_}
+use Rattle.theory.specs.order.Recording.{Op, take, look, join, fresh, Event, act, At, kind, isAccess, opOf, eventOf, accesses, _is_}
 use Rattle.theory.specs.order.Path.{HappensBefore, clashes}
-use Rattle.theory.specs.fillings.Completion.{fullest}
+use Rattle.theory.specs.fillings.Completion.{bit, fullest}
 use Rattle.theory.specs.acceptance.Table.{isAct, hasKind, refusal, recording}
 use Rattle.theory.specs.history.History.{latestNumber}
 use Rattle.theory.specs.tables.Reckonings.{clockApart, setApart}
@@ -27,10 +28,11 @@ pub record Reckoning (S : Type 0) : Type 0 where
   pub checker : Checker S
   -- the record number of that access, 0 where there is none
   pub number : S → (k v u : ℕ) → ℕ
-  -- whether order from it is said not to have come to task t, as it arrived and in the fullest filling. The masks of an access are made of
-  -- these tests, task by task
+  -- whether order from it is said not to have come to task t, as it arrived and in the fullest filling
   pub apart : S → (k t v u : ℕ) → Bool
   pub apartInFull : S → (k t v u : ℕ) → Bool
+  -- the masks that a host gets which asks about a record before it is fed
+  pub masks : S → Record → Masks
 
 abbrev pub clocks : Reckoning State
 clocks =
@@ -39,6 +41,7 @@ clocks =
       number = λ s. latestNumber (s .last);
       apart = λ s. clockApart (s .clocks) (s .last);
       apartInFull = λ s. clockApart (s .fullclocks) (s .last);
+      masks = apartByClocks;
     }
 
 abbrev pub sets : Reckoning SetState
@@ -48,6 +51,7 @@ sets =
       number = λ s. latestNumber (s .last);
       apart = λ s. setApart (s .sets) (s .last);
       apartInFull = λ s. setApart (s .fullsets) (s .last);
+      masks = apartBySets;
     }
 
 -- the state that a list of records leaves, from a fresh one
@@ -69,10 +73,14 @@ pub record Kept (es : List Event) (p : Op) (v u i : ℕ) : Type 0 where
 abbrev pub inFullest : List Event → ℕ → ℕ
 inFullest es i = length (fullest (ListN.take i es))
 
+-- a path from the record at place i to that at place k, in the fullest filling
+abbrev pub FullestPath : List Event → ℕ → ℕ → Type 0
+FullestPath es i k = HappensBefore (fullest es) (inFullest es i) (inFullest es k)
+
 -- of the records at places i and k "path" is said exactly where there is one, as it arrived and in the fullest filling
 pub record ExactAt (es : List Event) (i k : ℕ) (apart apartInFull : Bool) : Type 0 where
   pub as-arrived : T (not apart) ↔ HappensBefore es i k
-  pub in-fullest : T (not apartInFull) ↔ HappensBefore (fullest es) (inFullest es i) (inFullest es k)
+  pub in-fullest : T (not apartInFull) ↔ FullestPath es i k
 
 -- The claim
 
@@ -91,15 +99,35 @@ pub record PathsAfter {S : Type 0} (x : Reckoning S) (rs : List Record) : Type 0
   -- it keeps what it should
   pub keeps : (p : Op) (v u i : ℕ) → T (isAccess p) → v < variables → u < tasks →
       (x .number (leftBy x rs) (kind p) v u ≡ suc i) ↔ Kept (recording rs) p v u i
+  -- where it keeps no access, it says of none that it is apart
+  pub keeps-none : (k t v u : ℕ) → x .number (leftBy x rs) k v u ≡ 0 →
+      (x .apart (leftBy x rs) k t v u ≡ false) × (x .apartInFull (leftBy x rs) k t v u ≡ false)
   -- an access that comes next, or another act to which order comes from its own task alone: the state says it before that act is fed
   pub before : (r : Record) → refusal (recording rs) r ≡ 0 → isAct r ≡ true → acquiring (opOf (r .kind)) ≡ false →
       SaysPaths x (leftBy x rs) (recording rs) r
-  -- any act that comes next, but a fresh, by which accesses are kept no longer: the state says it once that act is fed
-  pub after : (r : Record) → refusal (recording rs) r ≡ 0 → isAct r ≡ true → hasKind r fresh ≡ false → SaysPaths x (x .checker .next (leftBy x rs) r) (recording rs) r
+  -- any act that comes next but a fresh, by which accesses are kept no longer: the state says it once that act is fed. Where that act is itself
+  -- kept in the access's place, both are of one task
+  pub after : (r : Record) → refusal (recording rs) r ≡ 0 → isAct r ≡ true → hasKind r fresh ≡ false →
+      SaysPaths x (x .checker .next (leftBy x rs) r) (recording rs) r
 
 -- after every list of records
 abbrev pub ExactPaths : {S : Type 0} → Reckoning S → Type 0
 ExactPaths x = (rs : List Record) → PathsAfter x rs
+
+-- What a host is told of an access that comes next
+
+-- task u's access to variable v that is kept for accesses of op p has no path to the record f that comes next
+abbrev pub KeptApart : (List Event → ℕ → ℕ → Type 0) → List Event → Event → Op → ℕ → ℕ → Type 0
+KeptApart Ordered es f p v u = (i : ℕ) × Kept es p v u i × (¬ Ordered (es ++ (f ∷ [])) i (length es))
+
+-- the masks have the bits of the tasks whose access that is kept for the access r has no path to it
+pub record ExactMasks (es : List Event) (r : Record) (masks : Masks) : Type 0 where
+  pub as-arrived : (u : ℕ) → u < tasks → T (bit (masks .arrived) u) ↔ KeptApart HappensBefore es (eventOf r) (opOf (r .kind)) (r .on) u
+  pub in-fullest : (u : ℕ) → u < tasks → T (bit (masks .full) u) ↔ KeptApart FullestPath es (eventOf r) (opOf (r .kind)) (r .on) u
+
+abbrev pub TellsPaths : {S : Type 0} → Reckoning S → Type 0
+TellsPaths x =
+    (rs : List Record) (r : Record) → refusal (recording rs) r ≡ 0 → accesses (r .kind) ≡ true → ExactMasks (recording rs) r (x .masks (leftBy x rs) r)
 
 -- The match
 
