@@ -20,9 +20,8 @@ use Rattle.theory.specs.fillings.Completion.{Filling, arrived, full, fil
 use Rattle.theory.specs.acceptance.Table.{isAct, hasKind, refusal, recording, recordedAfter}
 use Rattle.theory.specs.tables.Rows.{cell}
 use Rattle.theory.specs.history.History.{asker, askAt, latestSlot, latestNumber}
-use Rattle.theory.specs.tables.Reckonings.{hasSlot, clockApart, setApart}
 use Rattle.theory.specs.feeding.Paths.{Reckoning, clocks, sets, leftBy, Kept, inFullest, ExactAt, SaysPaths, acquiring, ExactPaths}
-use Rattle.theory.proofs.basics.Reflects.{Reflects, right, wrong, by-test, equal, at-most, both, fails, passed, passes}
+use Rattle.theory.proofs.basics.Reflects.{Reflects, right, wrong, by-test, equal, at-most, both, passed}
 use Rattle.theory.proofs.order.Leads.{Leads, leads-survives, leads-as-arrived, filled-with}
 use Rattle.theory.proofs.order.Tests.{none-every, every-none}
 use Rattle.theory.proofs.order.Places.{Ends, Occurs, first, next, leads-path, path-leads}
@@ -30,14 +29,12 @@ use Rattle.theory.proofs.order.Carry.{Node, due, Acquires, own, by-take
 use Rattle.theory.proofs.order.Ops.{event-act, opOf-kind, access-on}
 use Rattle.theory.proofs.fillings.Reach.{Reach, reach-start, reach-next, leads-reach, arrived-nothing}
 use Rattle.theory.proofs.fillings.Between.{filled-path}
-use Rattle.theory.proofs.fillings.Came.{Came, Snoc, old, new, occurs-snoc, occurs-old, occurs-new, occurs-short}
+use Rattle.theory.proofs.fillings.Came.{Snoc, old, new, occurs-snoc, occurs-old, occurs-new, occurs-short}
 use Rattle.theory.proofs.verdicts.Latest.{some-after, some-occurs, occurs-after}
 use Rattle.theory.proofs.verdicts.Examples.{ends-middle}
 use Rattle.theory.proofs.history.Slots.{InSlot, in-slot, Frees, frees, ExactHistory, slot-one, clash-access}
-use Rattle.theory.proofs.history.Numbers.{Ranged, asker-below, asker-op, latest-below, occurs-same}
-use Rattle.theory.proofs.tables.ClockTables.{ExactClocks, OfTask}
-use Rattle.theory.proofs.tables.SetTables.{ExactSets, KeptIn}
-use Rattle.theory.proofs.tables.Reckoned.{reach-older, occurs-there, acts-reach, clock-cell, set-cell, kept-at}
+use Rattle.theory.proofs.history.Numbers.{Ranged, asker-below, asker-op, latest-below}
+use Rattle.theory.proofs.tables.Reckoned.{acts-reach, Tells, clock-tells, set-tells}
 use Rattle.theory.proofs.feeding.Simulation.{Shape, an-act, a-mark, shape-of, Represents, RepresentsSets, Simulates, after-all, clocks-simulate, sets-simulate}
 
 through : {P Q R : Type 0} → P ↔ Q → R ↔ Q → P ↔ R
@@ -134,72 +131,6 @@ module _ (p : Op) {v u : ℕ} (a : T (isAccess p)) (hv : v < variables) (hu : u 
             absurd (omega arith)
         decided (wrong f) m = omega arith
 
--- a slot keeps one access
-one-kept : {es : List Event} {s i j : ℕ} {e f : Event} {after after′ : List Event} → Occurs es i e after → KeptIn s e after → Occurs es j f after′ → KeptIn s f after′ → i ≡ j
-one-kept {i = i} {j = j} o k o′ k′ = decided (equal i j) (at-most (suc i) j)
-  where
-    decided : {c d : Bool} → Reflects (i ≡ j) c → Reflects (i < j) d → i ≡ j
-    decided (right e) l = e
-    decided (wrong n) (right l) = absurd (k .1 (some-after o o′ l (k′ .0)))
-    decided (wrong n) (wrong m) = absurd (k′ .1 (some-after o′ o (omega arith) (k .0)))
-
--- What is said of it: a test tells whether order from the kept access has come to task t's next act
-
-record Tells (w : Filling) (es : List Event) (last : List ℕ) (p : Op) (t v u : ℕ) (apart : Bool) : Type 0 where
-  tells : {i : ℕ} {o : Op} {after : List Event} → Occurs es i (act o u v) after → latestNumber last (kind p) v u ≡ suc i → T (not apart) ↔ Reach w (act o u v) after (due t)
-
-module _ {w : Filling} {es : List Event} {b last : List ℕ} (p : Op) {t v u : ℕ} (h : ExactHistory es last) (a : T (isAccess p)) (ht : t < tasks) (hv : v < variables)
-    (hu : u < tasks) where
-  clock-tells : ExactClocks w es b → Tells w es last p t v u (clockApart b last (kind p) t v u)
-  clock-tells x = record { tells = tells }
-    where
-      test : Reflects (¬ (cell tasks b t u < latestNumber last (kind p) v u)) (not (clockApart b last (kind p) t v u))
-      test = fails (at-most (suc (cell tasks b t u)) (latestNumber last (kind p) v u))
-
-      tells : {i : ℕ} {o : Op} {after : List Event} → Occurs es i (act o u v) after → latestNumber last (kind p) v u ≡ suc i →
-          T (not (clockApart b last (kind p) t v u)) ↔ Reach w (act o u v) after (due t)
-      tells {i} {o} {after} q n = (λ y. let f = passed test y in came (clock-cell p t v x h a ht hv u i hu .0 (omega arith)), λ r. passes test (known r))
-        where
-          came : Came w (OfTask u) es i (due t) → Reach w (act o u v) after (due t)
-          came d = by-place (equal i (d .j))
-            where
-              by-place : {c : Bool} → Reflects (i ≡ d .j) c → Reach w (act o u v) after (due t)
-              by-place (right e) = occurs-same (λ e after. Reach w e after (due t)) q (occurs-there e (d .occurs)) (d .reach)
-              by-place (wrong f) = let k = d .recent in reach-older q (d .occurs) (omega arith) acts (d .chosen) (d .reach)
-
-          known : Reach w (act o u v) after (due t) → ¬ (cell tasks b t u < latestNumber last (kind p) v u)
-          known r l =
-              let k = clock-cell p t v x h a ht hv u i hu .1 (record { j = i; e = act o u v; after = after; recent = le-refl i; occurs = q; chosen = acts; reach = r }) in
-              omega arith
-
-  set-tells : ExactSets w es b → Tells w es last p t v u (setApart b last (kind p) t v u)
-  set-tells x = record { tells = tells }
-    where
-      test : Reflects (¬ ((0 < latestNumber last (kind p) v u) × (¬ T (hasSlot b t (latestSlot (kind p) v u))))) (not (setApart b last (kind p) t v u))
-      test = fails (both (at-most 1 (latestNumber last (kind p) v u)) (fails (by-test (hasSlot b t (latestSlot (kind p) v u)))))
-
-      tells : {i : ℕ} {o : Op} {after : List Event} → Occurs es i (act o u v) after → latestNumber last (kind p) v u ≡ suc i →
-          T (not (setApart b last (kind p) t v u)) ↔ Reach w (act o u v) after (due t)
-      tells {i} {o} {after} q n = (λ y. came (set-cell p t v x h a ht hv (latestSlot (kind p) v u) (latest-below p hv hu) .0 (bit (passed test y))), λ r. passes test (λ y. y .1 (known r)))
-        where
-          kept : KeptIn (latestSlot (kind p) v u) (act o u v) after
-          kept = kept-at p t v x h a ht hv u i hu n q
-
-          bit : ¬ ((0 < latestNumber last (kind p) v u) × (¬ T (hasSlot b t (latestSlot (kind p) v u)))) → T (hasSlot b t (latestSlot (kind p) v u))
-          bit f = decided (by-test (hasSlot b t (latestSlot (kind p) v u)))
-            where
-              decided : {c : Bool} → Reflects (T (hasSlot b t (latestSlot (kind p) v u))) c → T (hasSlot b t (latestSlot (kind p) v u))
-              decided (right y) = y
-              decided (wrong m) = absurd (f (omega arith, m))
-
-          came : Came w (KeptIn (latestSlot (kind p) v u)) es 0 (due t) → Reach w (act o u v) after (due t)
-          came d = occurs-same (λ e after. Reach w e after (due t)) q (occurs-there (one-kept q kept (d .occurs) (d .chosen)) (d .occurs)) (d .reach)
-
-          known : Reach w (act o u v) after (due t) → T (hasSlot b t (latestSlot (kind p) v u))
-          known r =
-              set-cell p t v x h a ht hv (latestSlot (kind p) v u) (latest-below p hv hu) .1
-              (record { j = i; e = act o u v; after = after; recent = zero-le; occurs = q; chosen = kept; reach = r })
-
 -- Paths to the act that comes next, by what has been reached
 
 -- to an act that acquires nothing beside its own task
@@ -252,7 +183,7 @@ module _ (w : Filling) {es : List Event} {last : List ℕ} (p q : Op) (t n : ℕ
   Path = Leads (act (k .op) u v) (fillWith (filling w) (later k)) (act q t n)
 
   said-before : {apart : Bool} → Tells w es last p t v u apart → acquiring q ≡ false → T (not apart) ↔ Path
-  said-before x f = through (x .tells (stands-at k) (kept-number p (asks k) hv hu h k)) (leads-before (later k) f)
+  said-before x f = through (x .tells (stands-at k) acts (kept-number p (asks k) hv hu h k)) (leads-before (later k) f)
 
   -- once the act is fed: the access is kept still, or the act is kept in its place, which is one of the same task
   module _ {last′ : List ℕ} {apart : Bool} (kept : (q is fresh) ≡ false) (h′ : ExactHistory (es ++ (act q t n ∷ [])) last′) (x : Tells w (es ++ (act q t n ∷ [])) last′ p t v u apart) where
@@ -298,7 +229,7 @@ module _ (w : Filling) {es : List Event} {last : List ℕ} (p q : Op) (t n : ℕ
             })
 
         told : T (not apart) ↔ Reach w (act o u v) [] (due t)
-        told = x .tells stands number
+        told = x .tells stands acts number
 
         begun : Reach w (act o u v) [] (due t)
         begun = subst (λ (m : ℕ). Reach w (act o u v) [] (due m)) (sym same) (reach-start .1 own-next)
@@ -307,7 +238,7 @@ module _ (w : Filling) {es : List Event} {last : List ℕ} (p q : Op) (t n : ℕ
     said-after = decided (equal (latestNumber last′ (kind p) v u) (suc i))
       where
         decided : {b : Bool} → Reflects (latestNumber last′ (kind p) v u ≡ suc i) b → T (not apart) ↔ Path
-        decided (right e) = through (x .tells (occurs-old (act q t n) (stands-at k)) e) (leads-after (later k))
+        decided (right e) = through (x .tells (occurs-old (act q t n) (stands-at k)) acts e) (leads-after (later k))
         decided (wrong f) = let (o, e, c) = slot-clash p (asks k) hv hu (replaced f) in said-anew o e c
 
 -- The same over the recording, as it arrived and in the fullest filling
@@ -344,8 +275,8 @@ clocks-exactly {s = s} x =
       none = λ k t v u e. (rw (e, le-ltb (cell tasks (s .clocks) t u) 0 zero-le), rw (e, le-ltb (cell tasks (s .fullclocks) t u) 0 zero-le));
       history = x .base .history;
       ranged = x .base .ranged;
-      as-arrived = λ p t v u a ht hv hu. clock-tells p (x .base .history) a ht hv hu (x .clocks .as-arrived);
-      in-full = λ p t v u a ht hv hu. clock-tells p (x .base .history) a ht hv hu (x .clocks .in-full);
+      as-arrived = λ p t v u a ht hv hu. clock-tells p (x .base .history) ht hv hu (x .clocks .as-arrived);
+      in-full = λ p t v u a ht hv hu. clock-tells p (x .base .history) ht hv hu (x .clocks .in-full);
     }
 
 sets-exactly : {es : List Event} {s : SetState} → RepresentsSets es s → Exactly sets es s
@@ -356,8 +287,8 @@ sets-exactly {s = s} x =
       none = λ k t v u e. (rw e, rw e);
       history = x .base .history;
       ranged = x .base .ranged;
-      as-arrived = λ p t v u a ht hv hu. set-tells p (x .base .history) a ht hv hu (x .sets .as-arrived);
-      in-full = λ p t v u a ht hv hu. set-tells p (x .base .history) a ht hv hu (x .sets .in-full);
+      as-arrived = λ p t v u a ht hv hu. set-tells p (x .base .history) ht hv hu (x .sets .as-arrived);
+      in-full = λ p t v u a ht hv hu. set-tells p (x .base .history) ht hv hu (x .sets .in-full);
     }
 
 -- the numbers of a kept access are in their ranges

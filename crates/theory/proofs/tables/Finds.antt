@@ -19,7 +19,7 @@ use Rattle.theory.proofs.tables.ClockTables.{ExactClocks}
 use Rattle.theory.proofs.tables.SetTables.{ExactSets}
 use Rattle.theory.proofs.history.Slots.{ExactHistory}
 use Rattle.theory.proofs.history.Numbers.{Ranged}
-use Rattle.theory.proofs.tables.Reckoned.{clock-sound, clock-complete, set-sound, set-complete}
+use Rattle.theory.proofs.tables.Reckoned.{sound, complete, clock-tells, set-tells}
 use Rattle.theory.proofs.tables.Masked.{foundBy, mask-partner}
 
 -- The masks of an access
@@ -34,13 +34,13 @@ task-of {es = es} r c = acting (c .apart .against .by) (c .occurs)
 module _ {w : Filling} {es : List Event} {last : List ℕ} (p : Op) (t v : ℕ) (h : ExactHistory es last) (r : Ranged es) (ap : T (isAccess p)) (ht : t < tasks) (hv : v < variables) where
   pub clock-finds : {b : List ℕ} → ExactClocks w es b → foundBy (latestNumber last (kind p) v) (clockMask b last (kind p) t v) ≡ partner (filling w) (act p t v) 1 es
   clock-finds {b} x =
-      mask-partner (clockApart b last (kind p) t v) (latestNumber last (kind p) v) (clock-sound p t v x h ap ht hv)
-      (λ u i c. (task-of r c, clock-complete p t v x h ap ht hv u i (task-of r c) c))
+      mask-partner (clockApart b last (kind p) t v) (latestNumber last (kind p) v) (λ u hu a. sound p (clock-tells p h ht hv hu x) h ap hv hu a)
+      (λ u i c. let hu = task-of r c in (hu, complete p (clock-tells p h ht hv hu x) h ap hv hu c))
 
   pub set-finds : {b : List ℕ} → ExactSets w es b → foundBy (latestNumber last (kind p) v) (setMask b last (kind p) t v) ≡ partner (filling w) (act p t v) 1 es
   set-finds {b} x =
-      mask-partner (setApart b last (kind p) t v) (latestNumber last (kind p) v) (set-sound p t v x h ap ht hv)
-      (λ u i c. (task-of r c, set-complete p t v x h ap ht hv u i (task-of r c) c))
+      mask-partner (setApart b last (kind p) t v) (latestNumber last (kind p) v) (λ u hu a. sound p (set-tells p h ht hv hu x) h ap hv hu a)
+      (λ u i c. let hu = task-of r c in (hu, complete p (set-tells p h ht hv hu x) h ap hv hu c))
 
 -- the answer that masks make is that of what they find
 answer-found : (a b : Bool) (last : List ℕ) (k on number fm am : ℕ) →
