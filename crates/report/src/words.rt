@@ -27,6 +27,7 @@ const OPENINGS: [[u8; 8]; KINDS as usize] = [
     *b"op=start",
     *b"op=join ",
     *b"op=lost ",
+    *b"op=fresh",
 ];
 
 // The part starts with the word.
