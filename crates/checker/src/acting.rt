@@ -17,7 +17,6 @@ use theory::Sets;
 use theory::Task;
 use theory::Variable;
 ghost use mathlib.Core.Path.{_≡_};
-ghost use mathlib.Core.Bool.{true};
 ghost use mathlib.Core.Logic.{_≢_};
 ghost use Rattle.theory.specs.order.Recording.{lossMark};
 ghost use Rattle.theory.specs.acceptance.Table.{Fitting};
