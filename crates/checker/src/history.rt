@@ -12,13 +12,14 @@ use theory::VARIABLES;
 use theory::Variable;
 use theory::WRITE;
 ghost use mathlib.Core.Path.{_≡_};
-ghost use mathlib.Core.Bool.{true, cond};
+ghost use mathlib.Core.Bool.{cond};
 ghost use Prim.Native.Nat.{_<_};
 ghost use lib.Dec.{ltb};
 ghost use lib.ListN.{set, length};
 ghost use Rattle.theory.specs.order.Limits.{tasks, variables};
 ghost use Rattle.theory.specs.order.Recording.{accesses, kindAt};
 ghost use Rattle.theory.specs.history.History.{askers, asker, askAt, clashBy, slot, slots, latestNumber, lastAfter};
+ghost use Rattle.theory.proofs.history.Accesses.{OfAccess};
 
 // The number of a kind of access among those that ask, and ASKERS for any other kind.
 pub(crate) fn ask_at(kind: u8) -> usize
@@ -56,7 +57,7 @@ pub(crate) fn slot(a: usize, v: Variable, u: Task) -> usize
 
 // The number of task u's latest access to v that conflicts with one of this kind, 0 where there is none.
 pub(crate) fn latest_number(last: &History, kind: u8, v: Variable, u: Task) -> RecordNumber
-    requires { ⌜ (accesses kind ≡ true) × (v .0 < variables) × (u .0 < tasks) ⌝ }
+    requires { ⌜ OfAccess kind (u .0) (v .0) ⌝ }
     ensures { λ r. ⌜ r .0 ≡ latestNumber (now (last .entry)) kind (v .0) (u .0) ⌝ }
 {
     RecordNumber(last[slot(ask_at(kind), v, u)])

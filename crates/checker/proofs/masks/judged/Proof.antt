@@ -6,14 +6,14 @@ use Rattle.checker.proofs.masks.judged.Statement.{statement}
 use Rattle.checker.proofs.masks.judged.Tie as tie
 
 latest-number-requires : tie.Need-latest-number-requires
-latest-number-requires c κs = let (e, v) = c .before .before .pre in (e, v, c .lowest .ensures .1)
+latest-number-requires c κs = let (e, v) = c .before .before .pre in record { is-access = e; task-fits = c .lowest .ensures .1; variable-fits = v }
 
 returns : tie.Need-returns
 unfolding judgedBy
 returns c = simp (ne-eqb _ _ (c .before .before .if1 .taken), ← c .before .lowest .ensures .0, ← c .latest-number .ensures)
 
 latest-number-requires-2 : tie.Need-latest-number-requires-2
-latest-number-requires-2 c κs = let (e, v) = c .before .before .before .pre in (e, v, c .lowest2 .ensures .1)
+latest-number-requires-2 c κs = let (e, v) = c .before .before .before .pre in record { is-access = e; task-fits = c .lowest2 .ensures .1; variable-fits = v }
 
 returns-2 : tie.Need-returns-2
 unfolding judgedBy
