@@ -1,7 +1,7 @@
 // Lines answered: each is fed, and what the report has for it is written.
 use crate::parsing::parse_line;
+use crate::reader::read_record;
 use crate::scan::rest_start;
-use crate::short::next_parsed;
 use crate::writing::put_answer;
 use crate::writing::put_refused;
 use checker::step_in_place;
@@ -88,7 +88,7 @@ pub(crate) fn put_lines(
     let end = rest_start(piece);
     while p < end {
         number += 1;
-        let parsed = next_parsed(piece, &mut p);
+        let parsed = read_record(piece, &mut p);
         at = put_parsed(out, at, number, parsed, control, last, clocks, fullclocks);
     }
     Reached {

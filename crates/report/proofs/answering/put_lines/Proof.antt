@@ -27,38 +27,38 @@ loop-holds c = (c .before .before .before .pre .0, omega arith, refl, left-start
 add-number : tie.Need-add-number Inv-loop μ-loop
 add-number c = omega (arith, c .before .loop .inv .1, c .before .before .before .before .before .pre .2, c .loop-test .taken, c .before .before .rest-start .ensures .0)
 
-next-parsed-requires : tie.Need-next-parsed-requires Inv-loop μ-loop
-next-parsed-requires c κs = c .before .before .loop .inv .0
+read-record-requires : tie.Need-read-record-requires Inv-loop μ-loop
+read-record-requires c κs = search needs
 
 put-parsed-requires : tie.Need-put-parsed-requires Inv-loop μ-loop
 put-parsed-requires c κs =
-    let at-next-parsed = c .before .before .before .before .before in
-    let at-loop-test = at-next-parsed .before .before in
+    let at-read-record = c .before .before .before .before .before in
+    let at-loop-test = at-read-record .before .before in
     let at-loop = at-loop-test .before in
     let at-rest-start = at-loop .before in
     let e = ends-before _ _ _ (at-loop-test .loop-test .taken) (at-rest-start .rest-start .ensures .0) (at-rest-start .rest-start .ensures .2) in
-    (left-room (at-loop .loop .inv .3) refl e, λ r q. only-sayable _ r (sym (at-next-parsed .next-parsed .ensures .0) ∙ q))
+    (left-room (at-loop .loop .inv .3) refl e, λ r q. only-sayable _ r (sym (at-read-record .read-record .ensures .0) ∙ q))
 
 loop-less : tie.Need-loop-less Inv-loop μ-loop
 loop-less c =
-    let at-next-parsed = c .before .before .before .before .before .before .before .before in
-    let at-loop-test = at-next-parsed .before .before in
+    let at-read-record = c .before .before .before .before .before .before .before .before in
+    let at-loop-test = at-read-record .before .before in
     let at-rest-start = at-loop-test .before .before in
-    let m = moved _ _ (ends-before _ _ _ (at-loop-test .loop-test .taken) (at-rest-start .rest-start .ensures .0) (at-rest-start .rest-start .ensures .2)) (at-next-parsed .next-parsed .ensures .1) in omega (arith, m .0, m .1)
+    let m = moved _ _ (ends-before _ _ _ (at-loop-test .loop-test .taken) (at-rest-start .rest-start .ensures .0) (at-rest-start .rest-start .ensures .2)) (at-read-record .read-record .ensures .1) in omega (arith, m .0, m .1)
 
 loop-again : tie.Need-loop-again Inv-loop μ-loop
 loop-again c =
-    let at-next-parsed = c .before .before .before .before .before .before .before .before in
-    let at-loop-test = at-next-parsed .before .before in
+    let at-read-record = c .before .before .before .before .before .before .before .before in
+    let at-loop-test = at-read-record .before .before in
     let at-loop = at-loop-test .before in
     let at-rest-start = at-loop .before in
     let e = ends-before _ _ _ (at-loop-test .loop-test .taken) (at-rest-start .rest-start .ensures .0) (at-rest-start .rest-start .ensures .2) in
-    let m = moved _ _ e (at-next-parsed .next-parsed .ensures .1) in
+    let m = moved _ _ e (at-read-record .read-record .ensures .1) in
     let p = c .before .before .put-parsed .ensures in (
       m .1,
       omega (arith, m .0, m .1, at-loop .loop .inv .1),
       as-long (p .wrote) ∙ at-loop .loop .inv .2,
-      left-taken (at-loop .loop .inv .3) e (at-next-parsed .next-parsed .ensures .0) (at-next-parsed .next-parsed .ensures .1) p,
+      left-taken (at-loop .loop .inv .3) e (at-read-record .read-record .ensures .0) (at-read-record .read-record .ensures .1) p,
     )
 
 returns : tie.Need-returns Inv-loop μ-loop
@@ -70,4 +70,4 @@ returns c =
 pub put-lines-spec : {M : Type 1} → statement M
 put-lines-spec =
     tie.close (tie.spec
-    Inv-loop μ-loop (λ c κs. search needs) loop-holds add-number next-parsed-requires put-parsed-requires loop-less loop-again (λ c. search needs) returns)
+    Inv-loop μ-loop (λ c κs. search needs) loop-holds add-number read-record-requires put-parsed-requires loop-less loop-again (λ c. search needs) returns)
