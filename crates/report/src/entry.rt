@@ -39,7 +39,7 @@ fn write_report(text: &[u8], report: &mut [u8]) -> usize
 }
 
 // Row 11's answer: 64 one-bits.
-const TOO_SMALL: u64 = 18_446_744_073_709_551_615;
+const TOO_SMALL: u64 = u64::MAX;
 
 // The report of a text into lent memory, from a fresh state: the count of bytes written, or 64 one-bits where the memory has under 64
 // bytes for each line of the text; it is then untouched. Bytes after the written ones stay.

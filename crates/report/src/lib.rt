@@ -19,4 +19,5 @@ pub use reader::read_record;
 pub use reader::reader_at;
 pub use sizes::HELD_MOST;
 pub use sizes::LINE_ROOM;
+pub use streaming::REFUSED;
 pub use streaming::report_piece;

@@ -174,7 +174,7 @@ fn put_piece(
 }
 
 // What `at` is where a piece was not taken in: 64 one-bits.
-const REFUSED: usize = 18_446_744_073_709_551_615;
+pub const REFUSED: usize = usize::MAX;
 
 // There are n bytes of a line in memory that holds one, and no LF is among them.
 fn holds_open(held: &[u8], n: usize) -> bool
