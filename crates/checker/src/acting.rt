@@ -23,7 +23,7 @@ ghost use Rattle.theory.specs.acceptance.Table.{Fitting};
 ghost use Rattle.theory.specs.fillings.Completion.{arrived, full};
 ghost use Rattle.theory.specs.history.History.{lastAfter};
 ghost use Rattle.theory.specs.tables.Reckonings.{clockOwn, clocksBy, setOwn, setsBy, clockMask, clockMasks, setMask, setMasks};
-ghost use Rattle.theory.specs.feeding.Step.{judgedBy, answeredBy};
+ghost use Rattle.theory.specs.feeding.Step.{answerByMasks, answeredBy};
 ghost use Rattle.theory.specs.feeding.Lent.{seen};
 ghost use Rattle.theory.proofs.history.Accesses.{OfAccess};
 
@@ -37,7 +37,7 @@ fn take_in(
     masks: Masks,
 ) -> Answer
     requires { ⌜ OfAccess kind (task .0) (v .0) ⌝ }
-    ensures { λ a. let l = seen last in ⌜ (a ≡ judgedBy (l .entry) kind (v .0) (number .0) (masks .full) (masks .arrived))
+    ensures { λ a. let l = seen last in ⌜ (a ≡ answerByMasks (l .entry) kind (v .0) (number .0) (masks .full) (masks .arrived))
         × (l .exit ≡ lastAfter kind (task .0) (v .0) (number .0) (l .entry)) ⌝ }
 {
     let answer = judged(last, kind, v, number, masks);
@@ -57,7 +57,7 @@ fn access_by_clocks(
 ) -> Answer
     requires { ⌜ OfAccess kind (task .0) (v .0) ⌝ }
     ensures { λ a. let l = seen last in let c = seen clocks in let f = seen fullclocks in
-        ⌜ (a ≡ judgedBy (l .entry) kind (v .0) (number .0)
+        ⌜ (a ≡ answerByMasks (l .entry) kind (v .0) (number .0)
         (clockMask (f .entry) (l .entry) kind (task .0) (v .0)) (clockMask (c .entry) (l .entry) kind (task .0) (v .0)))
         × (l .exit ≡ lastAfter kind (task .0) (v .0) (number .0) (l .entry))
         × (c .exit ≡ clockOwn (task .0) (number .0) (c .entry))
@@ -108,7 +108,7 @@ fn access_by_sets(
 ) -> Answer
     requires { ⌜ OfAccess kind (task .0) (v .0) ⌝ }
     ensures { λ a. let l = seen last in let s = seen sets in let f = seen fullsets in
-        ⌜ (a ≡ judgedBy (l .entry) kind (v .0) (number .0)
+        ⌜ (a ≡ answerByMasks (l .entry) kind (v .0) (number .0)
         (setMask (f .entry) (l .entry) kind (task .0) (v .0)) (setMask (s .entry) (l .entry) kind (task .0) (v .0)))
         × (l .exit ≡ lastAfter kind (task .0) (v .0) (number .0) (l .entry))
         × (s .exit ≡ setOwn kind (task .0) (v .0) (s .entry))

@@ -40,7 +40,7 @@ ghost use lib.ListN.{length};
 ghost use Rattle.theory.specs.order.Limits.{tasks, variables};
 ghost use Rattle.theory.specs.order.Recording.{Op, kind as number, kindAt};
 ghost use Rattle.theory.specs.acceptance.Table.{Fitting};
-ghost use Rattle.theory.specs.history.History.{askers, asker, clashBy, slot as slotOf, slots, underEach};
+ghost use Rattle.theory.specs.history.History.{askers, asker, kindClashes, slot as slotOf, slots, underEach};
 ghost use Rattle.theory.specs.tables.Rows.{actedRow, cell, joinRow, rowOf, joinWith, putRow, flow, noteActed, joinsActed, onward, gather, spread, noteNamed, mix};
 ghost use Rattle.theory.specs.tables.Reckonings.{wordBits, slotWords, knownSlots, clearSlot, addSlot, setOwn, setMask, masksBy};
 ghost use Rattle.theory.proofs.tables.Reckoned.{apartBy};
@@ -216,7 +216,7 @@ fn begin_slot(cells: &mut Sets, r: usize, s: usize)
 fn keep_under(cells: &mut Sets, a: usize, kind: u8, task: Task, v: Variable)
     requires { ⌜ (a < length askers) × (task .0 < tasks) × (v .0 < variables) ⌝ }
     ensures { λ _. let s = slotOf a (v .0) (task .0) in ⌜ now (cells .exit)
-        ≡ cond (clashBy (kindAt kind) (asker a)) (addSlot (task .0) s (clearSlot s (now (cells .entry)))) (now (cells .entry)) ⌝ }
+        ≡ cond (kindClashes (kindAt kind) (asker a)) (addSlot (task .0) s (clearSlot s (now (cells .entry)))) (now (cells .entry)) ⌝ }
 {
     if clashes(kind, a) {
         begin_slot(cells, task_row(task), slot(a, v, task));

@@ -7,7 +7,7 @@ use Rattle.theory.specs.order.Limits.{tasks, variables}
 use Rattle.theory.specs.tables.Turns.{turns}
 use Rattle.theory.specs.order.Recording.{kindAt, accesses}
 use Rattle.theory.specs.acceptance.Table.{Fitting}
-use Rattle.theory.specs.history.History.{askers, asker, clashBy, slot, underEach}
+use Rattle.theory.specs.history.History.{askers, asker, kindClashes, slot, underEach}
 use Rattle.theory.proofs.order.Numbered.{no-clash}
 use Rattle.theory.proofs.tables.Ranges.{access-fits}
 
@@ -25,6 +25,6 @@ pub kept-nowhere : {A : Type 0} (f : ℕ → A → A) (k v u : ℕ) (b : A) → 
 unfolding underEach turns
 kept-nowhere f k v u b e = none (length askers)
   where
-    none : (n : ℕ) → turns n (λ a b. cond (clashBy (kindAt k) (asker a)) (f (slot a v u) b) b) b ≡ b
+    none : (n : ℕ) → turns n (λ a b. cond (kindClashes (kindAt k) (asker a)) (f (slot a v u) b) b) b ≡ b
     none zero = refl
     none (suc n) = rw (sym (no-clash k (asker n) e)) (none n)
