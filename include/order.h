@@ -1,5 +1,5 @@
 /* The order checker for a host program in C. Link the archives whose functions are used: `rt staticlib NAME` writes libNAME.a, where NAME is
- * report (order_report), host (a running state and the sets, fed record by record) or pieces (order_piece). */
+ * report (order_report), host (a running state and the sets, fed record by record), gateway (order_step) or pieces (order_piece). */
 #ifndef ORDER_H
 #define ORDER_H
 
@@ -77,6 +77,10 @@ static inline void order_state_begin(struct order_state *s) {
 static inline void order_state_feed(struct order_state *s, uint8_t kind, uint32_t task, uint32_t on, uint32_t answer[3]) {
     order_feed(s->control, s->last, s->clocks, s->fullclocks, kind, task, on, answer);
 }
+
+/* The same as order_state_feed by one call that is lent the whole state. It copies the state there and back, 19 kilobytes, so that a record
+ * takes some twenty times as long; the two may be mixed. Needs libgateway.a. */
+void order_step(struct order_state *s, uint8_t kind, uint32_t task, uint32_t on, uint32_t answer[3]);
 
 /* So many bytes of a line are held at most: no line of more than 64 is a record. */
 #define ORDER_HELD_BYTES 65

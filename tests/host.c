@@ -119,6 +119,14 @@ static void begin_clocks(void *state) { order_state_begin(state); }
 static void feed_clocks(void *state, uint8_t kind, uint32_t task, uint32_t on, uint32_t answer[3]) {
     order_state_feed(state, kind, task, on, answer);
 }
+static void feed_whole(void *state, uint8_t kind, uint32_t task, uint32_t on, uint32_t answer[3]) {
+    order_step(state, kind, task, on, answer);
+}
+/* The tables and the whole state by turns. */
+static void feed_mixed(void *state, uint8_t kind, uint32_t task, uint32_t on, uint32_t answer[3]) {
+    static unsigned turn;
+    (turn++ % 2 ? feed_whole : feed_clocks)(state, kind, task, on, answer);
+}
 static void begin_sets(void *state) { order_sets_state_begin(state); }
 static void feed_sets(void *state, uint8_t kind, uint32_t task, uint32_t on, uint32_t answer[3]) {
     order_sets_state_feed(state, kind, task, on, answer);
@@ -177,10 +185,29 @@ static void one_bits(const struct way *way) {
     check(name, all(way->one, way->size, 0xff));
 }
 
+/* However the records are fed, by the tables or to the whole state, the same answers and the same bytes of the state come of them. */
+static void layout(void) {
+    static struct order_state one, two;
+    order_state_begin(&one);
+    order_state_begin(&two);
+    int same_state = 1;
+    for (uint32_t i = 0; i < 2000; i++) {
+        uint32_t a[3], b[3], x = i * 2654435761u;
+        uint8_t kind = (uint8_t)(i < 15 ? ORDER_START : (x >> 28) % (ORDER_LOST + 1));
+        uint32_t task = i < 15 ? 0 : (x >> 20) % 16, on = i < 15 ? i + 1 : (x >> 12) % 32;
+        order_state_feed(&one, kind, task, on, a);
+        order_step(&two, kind, task, on, b);
+        same_state = same_state && memcmp(a, b, sizeof a) == 0 && memcmp(&one, &two, sizeof one) == 0;
+    }
+    check("the whole state has its tables where the struct has them", same_state);
+}
+
 static void states(void) {
     static struct order_state clocks[3];
     static struct order_sets sets[3];
     const struct way ways[] = {{"clocks", begin_clocks, feed_clocks, sizeof clocks[0], &clocks[0], &clocks[1], &clocks[2]},
+                               {"whole", begin_clocks, feed_whole, sizeof clocks[0], &clocks[0], &clocks[1], &clocks[2]},
+                               {"mixed", begin_clocks, feed_mixed, sizeof clocks[0], &clocks[0], &clocks[1], &clocks[2]},
                                {"sets", begin_sets, feed_sets, sizeof sets[0], &sets[0], &sets[1], &sets[2]}};
     for (size_t i = 0; i < sizeof ways / sizeof ways[0]; i++) {
         run(&ways[i]);
@@ -313,6 +340,7 @@ int main(void) {
     whole_texts();
     row_11();
     states();
+    layout();
     pieces(TEXT);
     pieces(TEXT - 1);
     text_and_records();

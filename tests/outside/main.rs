@@ -1,5 +1,5 @@
 //! Tests from outside: the C entry, texts in pieces and the program `order` against the plain path search, byte for byte, and bad input at
-//! scale; the running state and the sets, fed without text, against the same search, answer for answer.
+//! scale; the program on input that pauses; the running state and the sets, fed without text, against the same search, answer for answer.
 //! `outside [PROGRAM]` runs them; without a program only the archive is tested.
 //! `outside --report` prints what the plain path search says of the recording on standard input.
 
@@ -11,6 +11,7 @@ mod feeding;
 mod generate;
 mod numbers;
 mod oracle;
+mod pauses;
 mod program;
 mod streaming;
 mod tally;
@@ -244,6 +245,9 @@ fn run_all(order: Option<&str>) {
     tally.part("examples");
     run_full(&mut tally, order);
     tally.part("row 5");
+    if let Some(order) = order {
+        pauses::run(&mut tally, order);
+    }
     run_between(&mut tally);
     tally.part("every short recording between two writes");
     on_threads(&mut tally, |first| run_generated(first, order));

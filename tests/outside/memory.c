@@ -88,6 +88,28 @@ static void fed(const char *name, begin_call *begin, feed_call *feed, size_t siz
     free(full);
 }
 
+/* The whole state in memory of its own. */
+static void fed_whole(void) {
+    struct order_state *state = malloc(sizeof *state);
+    if (!state) abort();
+    order_state_begin(state);
+    int right = 1;
+    for (uint32_t i = 0; i < 500; i++) {
+        uint32_t *answer = cells(3);
+        order_step(state, (uint8_t)(i % 11), i / 11 % 18, i % 67, answer);
+        right = right && answer[0] <= ORDER_DOUBT && answer[1] > 0 && (answer[2] > 0) == (answer[0] >= ORDER_RACE);
+        free(answer);
+    }
+    right = right && sum((const uint32_t *)state, sizeof *state / sizeof(uint32_t)) > 0;
+    if (right) {
+        passed++;
+    } else {
+        failed++;
+        printf("FAILED: an answer or a table of the whole state\n");
+    }
+    free(state);
+}
+
 /* One piece in memory of its own, with as much for its report as it wants. Answers how much was written, after what was before. */
 static size_t piece(struct order_text *kept, const char *text, size_t len, uint8_t *whole, size_t before) {
     uint8_t *lent = malloc(len ? len : 1);
@@ -138,6 +160,7 @@ int main(void) {
     for (size_t length = 0; length < 64; length++) call("op=read task=0 on=1", 19, length, 0);
     for (size_t size = 1; size <= len; size = size < 70 ? size + 1 : 2 * size) cut(sample, len, size);
     fed("clocks", order_begin, order_feed, ORDER_CLOCK_CELLS);
+    fed_whole();
     fed("sets", order_sets_begin, order_sets_feed, ORDER_SET_CELLS);
     printf("memory: %d passed, %d failed\n", passed, failed);
     return failed != 0;

@@ -6,7 +6,7 @@ use std::os::fd::{AsRawFd, RawFd};
 use std::process::{Child, Command, Stdio};
 use std::time::{Duration, Instant};
 
-const PATIENCE: Duration = Duration::from_secs(30);
+pub const PATIENCE: Duration = Duration::from_secs(30);
 const FIONREAD: u64 = 0x541b;
 
 extern "C" {
@@ -43,7 +43,7 @@ fn feed(child: &mut Child, pieces: &[&[u8]], since: Instant) -> Result<(), Strin
     Ok(())
 }
 
-fn ended(child: &mut Child, since: Instant) -> Result<(), String> {
+pub fn ended(child: &mut Child, since: Instant) -> Result<(), String> {
     while since.elapsed() < PATIENCE {
         match child.try_wait().map_err(|e| e.to_string())? {
             Some(status) if status.success() => return Ok(()),
@@ -54,14 +54,16 @@ fn ended(child: &mut Child, since: Instant) -> Result<(), String> {
     Err("the program does not end".to_string())
 }
 
+/// Starts the program, with pipes to it and from it.
+pub fn start(program: &str) -> Result<Child, String> {
+    let pipes = Command::new(program).stdin(Stdio::piped()).stdout(Stdio::piped()).spawn();
+    pipes.map_err(|e| format!("{program} cannot be started: {e}"))
+}
+
 /// Runs the program on a text and answers what it wrote to standard output.
 pub fn report(program: &str, text: &[u8], cuts: Cuts) -> Result<Vec<u8>, String> {
     let since = Instant::now();
-    let mut child = Command::new(program)
-        .stdin(Stdio::piped())
-        .stdout(Stdio::piped())
-        .spawn()
-        .map_err(|e| format!("{program} cannot be started: {e}"))?;
+    let mut child = start(program)?;
     let mut output = child.stdout.take().unwrap();
     let reader = std::thread::spawn(move || {
         let mut wrote = Vec::new();

@@ -68,7 +68,10 @@ fn lent(state: State, r: Record) -> Stepped
     }
 }
 
-fn stepped(lending: bool, state: State, r: Record) -> Stepped {
+// The step of a state that is lent, or handed over by value: the same.
+fn stepped(lending: bool, state: State, r: Record) -> Stepped
+    ensures { λ p. ⌜ p ≡ stepOf state r ⌝ }
+{
     if lending {
         return lent(state, r);
     }

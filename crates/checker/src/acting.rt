@@ -17,17 +17,15 @@ use theory::Sets;
 use theory::Task;
 use theory::Variable;
 ghost use mathlib.Core.Path.{_≡_};
-ghost use mathlib.Core.Bool.{true};
 ghost use mathlib.Core.Logic.{_≢_};
-ghost use Prim.Native.Nat.{_<_};
-ghost use Rattle.theory.specs.order.Limits.{tasks, variables};
-ghost use Rattle.theory.specs.order.Recording.{accesses, lossMark};
+ghost use Rattle.theory.specs.order.Recording.{lossMark};
 ghost use Rattle.theory.specs.acceptance.Table.{Fitting};
 ghost use Rattle.theory.specs.fillings.Completion.{arrived, full};
 ghost use Rattle.theory.specs.history.History.{lastAfter};
 ghost use Rattle.theory.specs.tables.Reckonings.{clockOwn, clocksBy, setOwn, setsBy, clockMask, clockMasks, setMask, setMasks};
-ghost use Rattle.theory.specs.feeding.Step.{judgedBy, answeredBy};
+ghost use Rattle.theory.specs.feeding.Step.{answerByMasks, answeredBy};
 ghost use Rattle.theory.specs.feeding.Lent.{seen};
+ghost use Rattle.theory.proofs.history.Accesses.{OfAccess};
 
 // An access is judged by what was kept before it, then kept itself.
 fn take_in(
@@ -38,8 +36,8 @@ fn take_in(
     number: RecordNumber,
     masks: Masks,
 ) -> Answer
-    requires { ⌜ (accesses kind ≡ true) × (task .0 < tasks) × (v .0 < variables) ⌝ }
-    ensures { λ a. let l = seen last in ⌜ (a ≡ judgedBy (l .entry) kind (v .0) (number .0) (masks .full) (masks .arrived))
+    requires { ⌜ OfAccess kind (task .0) (v .0) ⌝ }
+    ensures { λ a. let l = seen last in ⌜ (a ≡ answerByMasks (l .entry) kind (v .0) (number .0) (masks .full) (masks .arrived))
         × (l .exit ≡ lastAfter kind (task .0) (v .0) (number .0) (l .entry)) ⌝ }
 {
     let answer = judged(last, kind, v, number, masks);
@@ -57,9 +55,9 @@ fn access_by_clocks(
     v: Variable,
     number: RecordNumber,
 ) -> Answer
-    requires { ⌜ (accesses kind ≡ true) × (task .0 < tasks) × (v .0 < variables) ⌝ }
+    requires { ⌜ OfAccess kind (task .0) (v .0) ⌝ }
     ensures { λ a. let l = seen last in let c = seen clocks in let f = seen fullclocks in
-        ⌜ (a ≡ judgedBy (l .entry) kind (v .0) (number .0)
+        ⌜ (a ≡ answerByMasks (l .entry) kind (v .0) (number .0)
         (clockMask (f .entry) (l .entry) kind (task .0) (v .0)) (clockMask (c .entry) (l .entry) kind (task .0) (v .0)))
         × (l .exit ≡ lastAfter kind (task .0) (v .0) (number .0) (l .entry))
         × (c .exit ≡ clockOwn (task .0) (number .0) (c .entry))
@@ -108,9 +106,9 @@ fn access_by_sets(
     v: Variable,
     number: RecordNumber,
 ) -> Answer
-    requires { ⌜ (accesses kind ≡ true) × (task .0 < tasks) × (v .0 < variables) ⌝ }
+    requires { ⌜ OfAccess kind (task .0) (v .0) ⌝ }
     ensures { λ a. let l = seen last in let s = seen sets in let f = seen fullsets in
-        ⌜ (a ≡ judgedBy (l .entry) kind (v .0) (number .0)
+        ⌜ (a ≡ answerByMasks (l .entry) kind (v .0) (number .0)
         (setMask (f .entry) (l .entry) kind (task .0) (v .0)) (setMask (s .entry) (l .entry) kind (task .0) (v .0)))
         × (l .exit ≡ lastAfter kind (task .0) (v .0) (number .0) (l .entry))
         × (s .exit ≡ setOwn kind (task .0) (v .0) (s .entry))

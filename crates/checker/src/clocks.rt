@@ -26,16 +26,16 @@ use theory::TASKS;
 use theory::Task;
 use theory::Variable;
 ghost use mathlib.Core.Path.{_≡_};
-ghost use mathlib.Core.Bool.{true};
 ghost use Prim.Native.Nat.{_<_, _≤_, _+_, _%_, _^_, max};
 ghost use lib.Dec.{ltb};
 ghost use lib.ListN.{getD};
-ghost use Rattle.theory.specs.order.Limits.{tasks, variables};
-ghost use Rattle.theory.specs.order.Recording.{Op, kind as number, accesses};
+ghost use Rattle.theory.specs.order.Limits.{tasks};
+ghost use Rattle.theory.specs.order.Recording.{Op, kind as number};
 ghost use Rattle.theory.specs.acceptance.Table.{Fitting};
 ghost use Rattle.theory.specs.history.History.{slots};
 ghost use Rattle.theory.specs.tables.Rows.{actedRow, cellCount, cell, joinRow, rowOf, joinWith, acquiredWith, putRow, flow, joinsActed, onward, gather, spread, noteNamed, mix};
 ghost use Rattle.theory.specs.tables.Reckonings.{clockOwn, maskOf, clockMask, masksBy};
+ghost use Rattle.theory.proofs.history.Accesses.{OfAccess};
 
 // Where the row of what has acted begins.
 const FIRST_ACTED: usize = ACTED * COLUMNS;
@@ -251,7 +251,7 @@ pub(crate) fn clock_masks(
     task: Task,
     v: Variable,
 ) -> Masks
-    requires { ⌜ (accesses kind ≡ true) × (task .0 < tasks) × (v .0 < variables) ⌝ }
+    requires { ⌜ OfAccess kind (task .0) (v .0) ⌝ }
     ensures { λ r. ⌜ r ≡ masksBy (clockMask (now (fullclocks .entry)) (now (last .entry)) kind (task .0) (v .0))
         (clockMask (now (clocks .entry)) (now (last .entry)) kind (task .0) (v .0)) ⌝ }
 {

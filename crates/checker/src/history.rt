@@ -12,13 +12,14 @@ use theory::VARIABLES;
 use theory::Variable;
 use theory::WRITE;
 ghost use mathlib.Core.Path.{_≡_};
-ghost use mathlib.Core.Bool.{true, cond};
+ghost use mathlib.Core.Bool.{cond};
 ghost use Prim.Native.Nat.{_<_};
 ghost use lib.Dec.{ltb};
 ghost use lib.ListN.{set, length};
 ghost use Rattle.theory.specs.order.Limits.{tasks, variables};
 ghost use Rattle.theory.specs.order.Recording.{accesses, kindAt};
-ghost use Rattle.theory.specs.history.History.{askers, asker, askAt, clashBy, slot, slots, latestNumber, lastAfter};
+ghost use Rattle.theory.specs.history.History.{askers, asker, askAt, kindClashes, slot, slots, latestNumber, lastAfter};
+ghost use Rattle.theory.proofs.history.Accesses.{OfAccess};
 
 // The number of a kind of access among those that ask, and ASKERS for any other kind.
 pub(crate) fn ask_at(kind: u8) -> usize
@@ -40,7 +41,7 @@ pub(crate) fn is_access(kind: u8) -> bool
 // Whether a record of this kind clashes with the kind of access that has number a: two accesses do, unless they are of one kind and no writes.
 pub(crate) fn clashes(kind: u8, a: usize) -> bool
     requires { ⌜ a < length askers ⌝ }
-    ensures { λ r. ⌜ r ≡ clashBy (kindAt kind) (asker a) ⌝ }
+    ensures { λ r. ⌜ r ≡ kindClashes (kindAt kind) (asker a) ⌝ }
 {
     let own = ask_at(kind);
     both(own < ASKERS, either(own != a, kind == WRITE))
@@ -56,7 +57,7 @@ pub(crate) fn slot(a: usize, v: Variable, u: Task) -> usize
 
 // The number of task u's latest access to v that conflicts with one of this kind, 0 where there is none.
 pub(crate) fn latest_number(last: &History, kind: u8, v: Variable, u: Task) -> RecordNumber
-    requires { ⌜ (accesses kind ≡ true) × (v .0 < variables) × (u .0 < tasks) ⌝ }
+    requires { ⌜ OfAccess kind (u .0) (v .0) ⌝ }
     ensures { λ r. ⌜ r .0 ≡ latestNumber (now (last .entry)) kind (v .0) (u .0) ⌝ }
 {
     RecordNumber(last[slot(ask_at(kind), v, u)])
@@ -66,7 +67,7 @@ pub(crate) fn latest_number(last: &History, kind: u8, v: Variable, u: Task) -> R
 fn keep_under(last: &mut History, a: usize, kind: u8, task: Task, v: Variable, number: RecordNumber)
     requires { ⌜ (a < length askers) × (task .0 < tasks) × (v .0 < variables) ⌝ }
     ensures { λ _. ⌜ now (last .exit)
-        ≡ cond (clashBy (kindAt kind) (asker a)) (set (now (last .entry)) (slot a (v .0) (task .0)) (number .0)) (now (last .entry)) ⌝ }
+        ≡ cond (kindClashes (kindAt kind) (asker a)) (set (now (last .entry)) (slot a (v .0) (task .0)) (number .0)) (now (last .entry)) ⌝ }
 {
     if clashes(kind, a) {
         last[slot(a, v, task)] = number.0;

@@ -13,7 +13,7 @@ ghost use Prim.Native.Nat.{_<_, _+_, _*_, _%_, _^_};
 ghost use Rattle.theory.specs.order.Limits.{tasks, variables};
 ghost use Rattle.theory.specs.order.Recording.{accesses};
 ghost use Rattle.theory.specs.tables.Reckonings.{wordBits, bitOf, lowestTask, masksBy};
-ghost use Rattle.theory.specs.feeding.Step.{judgedBy};
+ghost use Rattle.theory.specs.feeding.Step.{answerByMasks};
 
 // Every mask is below this: it has a bit for each task.
 pub(crate) const MASKS: u32 = 1 << TASKS;
@@ -73,7 +73,7 @@ pub(crate) fn judged(
     masks: Masks,
 ) -> Answer
     requires { ⌜ (accesses kind ≡ true) × (v .0 < variables) ⌝ }
-    ensures { λ r. ⌜ r ≡ judgedBy (now (last .entry)) kind (v .0) (number .0) (masks .full) (masks .arrived) ⌝ }
+    ensures { λ r. ⌜ r ≡ answerByMasks (now (last .entry)) kind (v .0) (number .0) (masks .full) (masks .arrived) ⌝ }
 {
     let full = masks.full;
     let arrived = masks.arrived;

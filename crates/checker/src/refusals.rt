@@ -32,7 +32,7 @@ ghost use Rattle.theory.specs.order.Recording.{lossMark, seriesOf};
 ghost use Rattle.theory.proofs.acceptance.Rows.{OfAct};
 ghost use Rattle.theory.specs.fillings.Completion.{names};
 ghost use Rattle.theory.specs.acceptance.Table.{anyBelow};
-ghost use Rattle.theory.specs.acceptance.Control.{liveIn, unseenIn, countIn, refusalIn};
+ghost use Rattle.theory.specs.acceptance.Control.{liveIn, unseenIn, countIn, controlRefusal};
 
 // The last number of a kind, and the last mask.
 const LAST_KIND: u8 = KINDS - 1;
@@ -129,7 +129,7 @@ fn no_mask(on: u32) -> bool
 // The rows that can apply to a mark.
 fn mark_refusal(control: &Control, r: Record) -> u32
     requires { ⌜ r .kind ≡ lossMark ⌝ }
-    ensures { λ n. ⌜ n ≡ refusalIn (now (control .entry)) r ⌝ }
+    ensures { λ n. ⌜ n ≡ controlRefusal (now (control .entry)) r ⌝ }
 {
     if no_mask(r.on) {
         return 4;
@@ -156,7 +156,7 @@ fn no_task(task: u32) -> bool
 // The rows that can apply to an act. Rows 2 and 3 come first, so that those after them find the tasks in the table.
 fn act_refusal(control: &Control, r: Record) -> u32
     requires { ⌜ OfAct r ⌝ }
-    ensures { λ n. ⌜ n ≡ refusalIn (now (control .entry)) r ⌝ }
+    ensures { λ n. ⌜ n ≡ controlRefusal (now (control .entry)) r ⌝ }
 {
     if no_task(r.task) {
         return 2;
@@ -181,7 +181,7 @@ fn act_refusal(control: &Control, r: Record) -> u32
 
 // The number of the first of rows 1 to 9 that applies to the record; 0 where none does.
 pub fn refusal(control: &Control, r: Record) -> u32
-    ensures { λ n. ⌜ n ≡ refusalIn (now (control .entry)) r ⌝ }
+    ensures { λ n. ⌜ n ≡ controlRefusal (now (control .entry)) r ⌝ }
 {
     let kind = r.kind;
     match kind {

@@ -32,18 +32,19 @@ use theory::Task;
 use theory::Variable;
 use theory::WORD_BITS;
 ghost use mathlib.Core.Path.{_≡_};
-ghost use mathlib.Core.Bool.{true, cond};
+ghost use mathlib.Core.Bool.{cond};
 ghost use Prim.Native.Nat.{_<_, _≤_, _-_, _^_};
 ghost use lib.Bits.{bitOr};
 ghost use lib.Dec.{ltb};
 ghost use lib.ListN.{length};
 ghost use Rattle.theory.specs.order.Limits.{tasks, variables};
-ghost use Rattle.theory.specs.order.Recording.{Op, kind as number, kindAt, accesses};
+ghost use Rattle.theory.specs.order.Recording.{Op, kind as number, kindAt};
 ghost use Rattle.theory.specs.acceptance.Table.{Fitting};
-ghost use Rattle.theory.specs.history.History.{askers, asker, clashBy, slot as slotOf, slots, underEach};
+ghost use Rattle.theory.specs.history.History.{askers, asker, kindClashes, slot as slotOf, slots, underEach};
 ghost use Rattle.theory.specs.tables.Rows.{actedRow, cell, joinRow, rowOf, joinWith, putRow, flow, noteActed, joinsActed, onward, gather, spread, noteNamed, mix};
 ghost use Rattle.theory.specs.tables.Reckonings.{wordBits, slotWords, knownSlots, clearSlot, addSlot, setOwn, setMask, masksBy};
 ghost use Rattle.theory.proofs.tables.Reckoned.{apartBy};
+ghost use Rattle.theory.proofs.history.Accesses.{OfAccess};
 
 // Where the row of what has acted begins.
 const FIRST_ACTED: usize = ACTED * SLOT_WORDS;
@@ -215,7 +216,7 @@ fn begin_slot(cells: &mut Sets, r: usize, s: usize)
 fn keep_under(cells: &mut Sets, a: usize, kind: u8, task: Task, v: Variable)
     requires { ⌜ (a < length askers) × (task .0 < tasks) × (v .0 < variables) ⌝ }
     ensures { λ _. let s = slotOf a (v .0) (task .0) in ⌜ now (cells .exit)
-        ≡ cond (clashBy (kindAt kind) (asker a)) (addSlot (task .0) s (clearSlot s (now (cells .entry)))) (now (cells .entry)) ⌝ }
+        ≡ cond (kindClashes (kindAt kind) (asker a)) (addSlot (task .0) s (clearSlot s (now (cells .entry)))) (now (cells .entry)) ⌝ }
 {
     if clashes(kind, a) {
         begin_slot(cells, task_row(task), slot(a, v, task));
@@ -296,7 +297,7 @@ fn known_slots(cells: &Sets, r: usize, a: usize, v: Variable) -> u32
 
 // Whether order from task u's latest conflicting access has not come to a row, by what the row knows of them. From its own it has.
 fn apart(known: u32, last: &History, kind: u8, v: Variable, u: Task) -> bool
-    requires { ⌜ (accesses kind ≡ true) × (v .0 < variables) × (u .0 < tasks) ⌝ }
+    requires { ⌜ OfAccess kind (u .0) (v .0) ⌝ }
     ensures { λ r. ⌜ r ≡ apartBy (now (last .entry)) kind (v .0) known (u .0) ⌝ }
 {
     both(
@@ -307,7 +308,7 @@ fn apart(known: u32, last: &History, kind: u8, v: Variable, u: Task) -> bool
 
 // The mask of an access in one filling.
 fn mask(cells: &Sets, last: &History, kind: u8, task: Task, v: Variable) -> u16
-    requires { ⌜ (accesses kind ≡ true) × (task .0 < tasks) × (v .0 < variables) ⌝ }
+    requires { ⌜ OfAccess kind (task .0) (v .0) ⌝ }
     ensures { λ r. ⌜ r ≡ setMask (now (cells .entry)) (now (last .entry)) kind (task .0) (v .0) ⌝ }
 {
     let known = known_slots(cells, task_row(task), ask_at(kind), v);
@@ -329,7 +330,7 @@ pub(crate) fn set_masks(
     task: Task,
     v: Variable,
 ) -> Masks
-    requires { ⌜ (accesses kind ≡ true) × (task .0 < tasks) × (v .0 < variables) ⌝ }
+    requires { ⌜ OfAccess kind (task .0) (v .0) ⌝ }
     ensures { λ r. ⌜ r ≡ masksBy (setMask (now (fullsets .entry)) (now (last .entry)) kind (task .0) (v .0))
         (setMask (now (sets .entry)) (now (last .entry)) kind (task .0) (v .0)) ⌝ }
 {

@@ -1,5 +1,6 @@
 // A text that comes in pieces, for a host program in C that keeps what is between them; include/order.h has the same function for C. It is
 // an archive of its own: in one with `order_feed` the step would have two callers, and the compiler would no longer make it part of either.
+use report::HELD_MOST;
 use report::report_piece;
 use text::Progress;
 use theory::Clocks;
@@ -14,9 +15,6 @@ ghost use Rattle.theory.specs.feeding.Lent.{tables};
 ghost use Rattle.text.specs.Pieces.{keptOf, fits, saidIn, afterPiece};
 ghost use Rattle.pieces.specs.Begun.{begun, counts};
 
-// So many bytes of a line are held at most.
-const HELD: usize = 65;
-
 // Answers the lines that end in a piece of a text, into the report memory from its start on, and holds what is left. Returns the count of
 // bytes written. Where the memory has under 64 bytes for each byte of the piece, or the lent numbers are none that a piece leaves, nothing
 // is changed, and 64 one-bits are returned. A text begins with fresh tables and progress 0, 0; a rest without LF at its end is answered by
@@ -25,7 +23,7 @@ const HELD: usize = 65;
 pub extern "C" fn order_piece(
     piece: &[u8],
     report: &mut [u8],
-    held: &mut [u8; HELD],
+    held: &mut [u8; HELD_MOST],
     progress: &mut [u64; 2],
     control: &mut Control,
     last: &mut History,
@@ -37,7 +35,7 @@ pub extern "C" fn order_piece(
         let k = keptOf (state .entry) from (now (held .entry)) in
         let said = saidIn k (now (piece .entry)) in
         let after = afterPiece k (now (piece .entry)) in
-        let taken = fits (length (now (report .entry))) (length (now (piece .entry))) (length (now (held .entry))) from in
+        let taken = fits (length (now (report .entry))) (length (now (piece .entry))) (now (held .entry)) from in
         ⌜ (n ≡ cond taken (length said) (2 ^ 64 - 1))
         × (now (report .exit) ≡ cond taken (written (now (report .entry)) 0 said) (now (report .entry)))
         × (now (progress .exit) ≡ cond taken (written (now (progress .entry)) 0 (counts after)) (now (progress .entry)))

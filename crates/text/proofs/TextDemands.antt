@@ -12,7 +12,7 @@ use Rattle.theory.specs.declared.record.Record.{Record}
 use Rattle.theory.specs.declared.state.State.{State}
 use Rattle.theory.specs.feeding.Meaning.{Meaning, refuses, meaning}
 use Rattle.theory.specs.feeding.Step.{freshState}
-use Rattle.theory.specs.feeding.Feeding.{fedTo, byClocks, rowFor, Handled, access-taken, other-taken}
+use Rattle.theory.specs.feeding.Feeding.{replies, byClocks, rowFor, Handled, access-taken, other-taken}
 use Rattle.theory.specs.feeding.Feeding
 use Rattle.theory.proofs.feeding.Demanded.{clocks-demand1}
 use Rattle.text.specs.declared.parsed.Parsed.{Parsed}
@@ -135,13 +135,13 @@ one-report text report a = answered-fixed a
 
 -- The answers are those of feeding
 
-told : (n : ℕ) (s : State) (lines : List (List ℕ)) → (rs : List Record) × Tells n lines rs (fedTo byClocks s rs) (reportFrom n s lines)
+told : (n : ℕ) (s : State) (lines : List (List ℕ)) → (rs : List Record) × Tells n lines rs (replies byClocks s rs) (reportFrom n s lines)
 unfolding reportFrom
 told n s [] = ([], tells-nothing)
 told n s (line ∷ lines) = by-parse (parseOf line) refl (told (suc n) (stateAfter s (parseOf line)) lines)
   where
-    by-parse : (p : Parsed) → parseOf line ≡ p → ((rs : List Record) × Tells (suc n) lines rs (fedTo byClocks (stateAfter s p) rs) (reportFrom (suc n) (stateAfter s p) lines))
-        → (rs : List Record) × Tells n (line ∷ lines) rs (fedTo byClocks s rs) (saidFor n s p ++ reportFrom (suc n) (stateAfter s p) lines)
+    by-parse : (p : Parsed) → parseOf line ≡ p → ((rs : List Record) × Tells (suc n) lines rs (replies byClocks (stateAfter s p) rs) (reportFrom (suc n) (stateAfter s p) lines))
+        → (rs : List Record) × Tells n (line ∷ lines) rs (replies byClocks s rs) (saidFor n s p ++ reportFrom (suc n) (stateAfter s p) lines)
     by-parse Parsed.Nothing e (rs, t) = (rs, tells-no-record (parsed-none line e) t)
     by-parse (Parsed.Record r) e (rs, t) = (r ∷ rs, tells-answer (parsed-form line r e) t)
 

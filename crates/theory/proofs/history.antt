@@ -1,5 +1,5 @@
 -- Slots keep accesses, and their numbers tell the latest that conflict
 pub mod Emptied
 pub mod Slots
-pub mod Unkept
+pub mod Accesses
 pub mod Numbers

@@ -46,7 +46,8 @@ pub const SET_CELLS: usize = ROWS * SLOT_WORDS;
 
 pub type Sets = [u32; SET_CELLS];
 
-// The running state: the clocks of the recording as it arrived, and those of the fullest filling.
+// The running state: the clocks of the recording as it arrived, and those of the fullest filling. A host in C may lend one whole.
+#[repr(C)]
 pub struct State {
     pub control: Control,
     pub last: History,

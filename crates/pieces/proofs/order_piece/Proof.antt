@@ -13,11 +13,11 @@ returns c =
     let at-call = c .before .before in
     let a = at-call .before .before .before .before .before .before .before .before .before .before .before .args in
     let from = begun (a .progress .now) in
-    let taken = fits (length (a .report .now)) (length (a .piece .now)) (length (a .held .now)) from in
+    let taken = fits (length (a .report .now)) (length (a .piece .now)) (a .held .now) from in
     let k = keptOf (stateOf (a .control .now) (a .last .now) (a .clocks .now) (a .fullclocks .now)) from (a .held .now) in
     let said = at-call .report-piece .ensures in
-    let numbers = numbers-after taken (a .progress .now) k (a .piece .now) _ (said .progress) in
-    (numbers .0, said .wrote, numbers .1, said .fed, said .holds)
+    let numbers = numbers-after taken (a .progress .now) k (a .piece .now) _ (said .0) in
+    (numbers .0, said .1, numbers .1, said .2, said .3)
 
 pub order-piece-spec : {M : Type 1} → statement M
 order-piece-spec =

@@ -14,8 +14,8 @@ use Rattle.theory.specs.order.Limits.{tasks}
 use Rattle.theory.specs.tables.Turns.{turns}
 use Rattle.theory.specs.order.Recording.{Op, Event, act, lost, kind, kinds, lossMark, seriesOf}
 use Rattle.theory.specs.fillings.Completion.{names}
-use Rattle.theory.specs.acceptance.Table.{Phase, isLive, isUnseen, phaseAfter, phaseFrom, phase, Fitting, hasKind, anyBelow, Standing, _when_, firstRow, refusalBy, standing, refusal}
-use Rattle.theory.specs.acceptance.Control.{liveIn, unseenIn, countIn, standingIn, refusalIn, counted, controlAfter, controlCells}
+use Rattle.theory.specs.acceptance.Table.{Phase, isLive, isUnseen, phaseAfter, phaseFrom, phase, Fitting, hasKind, anyBelow, Standing, _when_, firstRow, tableRow, standing, refusal}
+use Rattle.theory.specs.acceptance.Control.{liveIn, unseenIn, countIn, controlStanding, controlRefusal, counted, controlAfter, controlCells}
 use Rattle.theory.specs.feeding.Step.{freshControl}
 use Rattle.theory.proofs.basics.Reflects.{Reflects, right, wrong, equal, at-most}
 use Rattle.theory.proofs.acceptance.Rows.{OfAct, actRows, markRows, act-rows, mark-rows}
@@ -154,18 +154,18 @@ module _ (s s′ : Standing) (r : Record) (same-count : s .count ≡ s′ .count
       )
 
   -- standings that agree on the tasks refuse the same records
-  refusal-same : refusalBy s r ≡ refusalBy s′ r
+  refusal-same : tableRow s r ≡ tableRow s′ r
   refusal-same = decided (equal (r .kind) lossMark) (at-most (length kinds) (r .kind))
     where
-      unknown : (s : Standing) → length kinds ≤ r .kind → refusalBy s r ≡ 1
-      unknown s h = unfold refusalBy in rw (le-leb (length kinds) (r .kind) h)
+      unknown : (s : Standing) → length kinds ≤ r .kind → tableRow s r ≡ 1
+      unknown s h = unfold tableRow in rw (le-leb (length kinds) (r .kind) h)
 
-      decided : {a b : Bool} → Reflects (r .kind ≡ lossMark) a → Reflects (length kinds ≤ r .kind) b → refusalBy s r ≡ refusalBy s′ r
+      decided : {a b : Bool} → Reflects (r .kind ≡ lossMark) a → Reflects (length kinds ≤ r .kind) b → tableRow s r ≡ tableRow s′ r
       decided (right e) _ = mark-rows s r e ∙ (mark-same ∙ sym (mark-rows s′ r e))
       decided (wrong f) (right h) = unknown s h ∙ sym (unknown s′ h)
       decided (wrong f) (wrong g) =
           let a : OfAct r = record { known = omega arith; no-mark = f } in
           act-rows s r a ∙ (act-same ∙ sym (act-rows s′ r a))
 
-pub same-refusal : {es : List Event} {control : List ℕ} → ExactControl es control → (r : Record) → refusalIn control r ≡ refusal es r
-same-refusal {es} {control} x r = refusal-same (standingIn control) (standing es) r (x .count) (x .live) (x .unseen)
+pub same-refusal : {es : List Event} {control : List ℕ} → ExactControl es control → (r : Record) → controlRefusal control r ≡ refusal es r
+same-refusal {es} {control} x r = refusal-same (controlStanding control) (standing es) r (x .count) (x .live) (x .unseen)

@@ -10,7 +10,7 @@ use lib.ListN.{length}
 use Rattle.theory.specs.declared.record.Record.{Record}
 use Rattle.theory.specs.declared.answer.Answer.{Answer}
 use Rattle.theory.specs.order.Recording.{Event, act, eventOf, Unmarked, accesses, isAccess}
-use Rattle.theory.specs.acceptance.Table.{lastRow, refusalBy, refusal, recordedAfter, fedAfter, recording}
+use Rattle.theory.specs.acceptance.Table.{lastRow, tableRow, refusal, recordedAfter, extended, recording}
 use Rattle.theory.specs.verdicts.Verdict.{Verdict, Race, Clear, AccessAt, Unordered, With}
 use Rattle.theory.specs.verdicts.Demands.{Firm}
 use Rattle.theory.specs.verdicts.Search.{judge, isAccessEvent}
@@ -22,7 +22,7 @@ use Rattle.theory.specs.order.Path.{rule}
 use Rattle.theory.specs.fillings.Completion.{rounds, round, part, onEach}
 use Rattle.theory.specs.verdicts.Examples.{Example, table}
 use Rattle.theory.specs.feeding.Meaning.{Meaning, refuses, takes, judges, meaning, isRefusal, refusalNumber}
-use Rattle.theory.specs.feeding.Feeding.{recordOf, verdictsOf, acceptedOf, Got, got-now, got-later, got-refused, EachAccess, FedDemand2, FedDemand3, FedPartner, FedAcceptance, refusalsAfter, acceptedAnswer, answerBy, answersFrom, AnswersByTable, Checker, byClocks, bySets, fedBy, fed, setFed, Demanded, rowFor, numberFor, Judged, GetsVerdict, Demand1, Handled, refused, access-taken, other-taken}
+use Rattle.theory.specs.feeding.Feeding.{recordOf, verdictsOf, takenIn, Got, got-now, got-later, got-refused, EachAccess, FedDemand2, FedDemand3, FedPartner, FedAcceptance, refusalsAfter, acceptedAnswer, answerBy, answersFrom, AnswersByTable, Checker, byClocks, bySets, runs, fed, setFed, Demanded, rowFor, numberFor, Judged, GetsVerdict, Demand1, Handled, refused, access-taken, other-taken}
 use Rattle.theory.proofs.basics.Reflects.{by-test, is-true}
 use Rattle.theory.proofs.order.Places.{Ends, ends, onward, at-ends}
 use Rattle.theory.proofs.verdicts.Demands.{Ruling, judge-ruling, ruling-firm, ruling-with, firm-unmarked}
@@ -53,19 +53,19 @@ numbers-from : (es : List Event) (rs : List Record) → map refusalNumber (answe
 numbers-from es [] = refl
 numbers-from es (r ∷ rs) = rw (number-to es r (refusal es r), numbers-from (recordedAfter es r (refusal es r)) rs)
 
-accepted-from : (es : List Event) (rs : List Record) → es ++ acceptedOf rs (answersFrom es rs) ≡ fedAfter es rs
+accepted-from : (es : List Event) (rs : List Record) → es ++ takenIn rs (answersFrom es rs) ≡ extended es rs
 accepted-from es [] = append-nil es
 accepted-from es (r ∷ rs) = decided (refusal es r) (accepted-from es rs) (accepted-from (es ++ (eventOf r ∷ [])) rs)
   where
-    decided : (n : ℕ) → es ++ acceptedOf rs (answersFrom es rs) ≡ fedAfter es rs →
-        (es ++ (eventOf r ∷ [])) ++ acceptedOf rs (answersFrom (es ++ (eventOf r ∷ [])) rs) ≡ fedAfter (es ++ (eventOf r ∷ [])) rs →
-        es ++ acceptedOf (r ∷ rs) (answerBy es r n ∷ answersFrom (recordedAfter es r n) rs) ≡ fedAfter (recordedAfter es r n) rs
-    decided zero e q = rw (accepted-taken es (eventOf r)) (sym (append-assoc es (eventOf r ∷ []) (acceptedOf rs (answersFrom (es ++ (eventOf r ∷ [])) rs))) ∙ q)
+    decided : (n : ℕ) → es ++ takenIn rs (answersFrom es rs) ≡ extended es rs →
+        (es ++ (eventOf r ∷ [])) ++ takenIn rs (answersFrom (es ++ (eventOf r ∷ [])) rs) ≡ extended (es ++ (eventOf r ∷ [])) rs →
+        es ++ takenIn (r ∷ rs) (answerBy es r n ∷ answersFrom (recordedAfter es r n) rs) ≡ extended (recordedAfter es r n) rs
+    decided zero e q = rw (accepted-taken es (eventOf r)) (sym (append-assoc es (eventOf r ∷ []) (takenIn rs (answersFrom (es ++ (eventOf r ∷ [])) rs))) ∙ q)
     decided (suc n) e q = e
 
 -- The answer that each record of the recording got
 
-got-from : (es : List Event) (rs : List Record) {k : ℕ} {before : List Event} {f : Event} → Ends (acceptedOf rs (answersFrom es rs)) k before f →
+got-from : (es : List Event) (rs : List Record) {k : ℕ} {before : List Event} {f : Event} → Ends (takenIn rs (answersFrom es rs)) k before f →
     Got (answersFrom es rs) k (acceptedAnswer (es ++ before) f)
 got-from es [] d = elim d [ ]
 got-from es (r ∷ rs) {k} {before} {f} d =
@@ -73,14 +73,14 @@ got-from es (r ∷ rs) {k} {before} {f} d =
   where
     Gets : List Event → List Meaning → Type 0
     Gets es answers =
-        (k : ℕ) (before : List Event) (f : Event) → Ends (acceptedOf rs answers) k before f → Got answers k (acceptedAnswer (es ++ before) f)
+        (k : ℕ) (before : List Event) (f : Event) → Ends (takenIn rs answers) k before f → Got answers k (acceptedAnswer (es ++ before) f)
 
     decided : (n : ℕ) → Gets es (answersFrom es rs) → Gets (es ++ (eventOf r ∷ [])) (answersFrom (es ++ (eventOf r ∷ [])) rs) →
-        Ends (acceptedOf (r ∷ rs) (answerBy es r n ∷ answersFrom (recordedAfter es r n) rs)) k before f →
+        Ends (takenIn (r ∷ rs) (answerBy es r n ∷ answersFrom (recordedAfter es r n) rs)) k before f →
         Got (answerBy es r n ∷ answersFrom (recordedAfter es r n) rs) k (acceptedAnswer (es ++ before) f)
     decided zero same more d = taken (rw (accepted-taken es (eventOf r)) at d)
       where
-        taken : {k : ℕ} {before : List Event} {f : Event} → Ends (eventOf r ∷ acceptedOf rs (answersFrom (es ++ (eventOf r ∷ [])) rs)) k before f →
+        taken : {k : ℕ} {before : List Event} {f : Event} → Ends (eventOf r ∷ takenIn rs (answersFrom (es ++ (eventOf r ∷ [])) rs)) k before f →
             Got (acceptedAnswer es (eventOf r) ∷ answersFrom (es ++ (eventOf r ∷ [])) rs) k (acceptedAnswer (es ++ before) f)
         taken ends = rw (append-nil es) (got-now (accepted-taken es (eventOf r)))
         taken (onward {f = f} {before = before} {k = k} d) =
@@ -95,10 +95,10 @@ ends-length (onward d) = ap suc (ends-length d)
 module _ (answers : List Record → List Answer) (right : AnswersByTable answers) where
   -- whatever the verdict and partner of the search are, the fed ones are
   each-access : (P : List Event → ℕ → Verdict → ℕ → Type 0) → ((es : List Event) (k : ℕ) (v : Verdict) (w : ℕ) → Ruling es k v w → P es k v w) → EachAccess answers P
-  each-access P holds rs k a = subst Each (sym (right rs)) each (subst (λ (l : List Meaning). AccessAt (acceptedOf rs l) k) (right rs) a)
+  each-access P holds rs k a = subst Each (sym (right rs)) each (subst (λ (l : List Meaning). AccessAt (takenIn rs l) k) (right rs) a)
     where
       Each : List Meaning → Type 0
-      Each given = AccessAt (acceptedOf rs (answersFrom [] rs)) k → (v : Verdict) × (w : ℕ) × Got given k (judges (suc k) v w) × P (acceptedOf rs given) k v w
+      Each given = AccessAt (takenIn rs (answersFrom [] rs)) k → (v : Verdict) × (w : ℕ) × Got given k (judges (suc k) v w) × P (takenIn rs given) k v w
 
       each : Each (answersFrom [] rs)
       each x =
@@ -106,7 +106,7 @@ module _ (answers : List Record → List Answer) (right : AnswersByTable answers
           let j = judge before (act (x .op) (x .task) (x .on)) in
           (j .verdict, j .partner, got before d, holds _ k _ _ (judge-ruling d))
         where
-          got : (before : List Event) → Ends (acceptedOf rs (answersFrom [] rs)) k before (act (x .op) (x .task) (x .on)) →
+          got : (before : List Event) → Ends (takenIn rs (answersFrom [] rs)) k before (act (x .op) (x .task) (x .on)) →
               Got (answersFrom [] rs) k (judges (suc k) ((judge before (act (x .op) (x .task) (x .on))) .verdict) ((judge before (act (x .op) (x .task) (x .on))) .partner))
           got before d = rw (is-true (by-test (isAccess (x .op))) (x .access), ends-length d) at (got-from [] rs d)
 
@@ -123,7 +123,7 @@ module _ (answers : List Record → List Answer) (right : AnswersByTable answers
 
   pub fed-acceptance : FedAcceptance answers
   fed-acceptance rs = (
-    subst (λ (l : List Meaning). acceptedOf rs l ≡ recording rs) (sym (right rs)) (accepted-from [] rs),
+    subst (λ (l : List Meaning). takenIn rs l ≡ recording rs) (sym (right rs)) (accepted-from [] rs),
     subst (λ (l : List Meaning). map refusalNumber l ≡ refusalsAfter [] rs) (sym (right rs)) (numbers-from [] rs),
   )
 
@@ -180,23 +180,23 @@ same-rows answers right (x ∷ xs) = rw (right (map recordOf (x .events)), same-
 
 -- the table by computation, from the table of refusals and the search
 table-fed : map (λ (x : Example). verdictsOf (answersFrom [] (map recordOf (x .events)))) table ≡ map (λ (x : Example). x .answered) table
-unfolding turns refusalBy judge rule rounds round part onEach
+unfolding turns tableRow judge rule rounds round part onEach
 table-fed = refl
 
 -- All of it, of whatever simulates
 
-pub demanded : {S : Type 0} {c : Checker S} {R : List Event → S → Type 0} → Simulates c R → Demanded (fedBy c)
+pub demanded : {S : Type 0} {c : Checker S} {R : List Event → S → Type 0} → Simulates c R → Demanded (runs c)
 demanded {c = c} x =
     record {
       by-table = right;
-      demand2 = fed-demand2 (fedBy c) right;
-      demand3 = fed-demand3 (fedBy c) right;
-      partner = fed-partner (fedBy c) right;
-      acceptance = fed-acceptance (fedBy c) right;
-      examples = same-rows (fedBy c) right table ∙ table-fed;
+      demand2 = fed-demand2 (runs c) right;
+      demand3 = fed-demand3 (runs c) right;
+      partner = fed-partner (runs c) right;
+      acceptance = fed-acceptance (runs c) right;
+      examples = same-rows (runs c) right table ∙ table-fed;
     }
   where
-    right : AnswersByTable (fedBy c)
+    right : AnswersByTable (runs c)
     right rs = fed-to x [] (c .fresh) rs (x .begins)
 
 -- of the step, which goes by the clocks

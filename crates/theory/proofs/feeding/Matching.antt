@@ -13,11 +13,11 @@ use Rattle.theory.specs.declared.state.SetState.{SetState}
 use Rattle.theory.specs.order.Limits.{tasks}
 use Rattle.theory.specs.order.Recording.{kind, accesses}
 use Rattle.theory.specs.acceptance.Table.{refusal, recording}
-use Rattle.theory.specs.acceptance.Control.{refusalIn, controlAfter}
+use Rattle.theory.specs.acceptance.Control.{controlRefusal, controlAfter}
 use Rattle.theory.specs.history.History.{lastAfter}
 use Rattle.theory.specs.tables.Reckonings.{masksBy, clockMasks, setMasks}
 use Rattle.theory.specs.feeding.Step.{nextNumber, answeredBy, masksUnless, apartByClocks, apartBySets, stepBy, stepOf, setStepBy, setStepOf, freshState, freshSets}
-use Rattle.theory.specs.feeding.Feeding.{Checker, fedTo, afterAll, byClocks, bySets}
+use Rattle.theory.specs.feeding.Feeding.{Checker, replies, afterAll, byClocks, bySets}
 use Rattle.theory.specs.feeding.Paths.{clocks, sets, leftBy, ExactPaths, ReckoningsMatch}
 use Rattle.theory.proofs.order.Ops.{no-mark, opOf-kind}
 use Rattle.theory.proofs.tables.Bits.{mask-ext}
@@ -69,10 +69,10 @@ module _ (by-clocks : ExactPaths clocks) (by-sets : ExactPaths sets) (rs : List 
   same-apart : (r : Record) → apartByClocks (leftBy clocks rs) r ≡ apartBySets (leftBy sets rs) r
   same-apart r = decided (refusal (recording rs) r) refl (accesses (r .kind)) refl
     where
-      clocks-refuse : refusalIn ((leftBy clocks rs) .control) r ≡ refusal (recording rs) r
+      clocks-refuse : controlRefusal ((leftBy clocks rs) .control) r ≡ refusal (recording rs) r
       clocks-refuse = same-refusal (after-all clocks-simulate [] freshState rs (clocks-simulate .begins) .base .control-exact) r
 
-      sets-refuse : refusalIn ((leftBy sets rs) .control) r ≡ refusal (recording rs) r
+      sets-refuse : controlRefusal ((leftBy sets rs) .control) r ≡ refusal (recording rs) r
       sets-refuse = same-refusal (after-all sets-simulate [] freshSets rs (sets-simulate .begins) .base .control-exact) r
 
       decided : (n : ℕ) → refusal (recording rs) r ≡ n → (b : Bool) → accesses (r .kind) ≡ b → apartByClocks (leftBy clocks rs) r ≡ apartBySets (leftBy sets rs) r
@@ -91,7 +91,7 @@ record Beside (s : State) (s′ : SetState) : Type 0 where
 
 beside-next : (s : State) (s′ : SetState) (r : Record) → Beside s s′ → Beside (byClocks .next s r) (bySets .next s′ r)
 unfolding stepOf setStepOf
-beside-next s s′ r x = rw (ap (λ (c : List ℕ). refusalIn c r) (x .control)) (decided (refusalIn (s′ .control) r))
+beside-next s s′ r x = rw (ap (λ (c : List ℕ). controlRefusal c r) (x .control)) (decided (controlRefusal (s′ .control) r))
   where
     decided : (n : ℕ) → Beside ((stepBy n s r) .state) ((setStepBy n s′ r) .state)
     decided zero =
@@ -103,7 +103,7 @@ beside-next s s′ r x = rw (ap (λ (c : List ℕ). refusalIn c r) (x .control))
 
 beside-answer : (s : State) (s′ : SetState) (r : Record) → Beside s s′ → apartByClocks s r ≡ apartBySets s′ r → byClocks .answer s r ≡ bySets .answer s′ r
 unfolding stepOf setStepOf
-beside-answer s s′ r x m = rw (ap (λ (c : List ℕ). refusalIn c r) (x .control)) (decided (refusalIn (s′ .control) r) (rw (ap (λ (c : List ℕ). refusalIn c r) (x .control)) at m))
+beside-answer s s′ r x m = rw (ap (λ (c : List ℕ). controlRefusal c r) (x .control)) (decided (controlRefusal (s′ .control) r) (rw (ap (λ (c : List ℕ). controlRefusal c r) (x .control)) at m))
   where
     decided : (n : ℕ) →
         masksUnless n (clockMasks (s .clocks) (s .fullclocks) (s .last) (r .kind) (r .task) (r .on))
@@ -125,7 +125,7 @@ after-one-more c s [] r = refl
 after-one-more c s (x ∷ rs) r = after-one-more c (c .next s x) rs r
 
 module _ (by-clocks : ExactPaths clocks) (by-sets : ExactPaths sets) where
-  same-answers : (before rest : List Record) → fedTo byClocks (leftBy clocks before) rest ≡ fedTo bySets (leftBy sets before) rest
+  same-answers : (before rest : List Record) → replies byClocks (leftBy clocks before) rest ≡ replies bySets (leftBy sets before) rest
   same-answers before [] = refl
   same-answers before (r ∷ rest) =
       ap₂ (λ (a : Answer) (l : List Answer). a ∷ l)

@@ -14,14 +14,14 @@ use Rattle.theory.specs.declared.state.State.{State}
 use Rattle.theory.specs.declared.state.SetState.{SetState}
 use Rattle.theory.specs.order.Recording.{Op, Event, act, lost, kind, lossMark, eventOf, isAccess}
 use Rattle.theory.specs.fillings.Completion.{names, Named, arrived, full, Filling}
-use Rattle.theory.specs.acceptance.Table.{isLive, phase, Standing, standing, refusal, recordedAfter, fedAfter}
+use Rattle.theory.specs.acceptance.Table.{isLive, phase, Standing, standing, refusal, recordedAfter, extended}
 use Rattle.theory.specs.acceptance.Control.{controlAfter}
 use Rattle.theory.specs.history.History.{slots, lastAfter}
 use Rattle.theory.specs.tables.Reckonings.{clocksBy, setsBy, clockMask, setMask, clockMasks, setMasks}
 use Rattle.theory.specs.feeding.Meaning.{meaning}
 use Rattle.theory.specs.feeding.Step.{nextNumber, answeredBy, stepOf, stepBy, setStepOf, setStepBy, freshControl, freshState, freshSets}
 use Rattle.theory.specs.verdicts.Search.{partner}
-use Rattle.theory.specs.feeding.Feeding.{Checker, fedTo, afterAll, byClocks, bySets, acceptedAnswer, answerBy, answerTo, answersFrom}
+use Rattle.theory.specs.feeding.Feeding.{Checker, replies, afterAll, byClocks, bySets, acceptedAnswer, answerBy, answerTo, answersFrom}
 use Rattle.theory.proofs.basics.Reflects.{Reflects, right, wrong, by-test, equal, is-true}
 use Rattle.theory.proofs.acceptance.Rows.{ActAllowed, MarkAllowed, Allowed, allowed}
 use Rattle.theory.proofs.order.Ops.{op-of, no-mark, event-act, on-series, access-on, access-tests, other-tests}
@@ -202,13 +202,13 @@ pub record Simulates {S : Type 0} (c : Checker S) (R : List Event → S → Type
   pub begins : R [] (c .fresh)
   pub steps : (es : List Event) (s : S) (r : Record) → R es s → (meaning (c .answer s r) ≡ answerTo es r) × R (recordedAfter es r (refusal es r)) (c .next s r)
 
-pub fed-to : {S : Type 0} {c : Checker S} {R : List Event → S → Type 0} → Simulates c R → (es : List Event) (s : S) (rs : List Record) → R es s → map meaning (fedTo c s rs) ≡ answersFrom es rs
+pub fed-to : {S : Type 0} {c : Checker S} {R : List Event → S → Type 0} → Simulates c R → (es : List Event) (s : S) (rs : List Record) → R es s → map meaning (replies c s rs) ≡ answersFrom es rs
 fed-to x es s [] h = refl
 fed-to {c = c} x es s (r ∷ rs) h =
     let (e, y) = x .steps es s r h in
     rw (e, fed-to x (recordedAfter es r (refusal es r)) (c .next s r) rs y)
 
-pub after-all : {S : Type 0} {c : Checker S} {R : List Event → S → Type 0} → Simulates c R → (es : List Event) (s : S) (rs : List Record) → R es s → R (fedAfter es rs) (afterAll c s rs)
+pub after-all : {S : Type 0} {c : Checker S} {R : List Event → S → Type 0} → Simulates c R → (es : List Event) (s : S) (rs : List Record) → R es s → R (extended es rs) (afterAll c s rs)
 after-all x es s [] h = h
 after-all {c = c} x es s (r ∷ rs) h = after-all x (recordedAfter es r (refusal es r)) (c .next s r) rs (x .steps es s r h .1)
 

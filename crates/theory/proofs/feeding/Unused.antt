@@ -12,8 +12,8 @@ use Rattle.theory.specs.declared.state.Stepped.{Stepped}
 use Rattle.theory.specs.declared.state.SetState.{SetState}
 use Rattle.theory.specs.declared.state.SetStepped.{SetStepped}
 use Rattle.theory.specs.order.Recording.{kinds, lossMark}
-use Rattle.theory.specs.acceptance.Table.{Standing, refusalBy}
-use Rattle.theory.specs.acceptance.Control.{standingIn, refusalIn}
+use Rattle.theory.specs.acceptance.Table.{Standing, tableRow}
+use Rattle.theory.specs.acceptance.Control.{controlStanding, controlRefusal}
 use Rattle.theory.specs.tables.Turns.{turns}
 use Rattle.theory.specs.history.History.{underEach}
 use Rattle.theory.specs.feeding.Step.{recordOf, stepBy, stepOf, setStepBy, setStepOf}
@@ -43,11 +43,11 @@ alike {r} {r′} x = decided (at-most (suc (r .kind)) (length kinds))
 
 -- The refusal
 
-unknown-refused : (s : Standing) (r : Record) → length kinds ≤ r .kind → refusalBy s r ≡ 1
-unfolding refusalBy
+unknown-refused : (s : Standing) (r : Record) → length kinds ≤ r .kind → tableRow s r ≡ 1
+unfolding tableRow
 unknown-refused s r h = rw (le-leb (length kinds) (r .kind) h)
 
-mark-refused : (s : Standing) (t u mask : ℕ) → refusalBy s (recordOf lossMark t mask) ≡ refusalBy s (recordOf lossMark u mask)
+mark-refused : (s : Standing) (t u mask : ℕ) → tableRow s (recordOf lossMark t mask) ≡ tableRow s (recordOf lossMark u mask)
 mark-refused s t u mask = mark-rows s (recordOf lossMark t mask) refl ∙ sym (mark-rows s (recordOf lossMark u mask) refl)
 
 -- The steps
@@ -55,11 +55,11 @@ mark-refused s t u mask = mark-rows s (recordOf lossMark t mask) refl ∙ sym (m
 -- one that goes by the refusal of the table, looks at nothing of a refused record, and at no more than the mask of an accepted mark
 module _ {S X : Type 0} (control : S → List ℕ) (by : ℕ → S → Record → X) (refused : (n : ℕ) (s : S) (r r′ : Record) → by (suc n) s r ≡ by (suc n) s r′)
     (marked : (s : S) (t u mask : ℕ) → by zero s (recordOf lossMark t mask) ≡ by zero s (recordOf lossMark u mask)) where
-  step-alike : (s : S) {r r′ : Record} → Alike r r′ → by (refusalIn (control s) r) s r ≡ by (refusalIn (control s) r′) s r′
+  step-alike : (s : S) {r r′ : Record} → Alike r r′ → by (controlRefusal (control s) r) s r ≡ by (controlRefusal (control s) r′) s r′
   step-alike s same = refl
   step-alike s (unknown {r = r} {r′ = r′} h h′) =
-      rw (unknown-refused (standingIn (control s)) r h, unknown-refused (standingIn (control s)) r′ h′) (refused 0 s r r′)
-  step-alike s (marks t u mask) = rw (mark-refused (standingIn (control s)) t u mask) (of-mark (refusalIn (control s) (recordOf lossMark u mask)))
+      rw (unknown-refused (controlStanding (control s)) r h, unknown-refused (controlStanding (control s)) r′ h′) (refused 0 s r r′)
+  step-alike s (marks t u mask) = rw (mark-refused (controlStanding (control s)) t u mask) (of-mark (controlRefusal (control s) (recordOf lossMark u mask)))
     where
       of-mark : (n : ℕ) → by n s (recordOf lossMark t mask) ≡ by n s (recordOf lossMark u mask)
       of-mark zero = marked s t u mask

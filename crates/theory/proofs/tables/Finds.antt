@@ -10,7 +10,7 @@ use Rattle.theory.specs.fillings.Completion.{rounds, nothing, Filling, f
 use Rattle.theory.specs.history.History.{latestNumber}
 use Rattle.theory.specs.tables.Reckonings.{clockApart, setApart, clockMask, setMask, lowestTask}
 use Rattle.theory.specs.verdicts.Search.{judged, judge, partner}
-use Rattle.theory.specs.feeding.Step.{verdictBy, judgedBy}
+use Rattle.theory.specs.feeding.Step.{answerByTests, answerByMasks}
 use Rattle.theory.specs.feeding.Meaning.{judges, meaning}
 use Rattle.theory.specs.order.Limits.{tasks, variables}
 use Rattle.theory.proofs.order.Places.{Occurs}
@@ -44,7 +44,7 @@ module _ {w : Filling} {es : List Event} {last : List ℕ} (p : Op) (t v : ℕ) 
 
 -- the answer that masks make is that of what they find
 answer-found : (a b : Bool) (last : List ℕ) (k on number fm am : ℕ) →
-    meaning (verdictBy a b last k on number fm am)
+    meaning (answerByTests a b last k on number fm am)
     ≡ judges number
     ((judged (cond a none (some (record { task = lowestTask fm; number = latestNumber last k on (lowestTask fm) }))) (cond b none (some (record { task = lowestTask am; number = latestNumber last k on (lowestTask am) })))) .verdict)
     ((judged (cond a none (some (record { task = lowestTask fm; number = latestNumber last k on (lowestTask fm) }))) (cond b none (some (record { task = lowestTask am; number = latestNumber last k on (lowestTask am) })))) .partner)
@@ -56,6 +56,6 @@ answer-found false false last k on number fm am = refl
 pub judged-found : (last : List ℕ) (k on number fm am : ℕ) (f : Event) (es : List Event) →
     foundBy (latestNumber last k on) fm ≡ partner rounds f 1 es →
     foundBy (latestNumber last k on) am ≡ partner nothing f 1 es →
-    meaning (judgedBy last k on number fm am) ≡ judges number ((judge es f) .verdict) ((judge es f) .partner)
-unfolding judgedBy judge
+    meaning (answerByMasks last k on number fm am) ≡ judges number ((judge es f) .verdict) ((judge es f) .partner)
+unfolding answerByMasks judge
 judged-found last k on number fm am f es e q = rw (← e, ← q) (answer-found (eqb fm 0) (eqb am 0) last k on number fm am)

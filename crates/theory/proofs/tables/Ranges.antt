@@ -11,7 +11,7 @@ use lib.ListN.{length}
 use Rattle.theory.specs.order.Limits.{tasks, variables}
 use Rattle.theory.specs.order.Recording.{Op, take, give, look, set, start, join, kind, isAccess, lossMark, Kind, of-op, of-mark, kinds, kindAt, accessBy, accesses, seriesOf}
 use Rattle.theory.specs.order.Path.{rule}
-use Rattle.theory.specs.history.History.{clashBy}
+use Rattle.theory.specs.history.History.{kindClashes}
 use Rattle.theory.specs.acceptance.Table.{Fitting, Proper}
 use Rattle.theory.specs.tables.Rows.{cell, actedRow, joinsActed, acquiredRow, releasedRow, onward, hub, tableRows}
 use Rattle.theory.proofs.basics.Reflects.{Reflects, right, wrong, equal, at-most}
@@ -110,9 +110,9 @@ pub access-proper : {k t n : ℕ} → Proper k t n → accesses k ≡ true → (
 access-proper {k} p e = let f = p .act-fits (access-acts k e) in (f .task-fits, access-fits f e)
 
 -- what clashes with something is an access
-pub clash-access : (k : ℕ) (p : Op) → true ≡ clashBy (kindAt k) p → accesses k ≡ true
+pub clash-access : (k : ℕ) (p : Op) → true ≡ kindClashes (kindAt k) p → accesses k ≡ true
 clash-access k p e = of (kindAt k) e
   where
-    of : (y : Kind) → true ≡ clashBy y p → accessBy y ≡ true
+    of : (y : Kind) → true ≡ kindClashes y p → accessBy y ≡ true
     of (of-op o) e = and-elim-left (isAccess o) (isAccess p && rule o p) (sym e)
     of of-mark e = absurd (true≢false e)

@@ -7,7 +7,7 @@ use lib.ListN.{getD, set}
 use Rattle.theory.specs.declared.record.Record.{Record}
 use Rattle.theory.specs.order.Limits.{tasks}
 use Rattle.theory.specs.order.Recording.{Op, kind}
-use Rattle.theory.specs.acceptance.Table.{Standing, refusalBy}
+use Rattle.theory.specs.acceptance.Table.{Standing, tableRow}
 
 abbrev pub liveIn : List ℕ → ℕ → Bool
 liveIn control t = eqb (getD control t 0) 1
@@ -26,12 +26,12 @@ controlCells = countAt + 1
 abbrev pub countIn : List ℕ → ℕ
 countIn control = getD control countAt 0
 
-abbrev pub standingIn : List ℕ → Standing
-standingIn control = record { live = liveIn control; unseen = unseenIn control; count = countIn control }
+abbrev pub controlStanding : List ℕ → Standing
+controlStanding control = record { live = liveIn control; unseen = unseenIn control; count = countIn control }
 
 -- the refusal of a record
-abbrev pub refusalIn : List ℕ → Record → ℕ
-refusalIn control r = refusalBy (standingIn control) r
+abbrev pub controlRefusal : List ℕ → Record → ℕ
+controlRefusal control r = tableRow (controlStanding control) r
 
 abbrev pub counted : List ℕ → List ℕ
 counted control = set control countAt (countIn control + 1)

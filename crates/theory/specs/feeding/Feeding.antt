@@ -15,7 +15,7 @@ use Rattle.theory.specs.acceptance.Table.{lastRow, refusal, recordedAfte
 use Rattle.theory.specs.verdicts.Verdict.{Verdict, Race, Clear, AccessAt, Unordered, With}
 use Rattle.theory.specs.verdicts.Demands.{Firm}
 use Rattle.theory.specs.verdicts.Search.{judge, isAccessEvent}
-use Rattle.theory.specs.acceptance.Control.{refusalIn}
+use Rattle.theory.specs.acceptance.Control.{controlRefusal}
 use Rattle.theory.specs.verdicts.Search
 use Rattle.theory.specs.verdicts.Examples.{Example, table}
 use Rattle.theory.specs.feeding.Meaning.{Meaning, refuses, takes, judges, meaning, isRefusal, refusalNumber, verdictIn}
@@ -30,12 +30,12 @@ pub record Checker (S : Type 0) : Type 0 where
   pub next : S → Record → S
   pub answer : S → Record → Answer
 
-abbrev pub fedTo : {S : Type 0} → Checker S → S → List Record → List Answer
-fedTo c s [] = []
-fedTo c s (r ∷ rs) = c .answer s r ∷ fedTo c (c .next s r) rs
+abbrev pub replies : {S : Type 0} → Checker S → S → List Record → List Answer
+replies c s [] = []
+replies c s (r ∷ rs) = c .answer s r ∷ replies c (c .next s r) rs
 
-abbrev pub fedBy : {S : Type 0} → Checker S → List Record → List Answer
-fedBy c = fedTo c (c .fresh)
+abbrev pub runs : {S : Type 0} → Checker S → List Record → List Answer
+runs c = replies c (c .fresh)
 
 -- the state after a list
 abbrev pub afterAll : {S : Type 0} → Checker S → S → List Record → S
@@ -51,16 +51,16 @@ abbrev pub bySets : Checker SetState
 bySets = record { fresh = freshSets; control = λ s. s .control; next = λ s r. (setStepOf s r) .state; answer = λ s r. (setStepOf s r) .answer }
 
 abbrev pub fed : List Record → List Answer
-fed = fedBy byClocks
+fed = runs byClocks
 
 abbrev pub setFed : List Record → List Answer
-setFed = fedBy bySets
+setFed = runs bySets
 
 -- "The recording is those records that were accepted", by what they were answered
-abbrev pub acceptedOf : List Record → List Meaning → List Event
-acceptedOf [] answers = []
-acceptedOf (r ∷ rs) [] = []
-acceptedOf (r ∷ rs) (a ∷ answers) = cond (isRefusal a) (acceptedOf rs answers) (eventOf r ∷ acceptedOf rs answers)
+abbrev pub takenIn : List Record → List Meaning → List Event
+takenIn [] answers = []
+takenIn (r ∷ rs) [] = []
+takenIn (r ∷ rs) (a ∷ answers) = cond (isRefusal a) (takenIn rs answers) (eventOf r ∷ takenIn rs answers)
 
 -- `Got answers k a`: the record at place k of the recording was answered a, the k-th that is no refusal
 pub data Got : List Meaning → ℕ → Meaning → Type 0 where
@@ -72,7 +72,7 @@ pub data Got : List Meaning → ℕ → Meaning → Type 0 where
 
 -- the recording that is made of a list of records
 abbrev pub recordedBy : (List Record → List Answer) → List Record → List Event
-recordedBy answers rs = acceptedOf rs (map meaning (answers rs))
+recordedBy answers rs = takenIn rs (map meaning (answers rs))
 
 -- each access of the recording got, under its record number, a verdict and a partner that are as P says
 abbrev pub EachAccess : (List Record → List Answer) → (List Event → ℕ → Verdict → ℕ → Type 0) → Type 0
@@ -129,7 +129,7 @@ AnswersByTable answers = (rs : List Record) → map meaning (answers rs) ≡ ans
 
 -- the number of the first row of the table that applies to a record in a state; 0 where none does
 abbrev pub rowFor : {S : Type 0} → Checker S → S → Record → ℕ
-rowFor c s r = refusalIn (c .control s) r
+rowFor c s r = controlRefusal (c .control s) r
 
 -- the number that an accepted record gets there
 abbrev pub numberFor : {S : Type 0} → Checker S → S → ℕ

@@ -39,13 +39,13 @@ abbrev pub latestNumber : List ℕ → ℕ → ℕ → ℕ → ℕ
 latestNumber last k v u = lastOf last (latestSlot k v u)
 
 -- what a record of a kind says clashes with an access of op p
-abbrev pub clashBy : Kind → Op → Bool
-clashBy (of-op o) p = clashes o p
-clashBy of-mark p = false
+abbrev pub kindClashes : Kind → Op → Bool
+kindClashes (of-op o) p = clashes o p
+kindClashes of-mark p = false
 
 -- f at each slot that an access of kind k to v by task u is kept in: under each kind that it clashes with. What is no access is kept nowhere
 unfoldable pub underEach : {A : Type 0} → (ℕ → A → A) → ℕ → ℕ → ℕ → A → A
-underEach f k v u b = turns (length askers) (λ a b. cond (clashBy (kindAt k) (asker a)) (f (slot a v u) b) b) b
+underEach f k v u b = turns (length askers) (λ a b. cond (kindClashes (kindAt k) (asker a)) (f (slot a v u) b) b) b
 
 -- the history without the accesses to variable v, of every task and for every kind that asks
 unfoldable pub emptied : ℕ → List ℕ → List ℕ

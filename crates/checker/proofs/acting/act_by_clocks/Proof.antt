@@ -5,9 +5,8 @@ use lib.ListN.{set}
 use borrow.Author.Tests.{ne-eqb}
 use Rattle.theory.specs.order.Limits.{tasks}
 use Rattle.theory.specs.tables.Reckonings.{clockOwn}
-use Rattle.theory.proofs.history.Unkept.{kept-nowhere}
+use Rattle.theory.proofs.history.Accesses.{of-access, kept-nowhere}
 use Rattle.theory.proofs.tables.Rows.{same-max}
-use Rattle.theory.proofs.tables.Ranges.{access-fits}
 use Rattle.theory.proofs.tables.Onward.{accessed, passed-on}
 use borrow.Author.Needs.{needs}
 use Rattle.checker.proofs.acting.act_by_clocks.Statement.{statement}
@@ -17,8 +16,7 @@ access-by-clocks-requires : tie.Need-access-by-clocks-requires
 access-by-clocks-requires c κs =
     let at-if1 = c .before .before .before in
     let h = sym (at-if1 .before .is-access .ensures) ∙ at-if1 .if1 .taken in
-    let f = at-if1 .before .before .pre .0 in
-    (h, f .task-fits, access-fits f h)
+    of-access (at-if1 .before .before .pre .0) h
 
 returns : tie.Need-returns
 returns c =

@@ -8,9 +8,8 @@ use borrow.Author.Tests.{ne-eqb}
 use Rattle.theory.specs.order.Recording.{accesses}
 use Rattle.theory.specs.tables.Rows.{noteActed}
 use Rattle.theory.specs.tables.Reckonings.{slotWords, addSlot, clearSlot, setOwn}
-use Rattle.theory.proofs.history.Unkept.{kept-nowhere}
+use Rattle.theory.proofs.history.Accesses.{of-access, kept-nowhere}
 use Rattle.theory.proofs.tables.Rows.{same-or}
-use Rattle.theory.proofs.tables.Ranges.{access-fits}
 use Rattle.theory.proofs.tables.Onward.{accessed, passed-on}
 use borrow.Author.Needs.{needs}
 use Rattle.checker.proofs.acting.act_by_sets.Statement.{statement}
@@ -24,8 +23,7 @@ access-by-sets-requires : tie.Need-access-by-sets-requires
 access-by-sets-requires c κs =
     let at-if1 = c .before .before .before in
     let h = sym (at-if1 .before .is-access .ensures) ∙ at-if1 .if1 .taken in
-    let f = at-if1 .before .before .pre .0 in
-    (h, f .task-fits, access-fits f h)
+    of-access (at-if1 .before .before .pre .0) h
 
 returns : tie.Need-returns
 returns c =

@@ -1,7 +1,8 @@
 -- The masks of an access that would be accepted, and none for another record.
 use mathlib.Core.Path.{sym, _∙_}
 use Rattle.theory.proofs.acceptance.Accepted.{accepts, refused-masks}
-use Rattle.theory.proofs.tables.Ranges.{access-proper}
+use Rattle.theory.proofs.tables.Ranges.{access-acts}
+use Rattle.theory.proofs.history.Accesses.{of-access}
 use borrow.Author.Needs.{needs}
 use Rattle.checker.proofs.asking.apart_by_clocks.Statement.{statement}
 use Rattle.checker.proofs.asking.apart_by_clocks.Tie as tie
@@ -14,8 +15,8 @@ clock-masks-requires c κs =
     let at-if1 = c .before .before in
     let a = at-if1 .before .before .args in
     let h = sym (c .before .is-access .ensures) ∙ c .if2 .taken in
-    let (t, v) = access-proper (accepts (a .control .now) (a .r) _ (at-if1 .before .refusal .ensures) (at-if1 .if1 .left) .proper) h in
-    (h, t, v)
+    let p = accepts (a .control .now) (a .r) _ (at-if1 .before .refusal .ensures) (at-if1 .if1 .left) .proper in
+    of-access (p .act-fits (access-acts (a .r .kind) h)) h
 
 returns-2 : tie.Need-returns-2
 returns-2 c =

@@ -14,15 +14,15 @@ use Rattle.checker.proofs.clocks.clock_masks.Statement.{statement}
 use Rattle.checker.proofs.clocks.clock_masks.Tie as tie
 
 slot-requires : tie.Need-slot-requires
-slot-requires c κs = let (e, t, v) = c .before .before .pre in (ltb-true _ _ (c .ask-at .ensures .1 ∙ e), v, lit< tt)
+slot-requires c κs = let p = c .before .before .pre in (ltb-true _ _ (c .ask-at .ensures .1 ∙ p .is-access), p .variable-fits, lit< tt)
 
 -- the row is in the clocks, and what the kind asks in the history
 fit : (c : tie.After-slot) → let row = c .before .before .task-row .result in (row * tasks + tasks ≤ cellCount tasks) × (c .slot .result + tasks ≤ slots)
 fit c =
-    let (e, t, v) = c .before .before .before .pre in
+    let p = c .before .before .before .pre in
     let q = c .before .before .task-row .ensures in
     let s = c .slot .ensures .0 in
-    let a = ltb-true (c .before .ask-at .result) (length askers) (c .before .ask-at .ensures .1 ∙ e) in
+    let a = ltb-true (c .before .ask-at .result) (length askers) (c .before .ask-at .ensures .1 ∙ p .is-access) in
     (omega arith, omega arith)
 
 returns : tie.Need-returns
@@ -32,7 +32,7 @@ returns c =
     let at-ask = at-slot .before in
     let at-row = at-ask .before in
     let a = at-row .before .args in
-    let asks = rw (at-row .before .pre .0) at (at-ask .ask-at .ensures .0) in
+    let asks = rw (at-row .before .pre .is-access) at (at-ask .ask-at .ensures .0) in
     let row : at-row .task-row .result * tasks ≡ a .task .0 * tasks = rw (at-row .task-row .ensures) in
     let from = rw asks at (at-slot .slot .ensures .0) in
     simp (

@@ -7,12 +7,12 @@ use Rattle.checker.proofs.history.latest_number.Tie as tie
 
 -- an access has a number among those that ask
 slot-requires : tie.Need-slot-requires
-slot-requires c κs = let (e, v, u) = c .before .pre in (ltb-true _ _ (c .ask-at .ensures .1 ∙ e), v, u)
+slot-requires c κs = let p = c .before .pre in (ltb-true _ _ (c .ask-at .ensures .1 ∙ p .is-access), p .variable-fits, p .task-fits)
 
 returns : tie.Need-returns
 returns c =
     let at-ask = c .before .before in
-    let a = rw (at-ask .before .pre .0) at (at-ask .ask-at .ensures .0) in
+    let a = rw (at-ask .before .pre .is-access) at (at-ask .ask-at .ensures .0) in
     rw (c .before .slot .ensures .0, a)
 
 pub latest-number-spec : {M : Type 1} → statement M

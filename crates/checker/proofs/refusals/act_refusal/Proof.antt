@@ -6,7 +6,7 @@ use borrow.Author.Tests.{leb-false, ne-eqb, not-true, not-false}
 use Rattle.theory.specs.order.Limits.{tasks}
 use Rattle.theory.specs.order.Recording.{seriesOf}
 use Rattle.theory.specs.acceptance.Table.{firstRow}
-use Rattle.theory.specs.acceptance.Control.{standingIn, refusalIn}
+use Rattle.theory.specs.acceptance.Control.{controlStanding, controlRefusal}
 use Rattle.theory.proofs.acceptance.Rows.{actRows, act-rows}
 use borrow.Author.Needs.{needs}
 use Rattle.checker.proofs.refusals.act_refusal.Statement.{statement}
@@ -16,10 +16,10 @@ use Rattle.checker.proofs.refusals.act_refusal.Tie as tie
 abbrev Past : ℕ → tie.Start → Type 0
 Past n c =
     let control = c .args .control .now in
-    refusalIn control (c .args .r) ≡ firstRow (drop n (actRows (standingIn control) (c .args .r)))
+    controlRefusal control (c .args .r) ≡ firstRow (drop n (actRows (controlStanding control) (c .args .r)))
 
 entered : (c : tie.Start) → Past 0 c
-entered c = let control = c .args .control .now in act-rows (standingIn control) (c .args .r) (c .pre)
+entered c = let control = c .args .control .now in act-rows (controlStanding control) (c .args .r) (c .pre)
 
 past-1 : (c : tie.Else1) → Past 1 (c .before .before)
 past-1 c = entered (c .before .before) ∙ rw (sym (c .before .no-task .ensures) ∙ c .if1 .left)

@@ -18,14 +18,14 @@ abbrev μ-loop : tie.MeasureT-loop
 
 known-slots-requires : tie.Need-known-slots-requires Inv-loop μ-loop
 known-slots-requires c κs =
-    let (e, t, v) = c .before .before .pre in
-    (omega (arith, c .before .task-row .ensures), ltb-true _ _ (c .ask-at .ensures .1 ∙ e), v)
+    let p = c .before .before .pre in
+    (omega (arith, c .before .task-row .ensures), ltb-true _ _ (c .ask-at .ensures .1 ∙ p .is-access), p .variable-fits)
 
 loop-holds : tie.Need-loop-holds Inv-loop μ-loop
 loop-holds c = (search needs, no-weights)
 
 apart-requires : tie.Need-apart-requires Inv-loop μ-loop
-apart-requires c κs = let (e, t, v) = c .before .before .before .before .before .pre in (e, v, search needs)
+apart-requires c κs = let p = c .before .before .before .before .before .pre in record { is-access = p .is-access; task-fits = search needs; variable-fits = p .variable-fits }
 
 loop-again : tie.Need-loop-again Inv-loop μ-loop
 loop-again c =
@@ -39,7 +39,7 @@ returns c =
     let at-ask = at-known .before in
     let at-row = at-ask .before in
     let a = at-row .before .args in
-    let asks = rw (at-row .before .pre .0) at (at-ask .ask-at .ensures .0) in
+    let asks = rw (at-row .before .pre .is-access) at (at-ask .ask-at .ensures .0) in
     c .lower-half .ensures ∙ all-weights (at-loop .loop .inv .1) (omega arith) (omega arith)
     ∙ mask-by (a .cells .now) (a .last .now) (a .kind) (a .task .0) (a .v .0) (rw (← asks, ← at-row .task-row .ensures) (at-known .known-slots .ensures))
 

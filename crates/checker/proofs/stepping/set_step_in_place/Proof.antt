@@ -8,7 +8,7 @@ use Rattle.theory.specs.order.Recording.{lossMark}
 use Rattle.theory.specs.acceptance.Control.{countIn}
 use Rattle.theory.specs.feeding.Step.{setStepOf}
 use Rattle.theory.proofs.acceptance.Accepted.{Accepts, accepts, names-task, set-refused}
-use Rattle.theory.proofs.history.Unkept.{kept-nowhere}
+use Rattle.theory.proofs.history.Accesses.{kept-nowhere}
 use borrow.Author.Needs.{needs}
 use Rattle.checker.proofs.stepping.set_step_in_place.Statement.{statement}
 use Rattle.checker.proofs.stepping.set_step_in_place.Tie as tie
