@@ -4,29 +4,28 @@ use mathlib.Core.Bool.{Bool}
 use mathlib.Core.List.{List}
 use Prim.Native.Nat.{ℕ, zero, suc, _+_, _*_, _/_, _%_, _≤_, _<_}
 use native.Mathlib.Omega.{arith}
-use lib.ListN.{length, set}
+use lib.ListN.{length}
 use Rattle.theory.specs.tables.Turns.{turns}
 use Rattle.theory.specs.order.Limits.{tasks, variables}
-use Rattle.theory.specs.history.History.{askers, slot, slots, lastOf, emptied}
+use Rattle.theory.specs.history.History.{askers, slot, slots, lastOf, emptiedUnder, emptied}
 use Rattle.theory.proofs.basics.Reflects.{Reflects, right, wrong, equal}
 use Rattle.theory.proofs.tables.Rows.{stores-length, stores-other, stores-at}
 
--- for the kind that has number a
-abbrev emptiedFor : ℕ → ℕ → List ℕ → List ℕ
-emptiedFor v a l = turns tasks (λ u l. set l (slot a v u) 0) l
-
 -- for the first n of them
 abbrev emptiedUpTo : ℕ → ℕ → List ℕ → List ℕ
-emptiedUpTo v n last = turns n (λ a l. emptiedFor v a l) last
+emptiedUpTo v n last = turns n (emptiedUnder v) last
 
 module _ (v : ℕ) (last : List ℕ) where
-  for-length : (a : ℕ) (l : List ℕ) → length (emptiedFor v a l) ≡ length l
+  for-length : (a : ℕ) (l : List ℕ) → length (emptiedUnder v a l) ≡ length l
+  unfolding emptiedUnder
   for-length a l = stores-length ((a * variables + v) * tasks) (λ c x. 0) l tasks
 
-  for-other : (a s : ℕ) (l : List ℕ) → ((u : ℕ) → u < tasks → ¬ (s ≡ slot a v u)) → lastOf (emptiedFor v a l) s ≡ lastOf l s
+  for-other : (a s : ℕ) (l : List ℕ) → ((u : ℕ) → u < tasks → ¬ (s ≡ slot a v u)) → lastOf (emptiedUnder v a l) s ≡ lastOf l s
+  unfolding emptiedUnder
   for-other a s l f = stores-other ((a * variables + v) * tasks) (λ c x. 0) l tasks s f
 
-  for-at : (a u : ℕ) (l : List ℕ) → u < tasks → slot a v u < length l → lastOf (emptiedFor v a l) (slot a v u) ≡ 0
+  for-at : (a u : ℕ) (l : List ℕ) → u < tasks → slot a v u < length l → lastOf (emptiedUnder v a l) (slot a v u) ≡ 0
+  unfolding emptiedUnder
   for-at a u l h m = stores-at ((a * variables + v) * tasks) (λ c x. 0) l tasks u h m
 
   up-to-length : (n : ℕ) → length (emptiedUpTo v n last) ≡ length last
@@ -44,7 +43,7 @@ module _ (v : ℕ) (last : List ℕ) where
   up-to-at zero a u hv h hu m = absurd (omega arith)
   up-to-at (suc n) a u hv h hu m = decided (equal a n) (λ l. up-to-at n a u hv l hu m)
     where
-      decided : {b : Bool} → Reflects (a ≡ n) b → (a < n → lastOf (emptiedUpTo v n last) (slot a v u) ≡ 0) → lastOf (emptiedFor v n (emptiedUpTo v n last)) (slot a v u) ≡ 0
+      decided : {b : Bool} → Reflects (a ≡ n) b → (a < n → lastOf (emptiedUpTo v n last) (slot a v u) ≡ 0) → lastOf (emptiedUnder v n (emptiedUpTo v n last)) (slot a v u) ≡ 0
       decided (right e) ih = rw e (for-at n u (emptiedUpTo v n last) hu (let l = up-to-length n in omega arith))
       decided (wrong d) ih = for-other n (slot a v u) (emptiedUpTo v n last) (λ c l e. d (omega arith)) ∙ ih (omega arith)
 
