@@ -103,7 +103,7 @@ held-rest memory s i {m} {memory′} =
 
 -- What a piece makes of it
 
--- at most 65 bytes are a line's beginning as it stands
+-- as many bytes as are held at most are a line's beginning as it stands
 cut-none : (s : State) (n : ℕ) {h : List ℕ} → length h ≤ heldMost → kept s n h ≡ keptWith s n h
 cut-none s n {h} q = ap (kept s n) (sym (take-all heldMost h q))
 
@@ -296,7 +296,7 @@ line-answered h {out} {out′} {at} {n} {to = to} {s} a =
       fed = a .fed ∙ ap (stateAfter s) (parse-held h);
     }
 
--- the first n bytes of `memory` and what follows them, put together in memory of their own: at most 65 bytes of a line, without LF
+-- the first n bytes of `memory` and what follows them, put together in memory of their own: as much of a line as is held at most
 module _ (zeros memory s : List ℕ) {n a b : ℕ} {joint line : List ℕ} (some : 0 < n) (short : n ≤ heldMost) (room : heldMost ≤ length memory)
     (clean : n ≤ lineEnd (take n memory)) (zeros-fit : heldMost ≤ length zeros) (w : Wrote zeros 0 (take n memory) joint a)
     (q : b ≡ length (take heldMost (take a joint ++ s))) (e : line ≡ sets joint 0 (take heldMost (take a joint ++ s))) where
