@@ -18,9 +18,9 @@ use Rattle.text.specs.Bytes.{upTo, after}
 use Rattle.text.specs.Lines.{lf, lineRoom, linesOf, lineEnd}
 use Rattle.text.specs.LineForm.{parseOf}
 use Rattle.text.specs.Wrote.{Wrote}
-use Rattle.text.specs.Answers.{LineAnswered, LinesFit, LinesAnswered, PieceFits, EndedAnswered}
+use Rattle.text.specs.Answers.{LineAnswered, LinesFit, stateFrom, LinesAnswered, PieceFits, EndedAnswered}
 use Rattle.text.specs.Report.{saidFor, stateAfter, reportFrom, reportOf}
-use Rattle.text.specs.Pieces.{Kept, kept, stateFrom, heldMost, afterByte, saidIn, afterPiece, progressAfter, holdsOpen, fits, HeldOpen}
+use Rattle.text.specs.Pieces.{Kept, kept, heldMost, afterByte, saidIn, afterPiece, progressAfter, holdsOpen, fits, HeldOpen}
 use Rattle.text.specs.Reading.{LastLf}
 use Rattle.text.proofs.Bytes.{Without, and-true, index-none, index-fits, index-bound, split-first, before-without, without-append, without-cons, without-head, without-drop, without-take}
 use Rattle.text.proofs.Wrote.{sets-append, _then_, front, as-long}
