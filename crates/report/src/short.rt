@@ -101,15 +101,18 @@ fn not_short() -> Short
     }
 }
 
-// The line that begins at a place, if it is short and 24 bytes can be read.
+// So many bytes are enough for a short line: eight for the op, eight for the task, six for the number, and LF.
+const SHORT: usize = 24;
+
+// The line that begins at a place, if it is short and so many bytes can be read.
 fn short_line(s: &[u8], p: usize) -> Short
     ensures { λ r. ⌜ ((r .kind ≡ lossMark → ⊥) → (parseOf (lineAt (now (s .entry)) p) ≡ Parsed.Record (record { kind = r .kind; task = r .task; on = r .on }))
         × (nextAt (now (s .entry)) p ≡ r .to)) ⌝ }
 {
-    if s.len() < 24 {
+    if s.len() < SHORT {
         return not_short();
     }
-    if s.len() - 24 < p {
+    if s.len() - SHORT < p {
         return not_short();
     }
     let op = known_op(s, p);

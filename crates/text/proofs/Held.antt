@@ -18,9 +18,9 @@ use Rattle.text.specs.Bytes.{upTo, after}
 use Rattle.text.specs.Lines.{lf, lineRoom, linesOf, lineEnd}
 use Rattle.text.specs.LineForm.{parseOf}
 use Rattle.text.specs.Wrote.{Wrote}
-use Rattle.text.specs.Answers.{LineAnswered, LinesFit, LinesAnswered, PieceFits, EndedAnswered}
+use Rattle.text.specs.Answers.{LineAnswered, LinesFit, stateFrom, LinesAnswered, PieceFits, EndedAnswered}
 use Rattle.text.specs.Report.{saidFor, stateAfter, reportFrom, reportOf}
-use Rattle.text.specs.Pieces.{Kept, kept, stateFrom, heldMost, afterByte, saidIn, afterPiece, progressAfter, holdsOpen, fits, HeldOpen}
+use Rattle.text.specs.Pieces.{Kept, kept, heldMost, afterByte, saidIn, afterPiece, progressAfter, holdsOpen, fits, HeldOpen}
 use Rattle.text.specs.Reading.{LastLf}
 use Rattle.text.proofs.Bytes.{Without, and-true, index-none, index-fits, index-bound, split-first, before-without, without-append, without-cons, without-head, without-drop, without-take}
 use Rattle.text.proofs.Wrote.{sets-append, _then_, front, as-long}
@@ -103,7 +103,7 @@ held-rest memory s i {m} {memory′} =
 
 -- What a piece makes of it
 
--- at most 65 bytes are a line's beginning as it stands
+-- as many bytes as are held at most are a line's beginning as it stands
 cut-none : (s : State) (n : ℕ) {h : List ℕ} → length h ≤ heldMost → kept s n h ≡ keptWith s n h
 cut-none s n {h} q = ap (kept s n) (sym (take-all heldMost h q))
 
@@ -296,7 +296,7 @@ line-answered h {out} {out′} {at} {n} {to = to} {s} a =
       fed = a .fed ∙ ap (stateAfter s) (parse-held h);
     }
 
--- the first n bytes of `memory` and what follows them, put together in memory of their own: at most 65 bytes of a line, without LF
+-- the first n bytes of `memory` and what follows them, put together in memory of their own: as much of a line as is held at most
 module _ (zeros memory s : List ℕ) {n a b : ℕ} {joint line : List ℕ} (some : 0 < n) (short : n ≤ heldMost) (room : heldMost ≤ length memory)
     (clean : n ≤ lineEnd (take n memory)) (zeros-fit : heldMost ≤ length zeros) (w : Wrote zeros 0 (take n memory) joint a)
     (q : b ≡ length (take heldMost (take a joint ++ s))) (e : line ≡ sets joint 0 (take heldMost (take a joint ++ s))) where

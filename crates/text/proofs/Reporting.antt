@@ -10,10 +10,8 @@ use Rattle.theory.specs.declared.state.State.{State}
 use Rattle.text.specs.declared.parsed.Parsed.{Parsed}
 use Rattle.text.specs.Lines.{lf, lineRoom, linesOf, lineEnd}
 use Rattle.text.specs.LineForm.{parseOf}
-use Rattle.text.specs.Wrote.{Wrote}
-use Rattle.text.specs.Answers.{LineAnswered, LinesAnswered}
+use Rattle.text.specs.Answers.{LineAnswered, stateFrom, LinesAnswered}
 use Rattle.text.specs.Report.{saidFor, stateAfter, reportFrom}
-use Rattle.text.specs.Pieces.{stateFrom}
 use Rattle.text.specs.Reading.{lineAt, nextAt, LineStarts}
 use Rattle.text.proofs.Bytes.{Without, index-none, split-first, before-without, without-cons}
 use Rattle.text.proofs.Lines.{no-lines, lines-fit}

@@ -59,11 +59,6 @@ unfoldable pub saidInAll : Kept → List (List ℕ) → List ℕ
 saidInAll k [] = saidAtEnd k
 saidInAll k (p ∷ ps) = saidIn k p ++ saidInAll (afterPiece k p) ps
 
--- the running state after lines
-unfoldable pub stateFrom : State → List (List ℕ) → State
-stateFrom s [] = s
-stateFrom s (l ∷ ls) = stateFrom (stateAfter s (parseOf l)) ls
-
 -- the text that was cut into pieces
 unfoldable pub wholeOf : List (List ℕ) → List ℕ
 wholeOf [] = []
