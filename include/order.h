@@ -1,5 +1,5 @@
-/* The order checker for a host program in C. Link the archives that `rt staticlib report` (order_report) and `rt staticlib host` (all else)
- * write. */
+/* The order checker for a host program in C. Link the archives whose functions are used: `rt staticlib NAME` writes libNAME.a, where NAME is
+ * report (order_report), host (a running state and the sets, fed record by record), gateway (order_step) or pieces (order_piece). */
 #ifndef ORDER_H
 #define ORDER_H
 
@@ -10,7 +10,7 @@
 extern "C" {
 #endif
 
-/* What order_report answers where the report memory is too small. */
+/* What order_report and order_piece answer where the report memory is too small. */
 #define ORDER_TOO_SMALL UINT64_MAX
 
 /* Reads a recording as text and writes its report.
@@ -75,6 +75,66 @@ static inline void order_state_begin(struct order_state *s) {
 
 static inline void order_state_feed(struct order_state *s, uint8_t kind, uint32_t task, uint32_t on, uint32_t answer[3]) {
     order_feed(s->control, s->last, s->clocks, s->fullclocks, kind, task, on, answer);
+}
+
+/* The same as order_state_feed by one call that is lent the whole state. It copies the state there and back, 19 kilobytes, so that a record
+ * takes some twenty times as long; the two may be mixed. Needs libgateway.a. */
+void order_step(struct order_state *s, uint8_t kind, uint32_t task, uint32_t on, uint32_t answer[3]);
+
+/* So many bytes of a line are held at most: no line of more than 64 is a record. */
+#define ORDER_HELD_BYTES 65
+
+/* A text that comes in pieces, over hours if need be, cut anywhere: its running state and what is kept of it between two pieces. The host
+ * keeps one of these for each text, and nobody else may write to it between its begin and its end.
+ *
+ *     static struct order_text text;
+ *     static uint8_t piece[512], report[64 * sizeof piece];
+ *
+ *     order_text_begin(&text);
+ *     while ((len = receive(piece, sizeof piece)) > 0) show(report, order_text_piece(&text, piece, len, report, sizeof report));
+ *     show(report, order_text_end(&text, report, sizeof report));
+ *
+ * What is shown so, one after the other, is the report that order_report writes of the whole text. Needs libhost.a and libpieces.a. */
+struct order_text {
+    struct order_state state;
+    uint64_t progress[2]; /* how many lines are answered, and how many bytes are held of the line that has begun */
+    uint8_t held[ORDER_HELD_BYTES];
+};
+
+/* Answers the lines that end in a piece of a text: writes their part of the report.
+ *
+ * piece, piece_len: the next bytes of the text, any at all, also none. What follows the last LF is held for the next piece.
+ * report, report_len: memory for the report, at least 64 bytes for each byte of the piece, since each may end a line.
+ * held, progress, and the tables of a running state: what is kept of the text; a text begins with a fresh state and with progress 0, 0.
+ *
+ * Answers the count of bytes written, which stand at the start of `report`; the bytes after them stay as they were.
+ * Where report_len is under 64 bytes for each byte of the piece it answers ORDER_TOO_SMALL, and nothing is changed. So it does where
+ * `progress` is nothing that a piece leaves: more than ORDER_HELD_BYTES held, or so many lines that 64 bits could not count on.
+ *
+ * A text may end without LF. Its last line is then answered by one piece more, of LF alone.
+ *
+ * The pointers must be valid for their lengths and sizes, aligned and not null, also where a length is 0, and no two may overlap.
+ * The call needs under 1 kilobyte of stack. */
+uint64_t order_piece(const uint8_t *piece, size_t piece_len, uint8_t *report, size_t report_len, uint8_t held[ORDER_HELD_BYTES],
+                     uint64_t progress[2], uint32_t control[ORDER_CONTROL_CELLS], uint32_t last[ORDER_HISTORY_CELLS],
+                     uint32_t clocks[ORDER_CLOCK_CELLS], uint32_t fullclocks[ORDER_CLOCK_CELLS]);
+
+/* Begins a text, whatever was there. */
+static inline void order_text_begin(struct order_text *t) {
+    order_state_begin(&t->state);
+    t->progress[0] = t->progress[1] = 0;
+}
+
+/* The same as order_piece. */
+static inline uint64_t order_text_piece(struct order_text *t, const uint8_t *piece, size_t piece_len, uint8_t *report, size_t report_len) {
+    return order_piece(piece, piece_len, report, report_len, t->held, t->progress, t->state.control, t->state.last, t->state.clocks,
+                       t->state.fullclocks);
+}
+
+/* Ends a text: answers a last line without LF, if there is one. 64 bytes of report are enough. */
+static inline uint64_t order_text_end(struct order_text *t, uint8_t *report, size_t report_len) {
+    const uint8_t lf = '\n';
+    return t->progress[1] == 0 ? 0 : order_text_piece(t, &lf, 1, report, report_len);
 }
 
 /* The same reckoned by sets in place of clocks, for a host that wants a second opinion: a state of its own, the same answer to each

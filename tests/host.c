@@ -1,11 +1,20 @@
-/* A host program in C over the archive: document 01's example, row 11 at its edge, kept bytes, the empty text; then the same example fed
- * record by record to a running state and to the sets. */
+/* A host program in C over the archives: document 01's example, row 11 at its edge, kept bytes, the empty text; then the same example fed
+ * record by record to a running state and to the sets, and as a text in pieces. */
 #include <stdio.h>
 #include <string.h>
 
 #include "../include/order.h"
 
 static int passed, failed;
+
+/* Document 01's example and its report. */
+static const char text[] = "op=start task=0 on=1\nop=write task=0 on=5\nop=give task=0 on=2\nop=write task=0 on=6\nop=lost tasks=2\n"
+                           "op=read task=1 on=5\nop=read task=1 on=6\nop=take task=1 on=2\nop=write task=1 on=5\nop=read task=2 on=5\n";
+static const char report[] = "rec=00002 task=0 var=5 verdict=clear with=00000\nrec=00004 task=0 var=6 verdict=clear with=00000\n"
+                             "rec=00006 task=1 var=5 verdict=doubt with=00002\nrec=00007 task=1 var=6 verdict=race with=00004\n"
+                             "rec=00009 task=1 var=5 verdict=clear with=00000\nline=10 refused=6\n";
+
+enum { TEXT = sizeof text - 1, REPORT = sizeof report - 1 };
 
 static void check(const char *what, int ok) {
     if (ok) {
@@ -16,19 +25,50 @@ static void check(const char *what, int ok) {
     }
 }
 
-static uint64_t report_of(const char *text, size_t text_len, uint8_t *out, size_t out_len) {
-    return order_report((const uint8_t *)text, text_len, out, out_len);
+static uint64_t report_of(const char *bytes, size_t len, uint8_t *out, size_t out_len) {
+    return order_report((const uint8_t *)bytes, len, out, out_len);
+}
+
+/* Every byte of the memory is this one. */
+static int all(const void *memory, size_t len, uint8_t byte) {
+    const uint8_t *bytes = memory;
+    for (size_t i = 0; i < len; i++) {
+        if (bytes[i] != byte) return 0;
+    }
+    return 1;
 }
 
 /* The report of a text is just this, and the bytes after it stay. */
-static void expect(const char *what, const char *text, size_t text_len, const char *report) {
+static void expect(const char *what, const char *bytes, size_t len, const char *expected) {
     static uint8_t out[4096];
     memset(out, 0xa5, sizeof out);
-    uint64_t n = report_of(text, text_len, out, sizeof out);
-    size_t len = strlen(report);
-    int same = n == len && memcmp(out, report, len) == 0;
-    for (size_t i = len; i < sizeof out; i++) same = same && out[i] == 0xa5;
-    check(what, same);
+    uint64_t n = report_of(bytes, len, out, sizeof out);
+    size_t count = strlen(expected);
+    check(what, n == count && memcmp(out, expected, count) == 0 && all(out + count, sizeof out - count, 0xa5));
+}
+
+static void whole_texts(void) {
+    expect("document 01's example", text, TEXT, report);
+    expect("the same without the last LF", text, TEXT - 1, report);
+    expect("the same once more: each call begins afresh", text, TEXT, report);
+    expect("the empty text", "", 0, "");
+    expect("one empty line", "\n", 1, "line=1 refused=1\n");
+    expect("NUL and CR are just bytes", "op=read task=0 on=1\r\n\0\n", 23, "line=1 refused=1\nline=2 refused=1\n");
+    expect("a needless leading zero", "op=read task=00 on=1", 20, "line=1 refused=1\n");
+    expect("six digits", "op=read task=0 on=100000", 24, "line=1 refused=1\n");
+    expect("five digits outside the series", "op=read task=0 on=99999", 23, "line=1 refused=3\n");
+    expect("a mark's own range", "op=lost tasks=65536\nop=lost tasks=0\nop=lost tasks=1\n", 52, "line=1 refused=4\nline=2 refused=4\n");
+}
+
+static void row_11(void) {
+    uint8_t memory[128];
+    memset(memory, 7, sizeof memory);
+    check("row 11 at 63 bytes", report_of("op=read task=0 on=1", 19, memory, 63) == ORDER_TOO_SMALL);
+    check("row 11 leaves the memory untouched", all(memory, sizeof memory, 7));
+    check("64 bytes are enough for a line", report_of("op=read task=0 on=1", 19, memory, 64) == 48);
+    check("two lines want 128", report_of("\n\n", 2, memory, 127) == ORDER_TOO_SMALL);
+    check("and have them", report_of("\n\n", 2, memory, 128) == 34);
+    check("no line wants no memory", report_of("", 0, memory, 0) == 0);
 }
 
 /* A record and its answer. */
@@ -79,6 +119,14 @@ static void begin_clocks(void *state) { order_state_begin(state); }
 static void feed_clocks(void *state, uint8_t kind, uint32_t task, uint32_t on, uint32_t answer[3]) {
     order_state_feed(state, kind, task, on, answer);
 }
+static void feed_whole(void *state, uint8_t kind, uint32_t task, uint32_t on, uint32_t answer[3]) {
+    order_step(state, kind, task, on, answer);
+}
+/* The tables and the whole state by turns. */
+static void feed_mixed(void *state, uint8_t kind, uint32_t task, uint32_t on, uint32_t answer[3]) {
+    static unsigned turn;
+    (turn++ % 2 ? feed_whole : feed_clocks)(state, kind, task, on, answer);
+}
 static void begin_sets(void *state) { order_sets_state_begin(state); }
 static void feed_sets(void *state, uint8_t kind, uint32_t task, uint32_t on, uint32_t answer[3]) {
     order_sets_state_feed(state, kind, task, on, answer);
@@ -125,41 +173,179 @@ static void run(const struct way *way) {
     same(way, "and the other is left alone", way->one, way->two);
 }
 
-int main(void) {
-    const char *text = "op=start task=0 on=1\nop=write task=0 on=5\nop=give task=0 on=2\nop=write task=0 on=6\nop=lost tasks=2\n"
-                       "op=read task=1 on=5\nop=read task=1 on=6\nop=take task=1 on=2\nop=write task=1 on=5\nop=read task=2 on=5\n";
-    const char *report = "rec=00002 task=0 var=5 verdict=clear with=00000\nrec=00004 task=0 var=6 verdict=clear with=00000\n"
-                         "rec=00006 task=1 var=5 verdict=doubt with=00002\nrec=00007 task=1 var=6 verdict=race with=00004\n"
-                         "rec=00009 task=1 var=5 verdict=clear with=00000\nline=10 refused=6\n";
-    expect("document 01's example", text, strlen(text), report);
-    expect("the same without the last LF", text, strlen(text) - 1, report);
-    expect("the same once more: each call begins afresh", text, strlen(text), report);
-    expect("the empty text", "", 0, "");
-    expect("one empty line", "\n", 1, "line=1 refused=1\n");
-    expect("NUL and CR are just bytes", "op=read task=0 on=1\r\n\0\n", 23, "line=1 refused=1\nline=2 refused=1\n");
-    expect("a needless leading zero", "op=read task=00 on=1", 20, "line=1 refused=1\n");
-    expect("six digits", "op=read task=0 on=100000", 24, "line=1 refused=1\n");
-    expect("five digits outside the series", "op=read task=0 on=99999", 23, "line=1 refused=3\n");
-    expect("a mark's own range", "op=lost tasks=65536\nop=lost tasks=0\nop=lost tasks=1\n", 52, "line=1 refused=4\nline=2 refused=4\n");
+/* Cells that no begin or record left: the count is past the limit, so that row 5 refuses what rows 1 to 4 do not. */
+static void one_bits(const struct way *way) {
+    memset(way->one, 0xff, way->size);
+    for (size_t i = 0; i < RECORDS; i++) {
+        struct fed r = {example[i].kind, example[i].task, example[i].on, {ORDER_REFUSED, 5, 0}};
+        feed(way, way->one, &r);
+    }
+    char name[80];
+    snprintf(name, sizeof name, "%s: a state of all one-bits is left as it was", way->name);
+    check(name, all(way->one, way->size, 0xff));
+}
 
-    uint8_t memory[128];
-    memset(memory, 7, sizeof memory);
-    check("row 11 at 63 bytes", report_of("op=read task=0 on=1", 19, memory, 63) == ORDER_TOO_SMALL);
-    int untouched = 1;
-    for (size_t i = 0; i < sizeof memory; i++) untouched = untouched && memory[i] == 7;
-    check("row 11 leaves the memory untouched", untouched);
-    check("64 bytes are enough for a line", report_of("op=read task=0 on=1", 19, memory, 64) == 48);
-    check("two lines want 128", report_of("\n\n", 2, memory, 127) == ORDER_TOO_SMALL);
-    check("and have them", report_of("\n\n", 2, memory, 128) == 34);
-    check("no line wants no memory", report_of("", 0, memory, 0) == 0);
+/* However the records are fed, by the tables or to the whole state, the same answers and the same bytes of the state come of them. */
+static void layout(void) {
+    static struct order_state one, two;
+    order_state_begin(&one);
+    order_state_begin(&two);
+    int same_state = 1;
+    for (uint32_t i = 0; i < 2000; i++) {
+        uint32_t a[3], b[3], x = i * 2654435761u;
+        uint8_t kind = (uint8_t)(i < 15 ? ORDER_START : (x >> 28) % (ORDER_LOST + 1));
+        uint32_t task = i < 15 ? 0 : (x >> 20) % 16, on = i < 15 ? i + 1 : (x >> 12) % 32;
+        order_state_feed(&one, kind, task, on, a);
+        order_step(&two, kind, task, on, b);
+        same_state = same_state && memcmp(a, b, sizeof a) == 0 && memcmp(&one, &two, sizeof one) == 0;
+    }
+    check("the whole state has its tables where the struct has them", same_state);
+}
 
-    static struct order_state states[3];
+static void states(void) {
+    static struct order_state clocks[3];
     static struct order_sets sets[3];
-    const struct way clocks = {"clocks", begin_clocks, feed_clocks, sizeof states[0], &states[0], &states[1], &states[2]};
-    const struct way by_sets = {"sets", begin_sets, feed_sets, sizeof sets[0], &sets[0], &sets[1], &sets[2]};
-    run(&clocks);
-    run(&by_sets);
+    const struct way ways[] = {{"clocks", begin_clocks, feed_clocks, sizeof clocks[0], &clocks[0], &clocks[1], &clocks[2]},
+                               {"whole", begin_clocks, feed_whole, sizeof clocks[0], &clocks[0], &clocks[1], &clocks[2]},
+                               {"mixed", begin_clocks, feed_mixed, sizeof clocks[0], &clocks[0], &clocks[1], &clocks[2]},
+                               {"sets", begin_sets, feed_sets, sizeof sets[0], &sets[0], &sets[1], &sets[2]}};
+    for (size_t i = 0; i < sizeof ways / sizeof ways[0]; i++) {
+        run(&ways[i]);
+        one_bits(&ways[i]);
+    }
+}
 
+/* A text in pieces, and what was written for it so far. */
+struct cut {
+    struct order_text kept;
+    uint8_t wrote[4096];
+    size_t total;
+    int right;
+};
+
+static void cut_begin(struct cut *cut) {
+    memset(cut, 0xa5, sizeof *cut);
+    order_text_begin(&cut->kept);
+    cut->total = 0;
+    cut->right = 1;
+}
+
+/* Adds what a call wrote. The bytes after that must be as they were. */
+static void cut_add(struct cut *cut, uint64_t n, const uint8_t *out, size_t out_len) {
+    cut->right = cut->right && n <= out_len && cut->total + n <= sizeof cut->wrote && all(out + n, out_len - n, 0x5a);
+    if (!cut->right) return;
+    memcpy(cut->wrote + cut->total, out, n);
+    cut->total += n;
+}
+
+static uint8_t memory[64 * TEXT];
+
+/* Feeds a piece, with just the memory that it wants. */
+static void cut_feed(struct cut *cut, const char *piece, size_t len) {
+    memset(memory, 0x5a, sizeof memory);
+    cut_add(cut, order_text_piece(&cut->kept, (const uint8_t *)piece, len, memory, 64 * len), memory, 64 * len);
+}
+
+/* Ends the text: the report is whole, and so is the count of its bytes. */
+static void cut_end(struct cut *cut, const char *how, size_t at) {
+    memset(memory, 0x5a, sizeof memory);
+    cut_add(cut, order_text_end(&cut->kept, memory, 64), memory, 64);
+    char what[160];
+    snprintf(what, sizeof what, "the example %s %zu: %zu bytes of report", how, at, cut->total);
+    check(what, cut->right && cut->total == REPORT && memcmp(cut->wrote, report, REPORT) == 0);
+}
+
+static struct cut cut;
+
+/* In pieces of each size, in two, with an empty piece between, each with its last LF and without. */
+static void pieces(size_t len) {
+    for (size_t size = 1; size <= len; size++) {
+        cut_begin(&cut);
+        for (size_t at = 0; at < len; at += size) cut_feed(&cut, text + at, len - at < size ? len - at : size);
+        cut_end(&cut, "in pieces of", size);
+    }
+    for (size_t at = 0; at <= len; at++) {
+        cut_begin(&cut);
+        cut_feed(&cut, text, at);
+        cut_feed(&cut, "", 0);
+        cut_feed(&cut, text + at, len - at);
+        cut_end(&cut, "cut at", at);
+    }
+}
+
+/* The running state of a text is that of its records, and may be fed records too. */
+static void text_and_records(void) {
+    static struct order_state state;
+    order_state_begin(&state);
+    cut_begin(&cut);
+    size_t from = 0;
+    for (size_t i = 0; i < RECORDS; i++) {
+        size_t to = (size_t)(strchr(text + from, '\n') - text) + 1;
+        uint32_t one[3], two[3] = {0};
+        order_state_feed(&state, example[i].kind, example[i].task, example[i].on, one);
+        if (i % 2) {
+            cut_feed(&cut, text + from, to - from);
+        } else {
+            order_state_feed(&cut.kept.state, example[i].kind, example[i].task, example[i].on, two);
+            check("a record between two pieces", memcmp(one, two, sizeof one) == 0);
+        }
+        check("a text leaves the state that its records leave", memcmp(&state, &cut.kept.state, sizeof state) == 0);
+        from = to;
+    }
+    check("and its lines are those of the text alone", cut.kept.progress[0] == RECORDS / 2 && cut.kept.progress[1] == 0);
+}
+
+/* A piece that is refused changes nothing. */
+static void refuse(const char *what, const struct order_text *kept, const char *piece, size_t len, size_t room) {
+    static struct order_text before, after;
+    memcpy(&before, kept, sizeof before);
+    memcpy(&after, kept, sizeof after);
+    memset(memory, 0x5a, sizeof memory);
+    uint64_t n = order_text_piece(&after, (const uint8_t *)piece, len, memory, room);
+    check(what, n == ORDER_TOO_SMALL && memcmp(&before, &after, sizeof before) == 0 && all(memory, sizeof memory, 0x5a));
+}
+
+static void too_little(void) {
+    cut_begin(&cut);
+    for (size_t at = 0; at < TEXT; at += 50) {
+        size_t len = TEXT - at < 50 ? TEXT - at : 50;
+        refuse("one byte too few", &cut.kept, text + at, len, 64 * len - 1);
+        refuse("no memory", &cut.kept, text + at, len, 0);
+        cut_feed(&cut, text + at, len);
+    }
+    cut_end(&cut, "after refusals of pieces of", 50);
+}
+
+/* What no begin or piece left: the call is safe still, and refuses what it cannot count or hold. */
+static void any_text(void) {
+    static struct order_text kept;
+    uint8_t out[64];
+    memset(&kept, 0xff, sizeof kept);
+    refuse("a text of all one-bits", &kept, text, 1, sizeof memory);
+    kept.progress[0] = 0;
+    kept.progress[1] = ORDER_HELD_BYTES + 1;
+    refuse("more held than can be", &kept, "\n", 1, sizeof memory);
+    kept.progress[1] = ORDER_HELD_BYTES;
+    check("held bytes of any kind", order_text_end(&kept, out, 64) == 17 && memcmp(out, "line=1 refused=1\n", 17) == 0);
+    const char *record = "op=read task=0 on=1\n";
+    uint64_t n = order_text_piece(&kept, (const uint8_t *)record, 20, memory, sizeof memory);
+    check("tables of all one-bits: full", n == 17 && memcmp(memory, "line=2 refused=5\n", 17) == 0 && all(&kept.state, sizeof kept.state, 0xff));
+    kept.progress[0] = UINT64_MAX - 1;
+    check("the last line that can be counted", order_text_piece(&kept, (const uint8_t *)"\n", 1, out, 64) == 36);
+    check("has its number", memcmp(out, "line=18446744073709551615 refused=1\n", 36) == 0);
+    refuse("and there is none after it", &kept, "\n", 1, sizeof memory);
+}
+
+int main(void) {
+    whole_texts();
+    row_11();
+    states();
+    layout();
+    pieces(TEXT);
+    pieces(TEXT - 1);
+    text_and_records();
+    too_little();
+    any_text();
     printf("host: %d passed, %d failed\n", passed, failed);
     return failed != 0;
 }

@@ -1,9 +1,9 @@
 //! Bad input at scale: random bytes, cut and spoilt texts, every length of report memory, and texts of megabytes.
 
+use crate::cuts::{Cuts, WAYS};
 use crate::generate::{self, Random, Shape};
 use crate::oracle::{self, Fate, Judged, Record, Verdict};
-use crate::program::{self, Cuts};
-use crate::{entry, feeding, tally::Tally};
+use crate::{entry, feeding, program, streaming, tally::Tally};
 
 const SAMPLE: &str = "op=start task=0 on=1\nop=write task=0 on=5\nop=lost tasks=3\nop=read task=1 on=5\n\nop=join task=0 on=1";
 const MEGABYTE: usize = 1 << 20;
@@ -15,8 +15,10 @@ const SHARE: usize = 30;
 fn compare(tally: &mut Tally, order: Option<&str>, text: &[u8]) {
     let expected = oracle::report_of(text);
     tally.expect("entry, bad text", text, &expected, entry::report(text, 0));
+    let cuts = streaming::way(text);
+    tally.expect(&format!("pieces, bad text, cut {cuts:?}"), text, &expected, streaming::report(text, cuts));
     if let Some(order) = order.filter(|_| tally.passed % SHARE == 0) {
-        let cuts = program::WAYS[tally.passed / SHARE % program::WAYS.len()];
+        let cuts = WAYS[tally.passed / SHARE % WAYS.len()];
         tally.expect(&format!("program, bad text, cut {cuts:?}"), text, &expected, program::report(order, text, cuts));
     }
 }
@@ -74,9 +76,10 @@ fn every_length(tally: &mut Tally) {
     }
 }
 
-/// Both get a large text and answer right, the program in pieces about as large as its reads may be.
+/// All get a large text and answer right, the program in pieces about as large as its reads may be.
 fn large(tally: &mut Tally, order: Option<&str>, name: &str, text: &[u8], right: &dyn Fn(&[u8]) -> bool) {
     tally.check(entry::report(text, 0).is_ok_and(|got| right(&got)), || format!("entry, {name}"));
+    tally.check(streaming::report(text, Cuts::Every(4_095)).is_ok_and(|got| right(&got)), || format!("pieces, {name}"));
     if let Some(order) = order {
         let cuts = [Cuts::Nowhere, Cuts::Every(4_095), Cuts::Every(65_537)][text.len() % 3];
         tally.check(program::report(order, text, cuts).is_ok_and(|got| right(&got)), || format!("program, {name}, cut {cuts:?}"));

@@ -47,15 +47,14 @@ pub struct Reckoning {
     feed: Feed,
 }
 
-pub const BOTH: [Reckoning; 2] = [
-    Reckoning { name: "clocks", sizes: [17, 2048, 1312, 1312], begin: order_begin, feed: order_feed },
-    Reckoning { name: "sets", sizes: [17, 2048, 5248, 5248], begin: order_sets_begin, feed: order_sets_feed },
-];
+pub const CLOCKS: Reckoning = Reckoning { name: "clocks", sizes: [17, 2048, 1312, 1312], begin: order_begin, feed: order_feed };
+pub const SETS: Reckoning = Reckoning { name: "sets", sizes: [17, 2048, 5248, 5248], begin: order_sets_begin, feed: order_sets_feed };
+pub const BOTH: [Reckoning; 2] = [CLOCKS, SETS];
 
 /// A state in one piece of memory, a guard before, between and after its tables.
 pub struct Lent<'a> {
     by: &'a Reckoning,
-    memory: Vec<u32>,
+    pub memory: Vec<u32>,
 }
 
 impl Lent<'_> {
@@ -70,7 +69,7 @@ impl Lent<'_> {
     }
 
     /// Tables that held anything and are made those of a fresh state.
-    fn fresh(by: &Reckoning) -> Result<Lent<'_>, String> {
+    pub fn fresh(by: &Reckoning) -> Result<Lent<'_>, String> {
         let mut lent = Lent::holding(by, || FILL);
         let [control, last, arrived, full] = lent.tables();
         // SAFETY: the pointers are valid for the sizes of the tables, which do not overlap.
@@ -78,7 +77,7 @@ impl Lent<'_> {
         lent.guarded().then_some(lent).ok_or("begin changed cells beside the tables".to_string())
     }
 
-    fn tables(&mut self) -> [*mut u32; 4] {
+    pub fn tables(&mut self) -> [*mut u32; 4] {
         let mut after = self.memory.as_mut_ptr();
         self.by.sizes.map(|size| {
             let table = after.wrapping_add(GUARD);
@@ -87,7 +86,7 @@ impl Lent<'_> {
         })
     }
 
-    fn guarded(&self) -> bool {
+    pub fn guarded(&self) -> bool {
         let mut place = 0;
         self.by.sizes.iter().chain(&[0]).all(|size| {
             let guard = &self.memory[place..][..GUARD];

@@ -1,21 +1,24 @@
-//! Tests from outside: the C entry and the program `order` against the plain path search, byte for byte, and bad input at scale; the
-//! running state and the sets, fed without text, against the same search, answer for answer.
+//! Tests from outside: the C entry, texts in pieces and the program `order` against the plain path search, byte for byte, and bad input at
+//! scale; the program on input that pauses; the running state and the sets, fed without text, against the same search, answer for answer.
 //! `outside [PROGRAM]` runs them; without a program only the archive is tested.
 //! `outside --report` prints what the plain path search says of the recording on standard input.
 
 mod bad;
+mod cuts;
 mod entry;
 mod examples;
 mod feeding;
 mod generate;
 mod numbers;
 mod oracle;
+mod pauses;
 mod program;
+mod streaming;
 mod tally;
 
+use cuts::{Cuts, WAYS};
 use generate::{filling, recording, shape, Random, Shape};
 use oracle::{Fate, Judged, Verdict};
-use program::{Cuts, WAYS};
 use std::io::Read;
 use tally::Tally;
 
@@ -30,6 +33,10 @@ fn run_examples(tally: &mut Tally, order: Option<&str>) {
         let name = example.name.escape_debug();
         tally.expect(&format!("oracle, {name}"), &example.text, &example.report, Ok(oracle::report_of(&example.text).into()));
         tally.expect(&format!("entry, {name}"), &example.text, &example.report, entry::report(&example.text, at));
+        for cuts in WAYS {
+            let answer = streaming::report(&example.text, cuts);
+            tally.expect(&format!("pieces, {name}, cut {cuts:?}"), &example.text, &example.report, answer);
+        }
         let reading = oracle::read(&example.text);
         feeding::expect(tally, &name.to_string(), &feeding::records(&example.text), &reading, &oracle::judge(&reading.recording));
         if let Some(order) = order {
@@ -52,6 +59,7 @@ fn run_full(tally: &mut Tally, order: Option<&str>) {
     tally.check(refused == 7, || format!("oracle, row 5: {refused} lines refused"));
     let whole = |answer: Result<Vec<u8>, String>| answer.is_ok_and(|got| got == example.report.as_bytes());
     tally.check(whole(entry::report(&example.text, 0)), || "entry, row 5".to_string());
+    tally.check(whole(streaming::report(&example.text, Cuts::Anywhere(5))), || "pieces, row 5".to_string());
     // The search would take too long; one task alone has no conflict.
     let clear = |access| Judged { access, verdict: Verdict::Clear, with: 0 };
     let judged: Vec<_> = oracle::accesses(&reading.recording).into_iter().map(clear).collect();
@@ -98,7 +106,9 @@ fn run_between(tally: &mut Tally) {
         let text = format!("op=start task=0 on=1\nop=write task=0 on=5\n{middle}op=write task=1 on=5\n").into_bytes();
         let reading = oracle::read(&text);
         let judged = oracle::judge(&reading.recording);
-        tally.expect("entry, in between", &text, &oracle::report(&reading, &judged), entry::report(&text, 0));
+        let report = oracle::report(&reading, &judged);
+        tally.expect("entry, in between", &text, &report, entry::report(&text, 0));
+        tally.expect("pieces, in between", &text, &report, streaming::report(&text, streaming::way(&text)));
         feeding::expect(tally, "in between", &feeding::records(&text), &reading, &judged);
     }
 }
@@ -147,6 +157,8 @@ fn run_one(tally: &mut Tally, random: &mut Random, name: &str, shape: &Shape, or
     }
     tally.see("recordings with a mark", reading.recording.iter().any(|record| matches!(record, oracle::Record::Lost(_))) as usize);
     tally.expect(&format!("entry, {name}"), &text, &report, entry::report(&text, random.below(70)));
+    let cuts = streaming::way(&text);
+    tally.expect(&format!("pieces, {name}, cut {cuts:?}"), &text, &report, streaming::report(&text, cuts));
     feeding::expect(tally, name, &feeding::records(&text), &reading, &judged);
     run_row_11(tally, &text);
     if let Some((order, cuts)) = order {
@@ -230,6 +242,9 @@ fn run_all(order: Option<&str>) {
     tally.part("examples");
     run_full(&mut tally, order);
     tally.part("row 5");
+    if let Some(order) = order {
+        pauses::run(&mut tally, order);
+    }
     run_between(&mut tally);
     tally.part("every short recording between two writes");
     on_threads(&mut tally, |first| run_generated(first, order));

@@ -1,5 +1,5 @@
-/* The C entry, the running state and the sets in memory allotted to the byte, to be run under valgrind: they must touch nothing beyond
- * it and use nothing unset. */
+/* The C entry, texts in pieces, the running state and the sets in memory allotted to the byte, to be run under valgrind: they must touch
+ * nothing beyond it and use nothing unset. */
 #include <stdio.h>
 #include <stdlib.h>
 #include <string.h>
@@ -88,6 +88,63 @@ static void fed(const char *name, begin_call *begin, feed_call *feed, size_t siz
     free(full);
 }
 
+/* The whole state in memory of its own. */
+static void fed_whole(void) {
+    struct order_state *state = malloc(sizeof *state);
+    if (!state) abort();
+    order_state_begin(state);
+    int right = 1;
+    for (uint32_t i = 0; i < 500; i++) {
+        uint32_t *answer = cells(3);
+        order_step(state, (uint8_t)(i % 11), i / 11 % 18, i % 67, answer);
+        right = right && answer[0] <= ORDER_DOUBT && answer[1] > 0 && (answer[2] > 0) == (answer[0] >= ORDER_RACE);
+        free(answer);
+    }
+    right = right && sum((const uint32_t *)state, sizeof *state / sizeof(uint32_t)) > 0;
+    if (right) {
+        passed++;
+    } else {
+        failed++;
+        printf("FAILED: an answer or a table of the whole state\n");
+    }
+    free(state);
+}
+
+/* One piece in memory of its own, with as much for its report as it wants. Answers how much was written, after what was before. */
+static size_t piece(struct order_text *kept, const char *text, size_t len, uint8_t *whole, size_t before) {
+    uint8_t *lent = malloc(len ? len : 1);
+    uint8_t *report = malloc(len ? 64 * len : 1);
+    if (!lent || !report) abort();
+    memcpy(lent, text, len);
+    uint64_t n = order_text_piece(kept, lent, len, report, 64 * len);
+    if (n > 64 * len) abort();
+    memcpy(whole + before, report, (size_t)n);
+    free(lent);
+    free(report);
+    return before + (size_t)n;
+}
+
+/* A text in pieces of one size, what is kept being unset before its begin, against the report of the whole text. */
+static void cut(const char *text, size_t len, size_t size) {
+    size_t most = 64 * lines(text, len), total = 0;
+    uint8_t *expected = malloc(most), *whole = malloc(most);
+    struct order_text *kept = malloc(sizeof *kept);
+    if (!expected || !whole || !kept) abort();
+    order_text_begin(kept);
+    for (size_t at = 0; at < len; at += size) total = piece(kept, text + at, len - at < size ? len - at : size, whole, total);
+    if (kept->progress[1] > 0) total = piece(kept, "\n", 1, whole, total);
+    uint64_t n = order_report((const uint8_t *)text, len, expected, most);
+    if (total == n && memcmp(whole, expected, total) == 0) {
+        passed++;
+    } else {
+        failed++;
+        printf("FAILED: a text in pieces of %zu: %zu bytes of report\n", size, total);
+    }
+    free(expected);
+    free(whole);
+    free(kept);
+}
+
 int main(void) {
     static const char sample[] =
         "op=start task=0 on=1\nop=write task=0 on=5\nop=give task=0 on=31\nop=set task=0 on=31\nop=lost tasks=3\nop=take task=1 on=31\n"
@@ -101,7 +158,9 @@ int main(void) {
     for (size_t cut = 1; cut < len; cut += 5) around(sample, cut);
     for (size_t cut = 1; cut < len; cut += 23) around(sample + cut, len - cut);
     for (size_t length = 0; length < 64; length++) call("op=read task=0 on=1", 19, length, 0);
+    for (size_t size = 1; size <= len; size = size < 70 ? size + 1 : 2 * size) cut(sample, len, size);
     fed("clocks", order_begin, order_feed, ORDER_CLOCK_CELLS);
+    fed_whole();
     fed("sets", order_sets_begin, order_sets_feed, ORDER_SET_CELLS);
     printf("memory: %d passed, %d failed\n", passed, failed);
     return failed != 0;

@@ -1,58 +1,16 @@
 //! The program `order`, fed through a pipe in pieces.
 
-use crate::generate::Random;
+use crate::cuts::{pieces, Cuts};
 use std::io::{Read, Write};
 use std::os::fd::{AsRawFd, RawFd};
 use std::process::{Child, Command, Stdio};
 use std::time::{Duration, Instant};
 
-const PATIENCE: Duration = Duration::from_secs(30);
+pub const PATIENCE: Duration = Duration::from_secs(30);
 const FIONREAD: u64 = 0x541b;
 
 extern "C" {
     fn ioctl(fd: i32, request: u64, ...) -> i32;
-}
-
-/// Where the text is cut into pieces.
-#[derive(Clone, Copy, Debug)]
-pub enum Cuts {
-    Nowhere,
-    /// Pieces of so many bytes.
-    Every(usize),
-    BeforeLf,
-    AfterLf,
-    MidLine,
-    /// Pieces of some twenty bytes, by this seed.
-    Anywhere(u64),
-}
-
-pub const WAYS: [Cuts; 6] = [Cuts::Nowhere, Cuts::Every(1), Cuts::BeforeLf, Cuts::AfterLf, Cuts::MidLine, Cuts::Anywhere(1)];
-
-fn pieces(text: &[u8], cuts: Cuts) -> Vec<&[u8]> {
-    let mut random = Random::new(if let Cuts::Anywhere(seed) = cuts { seed } else { 0 });
-    let cut_after = |at: usize| -> bool {
-        match cuts {
-            Cuts::Nowhere => false,
-            Cuts::Every(size) => (at + 1) % size == 0,
-            Cuts::BeforeLf => text.get(at + 1) == Some(&b'\n'),
-            Cuts::AfterLf => text[at] == b'\n',
-            Cuts::MidLine => text[at] == b'=' || text[at] == b' ',
-            Cuts::Anywhere(_) => random.percent(5),
-        }
-    };
-    split_after(text, cut_after)
-}
-
-fn split_after(text: &[u8], mut cut_after: impl FnMut(usize) -> bool) -> Vec<&[u8]> {
-    let mut list = Vec::new();
-    let mut from = 0;
-    for at in 0..text.len() {
-        if cut_after(at) || at + 1 == text.len() {
-            list.push(&text[from..=at]);
-            from = at + 1;
-        }
-    }
-    list
 }
 
 /// Waits until the program has taken all that was written, so that no read of it gets two pieces at once.
@@ -85,7 +43,7 @@ fn feed(child: &mut Child, pieces: &[&[u8]], since: Instant) -> Result<(), Strin
     Ok(())
 }
 
-fn ended(child: &mut Child, since: Instant) -> Result<(), String> {
+pub fn ended(child: &mut Child, since: Instant) -> Result<(), String> {
     while since.elapsed() < PATIENCE {
         match child.try_wait().map_err(|e| e.to_string())? {
             Some(status) if status.success() => return Ok(()),
@@ -96,14 +54,16 @@ fn ended(child: &mut Child, since: Instant) -> Result<(), String> {
     Err("the program does not end".to_string())
 }
 
+/// Starts the program, with pipes to it and from it.
+pub fn start(program: &str) -> Result<Child, String> {
+    let pipes = Command::new(program).stdin(Stdio::piped()).stdout(Stdio::piped()).spawn();
+    pipes.map_err(|e| format!("{program} cannot be started: {e}"))
+}
+
 /// Runs the program on a text and answers what it wrote to standard output.
 pub fn report(program: &str, text: &[u8], cuts: Cuts) -> Result<Vec<u8>, String> {
     let since = Instant::now();
-    let mut child = Command::new(program)
-        .stdin(Stdio::piped())
-        .stdout(Stdio::piped())
-        .spawn()
-        .map_err(|e| format!("{program} cannot be started: {e}"))?;
+    let mut child = start(program)?;
     let mut output = child.stdout.take().unwrap();
     let reader = std::thread::spawn(move || {
         let mut wrote = Vec::new();

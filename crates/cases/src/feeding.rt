@@ -7,6 +7,11 @@ use crate::source::tell_nth;
 use crate::telling::line;
 use crate::telling::tell;
 use crate::text;
+use theory::Record;
+use theory::State;
+use theory::Stepped;
+ghost use mathlib.Core.Path.{_≡_};
+ghost use Rattle.theory.specs.feeding.Step.{stepOf};
 
 fn by_clocks(source: Source, text: &[u8]) {
     let s = checker::fresh();
@@ -51,15 +56,59 @@ pub(crate) fn run_clocks(name: &[u8], source: Source, text: &[u8]) {
     by_clocks(source, text);
 }
 
-pub(crate) fn run_by_value(name: &[u8], text: &[u8]) {
-    line(name);
+// Lends a state to `feed`, which changes it.
+fn lent(state: State, r: Record) -> Stepped
+    ensures { λ p. ⌜ p ≡ stepOf state r ⌝ }
+{
+    let mut running = state;
+    let answer = checker::feed(&mut running, r);
+    Stepped {
+        state: running,
+        answer,
+    }
+}
+
+// The step of a state that is lent, or handed over by value: the same.
+fn stepped(lending: bool, state: State, r: Record) -> Stepped
+    ensures { λ p. ⌜ p ≡ stepOf state r ⌝ }
+{
+    if lending {
+        return lent(state, r);
+    }
+    checker::step(state, r)
+}
+
+fn by_value(lending: bool, text: &[u8]) {
     let mut state = checker::fresh();
     for n in 0..text::count(text) {
-        let stepped = checker::step(state, text::nth(text, n));
-        let a = stepped.answer;
+        let after = stepped(lending, state, text::nth(text, n));
+        let a = after.answer;
         tell(a);
-        state = stepped.state;
+        state = after.state;
     }
+}
+
+fn sets_by_value(text: &[u8]) {
+    let mut state = checker::fresh_sets();
+    for n in 0..text::count(text) {
+        let after = checker::set_step(state, text::nth(text, n));
+        let a = after.answer;
+        tell(a);
+        state = after.state;
+    }
+}
+
+// A state that is handed over whole: by value, the clocks and the sets, and lent.
+pub(crate) fn run_whole(name: &[u8], text: &[u8]) {
+    io::write_all(1, name);
+    line(b" by value");
+    by_value(false, text);
+    io::write_all(1, name);
+    line(b" sets by value");
+    sets_by_value(text);
+    io::write_all(1, name);
+    line(b" lent");
+    by_value(true, text);
 }
 
 // One record, of any numbers, fed to a fresh state.

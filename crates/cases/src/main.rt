@@ -1,4 +1,5 @@
 // Feeds the recordings of document 01 to the order checker and prints each answer. The file `stdout` has what document 01 says.
+mod asking;
 mod edges;
 mod feeding;
 mod full;
@@ -12,7 +13,7 @@ fn main() {
     recordings::short();
     recordings::lossy();
     recordings::longer();
-    recordings::by_value();
+    recordings::whole();
     recordings::refused();
     edges::rows();
     edges::first_row();

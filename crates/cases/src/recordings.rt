@@ -1,8 +1,9 @@
 // The recordings of document 01, and a few more.
+use crate::asking::run_asking;
 use crate::feeding::run;
-use crate::feeding::run_by_value;
 use crate::feeding::run_clocks;
 use crate::feeding::run_source;
+use crate::feeding::run_whole;
 use crate::source::Source;
 
 // Short recordings without loss.
@@ -36,10 +37,14 @@ pub(crate) fn longer() {
     run(b"report", b"0+1 0w5 0g2 0w6 _?2 1r5 1r6 1t2 1w5 2r5");
 }
 
-pub(crate) fn by_value() {
-    run_by_value(b"K9 by value", b"0+1 0w5 _?3 1w5");
-    run_by_value(b"K12 by value", b"0+1 0w5 _?1 _?2 1w5");
-    run_by_value(b"K12 reversed by value", b"0+1 0w5 _?2 _?1 1w5");
+// States that are handed over whole, and asked before each record.
+pub(crate) fn whole() {
+    run_whole(b"K9", b"0+1 0w5 _?3 1w5");
+    run_whole(b"K12", b"0+1 0w5 _?1 _?2 1w5");
+    run_whole(b"K12 reversed", b"0+1 0w5 _?2 _?1 1w5");
+    run_asking(b"K9", b"0+1 0w5 _?3 1w5");
+    run_asking(b"K10", b"0+1 0w5 _?2 1w5");
+    run_asking(b"refused", b"0+1 0w5 2r5 1-1");
 }
 
 // Refused records between accepted ones.

@@ -1,5 +1,6 @@
 // What is printed of an answer: a line each.
 use theory::Answer;
+use theory::Masks;
 use theory::RecordNumber;
 
 pub(crate) fn line(text: &[u8]) {
@@ -46,4 +47,13 @@ pub(crate) fn tell_numbered(a: Answer) {
         io::write_all(1, b" ");
     }
     tell(a);
+}
+
+// What is known of a record before it is fed: the row that would refuse it, and the masks of tasks apart from it.
+pub(crate) fn tell_asked(row: u32, m: Masks) {
+    io::write_all(1, b"row ");
+    number(row);
+    io::write_all(1, b" full ");
+    number(m.full as u32);
+    told(b" arrived ", m.arrived as u32);
 }

@@ -1,6 +1,8 @@
 // Which tasks' latest conflicting access has no path to an access, asked without feeding it: a mask for the fullest filling and one for
 // the recording as it arrived. Empty for a record that is no access or would be refused.
 use crate::clocks::clock_masks;
+use crate::history::is_access;
+use crate::masks::no_masks;
 use crate::refusals::refusal;
 use crate::sets::set_masks;
 use theory::Clocks;
@@ -9,6 +11,8 @@ use theory::History;
 use theory::Masks;
 use theory::Record;
 use theory::Sets;
+use theory::Task;
+use theory::Variable;
 ghost use mathlib.Core.Path.{_≡_};
 ghost use Rattle.theory.specs.feeding.Step.{apartByClocks, apartBySets};
 ghost use Rattle.theory.specs.feeding.Lent.{tables, setTables};
@@ -25,12 +29,13 @@ pub fn apart_by_clocks(
 {
     let refused = refusal(control, r);
     if refused != 0 {
-        return Masks {
-            full: 0,
-            arrived: 0,
-        };
+        return no_masks();
     }
-    clock_masks(clocks, fullclocks, last, r.kind, r.task, r.on)
+    let kind = r.kind;
+    if is_access(kind) {
+        return clock_masks(clocks, fullclocks, last, kind, Task(r.task), Variable(r.on));
+    }
+    no_masks()
 }
 
 // By the sets.
@@ -45,10 +50,11 @@ pub fn apart_by_sets(
 {
     let refused = refusal(control, r);
     if refused != 0 {
-        return Masks {
-            full: 0,
-            arrived: 0,
-        };
+        return no_masks();
     }
-    set_masks(sets, fullsets, last, r.kind, r.task, r.on)
+    let kind = r.kind;
+    if is_access(kind) {
+        return set_masks(sets, fullsets, last, kind, Task(r.task), Variable(r.on));
+    }
+    no_masks()
 }

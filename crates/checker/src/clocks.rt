@@ -1,39 +1,44 @@
-// Clocks: a table of 81 rows and a column for each task, and one row more that says which tasks have acted. A cell has the number of the
-// task's last record from which order has come to the row's node. One table is for the recording as it arrived, one for the fullest filling.
+// Clocks: a table with a row for each node and a column for each task, and one row more that says which tasks have acted. A cell has the
+// number of the task's last record from which order has come to the row's node. One table is for the recording as it arrived, one for the
+// fullest filling.
+use crate::bools::either;
 use crate::history::ask_at;
-use crate::history::is_access;
 use crate::history::slot;
 use crate::masks::lower_half;
 use crate::masks::weight_of;
-use crate::refusals::either;
-use crate::rows::HUB;
 use crate::rows::acquired_row;
 use crate::rows::acted_after;
 use crate::rows::has_bit;
 use crate::rows::named_row;
 use crate::rows::released_by;
 use crate::rows::released_row;
+use crate::rows::task_row;
+use theory::ACTED;
+use theory::COLUMNS;
 use theory::Clocks;
+use theory::FIRST_SEMAPHORE;
+use theory::HUB;
 use theory::History;
 use theory::JOIN;
-use theory::LOST;
 use theory::Masks;
+use theory::RecordNumber;
+use theory::TASKS;
 use theory::Task;
 use theory::Variable;
 ghost use mathlib.Core.Path.{_≡_};
 ghost use Prim.Native.Nat.{_<_, _≤_, _+_, _%_, _^_, max};
 ghost use lib.Dec.{ltb};
 ghost use lib.ListN.{getD};
-ghost use Rattle.theory.specs.history.History.{slots};
-ghost use Rattle.theory.specs.tables.Rows.{joinRow, rowOf, joinWith, acquiredWith, putRow, flow, joinsActed, onward, gather, spread, noteNamed, mix};
-ghost use Rattle.theory.specs.fillings.Completion.{arrived, full};
-ghost use Rattle.theory.specs.tables.Reckonings.{clockOwn, clocksBy, maskOf, clockMasks};
-ghost use Rattle.theory.specs.order.Limits.{tasks, variables};
+ghost use Rattle.theory.specs.order.Limits.{tasks};
 ghost use Rattle.theory.specs.order.Recording.{Op, kind as number};
-ghost use Rattle.theory.specs.acceptance.Table.{Fitting, Proper};
+ghost use Rattle.theory.specs.acceptance.Table.{Fitting};
+ghost use Rattle.theory.specs.history.History.{slots};
+ghost use Rattle.theory.specs.tables.Rows.{actedRow, cellCount, cell, joinRow, rowOf, joinWith, acquiredWith, putRow, flow, joinsActed, onward, gather, spread, noteNamed, mix};
+ghost use Rattle.theory.specs.tables.Reckonings.{clockOwn, maskOf, clockMask, masksBy};
+ghost use Rattle.theory.proofs.history.Accesses.{OfAccess};
 
 // Where the row of what has acted begins.
-const ACTED: usize = 1296;
+const FIRST_ACTED: usize = ACTED * COLUMNS;
 
 fn greater(a: u32, b: u32) -> u32
     ensures { λ r. ⌜ r ≡ max a b ⌝ }
@@ -43,84 +48,85 @@ fn greater(a: u32, b: u32) -> u32
 
 // What row `from` knows is known to row `to` as well.
 fn join_row(cells: &mut Clocks, to: usize, from: usize)
-    requires { ⌜ (to < 82) × (from < 82) ⌝ }
+    requires { ⌜ (to ≤ actedRow) × (from ≤ actedRow) ⌝ }
     ensures { λ _. ⌜ now (cells .exit) ≡ joinRow max tasks to from (now (cells .entry)) ⌝ }
 {
     if to == from {
         return;
     }
     let mut c = 0;
-    while c < 16 {
-        cells[to * 16 + c] = greater(cells[to * 16 + c], cells[from * 16 + c]);
+    while c < COLUMNS {
+        cells[to * COLUMNS + c] = greater(cells[to * COLUMNS + c], cells[from * COLUMNS + c]);
         c += 1;
     }
 }
 
 // A row by itself.
-fn row_of(cells: &Clocks, from: usize) -> [u32; 16]
-    requires { ⌜ from < 82 ⌝ }
+fn row_of(cells: &Clocks, from: usize) -> [u32; COLUMNS]
+    requires { ⌜ from ≤ actedRow ⌝ }
     ensures { λ r. ⌜ r ≡ rowOf tasks from (now (cells .entry)) ⌝ }
 {
-    let mut row = [0u32; 16];
+    let mut row = [0u32; COLUMNS];
     let mut c = 0;
-    while c < 16 {
-        row[c] = cells[from * 16 + c];
+    while c < COLUMNS {
+        row[c] = cells[from * COLUMNS + c];
         c += 1;
     }
     row
 }
 
 // What a row that stands by itself knows is known to row `to` as well.
-fn join_with(cells: &mut Clocks, to: usize, row: &[u32; 16])
-    requires { ⌜ to < 82 ⌝ }
+fn join_with(cells: &mut Clocks, to: usize, row: &[u32; COLUMNS])
+    requires { ⌜ to ≤ actedRow ⌝ }
     ensures { λ _. ⌜ now (cells .exit) ≡ joinWith max tasks to (now (row .entry)) (now (cells .entry)) ⌝ }
 {
     let mut c = 0;
-    while c < 16 {
-        cells[to * 16 + c] = greater(cells[to * 16 + c], row[c]);
+    while c < COLUMNS {
+        cells[to * COLUMNS + c] = greater(cells[to * COLUMNS + c], row[c]);
         c += 1;
     }
 }
 
 // Row `to` with the cells of a row that stands by itself.
-fn put_row(cells: &mut Clocks, to: usize, row: &[u32; 16])
-    requires { ⌜ to < 82 ⌝ }
+fn put_row(cells: &mut Clocks, to: usize, row: &[u32; COLUMNS])
+    requires { ⌜ to ≤ actedRow ⌝ }
     ensures { λ _. ⌜ now (cells .exit) ≡ putRow tasks to (now (row .entry)) (now (cells .entry)) ⌝ }
 {
     let mut c = 0;
-    while c < 16 {
-        cells[to * 16 + c] = row[c];
+    while c < COLUMNS {
+        cells[to * COLUMNS + c] = row[c];
         c += 1;
     }
 }
 
 // Order over an act: the task's next act knows what the acquired row knows; from a copy that stays in registers it is passed on, to an object
 // and to the hub alike.
-fn flow(cells: &mut Clocks, asked: bool, acquired: usize, released: usize, task: usize)
-    requires { ⌜ (acquired < 82) × (released < 82) × (task < tasks) ⌝ }
-    ensures { λ _. ⌜ now (cells .exit) ≡ flow max tasks asked acquired released task (now (cells .entry)) ⌝ }
+fn flow(cells: &mut Clocks, asked: bool, acquired: usize, released: usize, task: Task)
+    requires { ⌜ (acquired ≤ actedRow) × (released ≤ actedRow) × (task .0 < tasks) ⌝ }
+    ensures { λ _. ⌜ now (cells .exit) ≡ flow max tasks asked acquired released (task .0) (now (cells .entry)) ⌝ }
 {
-    join_row(cells, task, acquired);
-    if released == task {
+    let own = task_row(task);
+    join_row(cells, own, acquired);
+    if released == own {
         return;
     }
-    let row = row_of(cells, task);
+    let row = row_of(cells, own);
     join_with(cells, released, &row);
-    if either(released < 16, !asked) {
+    if either(released < FIRST_SEMAPHORE, !asked) {
         return;
     }
     join_with(cells, HUB, &row);
 }
 
 // A row by itself with what row `from` knows, too.
-fn acquired_with(cells: &Clocks, from: usize, row: &[u32; 16]) -> [u32; 16]
-    requires { ⌜ from < 82 ⌝ }
+fn acquired_with(cells: &Clocks, from: usize, row: &[u32; COLUMNS]) -> [u32; COLUMNS]
+    requires { ⌜ from ≤ actedRow ⌝ }
     ensures { λ r. ⌜ r ≡ acquiredWith max tasks from (now (row .entry)) (now (cells .entry)) ⌝ }
 {
-    let mut next = [0u32; 16];
+    let mut next = [0u32; COLUMNS];
     let mut c = 0;
-    while c < 16 {
-        next[c] = greater(row[c], cells[from * 16 + c]);
+    while c < COLUMNS {
+        next[c] = greater(row[c], cells[from * COLUMNS + c]);
         c += 1;
     }
     next
@@ -130,10 +136,10 @@ fn acquired_with(cells: &Clocks, from: usize, row: &[u32; 16]) -> [u32; 16]
 fn gather(cells: &mut Clocks, mask: u32)
     ensures { λ _. ⌜ now (cells .exit) ≡ gather max tasks mask (now (cells .entry)) ⌝ }
 {
-    let mut known = [0u32; 16];
+    let mut known = [0u32; COLUMNS];
     let mut t = 0;
-    while t < 16 {
-        let next = acquired_with(cells, named_row(mask, t), &known);
+    while t < TASKS {
+        let next = acquired_with(cells, named_row(mask, Task(t)), &known);
         known = next;
         t += 1;
     }
@@ -147,7 +153,7 @@ fn spread(cells: &mut Clocks, mask: u32)
 {
     let hub = row_of(cells, HUB);
     let mut r = 0;
-    while r < 16 {
+    while r < FIRST_SEMAPHORE {
         put_row(cells, released_by(mask, r), &hub);
         r += 1;
     }
@@ -157,19 +163,19 @@ fn spread(cells: &mut Clocks, mask: u32)
     }
 }
 
-// The tasks that the mask names have acted.
+// The tasks that the mask names have acted. The loop is over the columns of one row, which are the tasks by their numbers.
 fn note_named(cells: &mut Clocks, mask: u32)
     ensures { λ _. ⌜ now (cells .exit) ≡ noteNamed tasks mask (now (cells .entry)) ⌝ }
 {
-    let mut t = 0;
-    while t < 16 {
-        cells[ACTED + t] = acted_after(has_bit(mask, t as u32), cells[ACTED + t]);
-        t += 1;
+    let mut c = 0;
+    while c < COLUMNS {
+        cells[FIRST_ACTED + c] = acted_after(has_bit(mask, Task(c as u32)), cells[FIRST_ACTED + c]);
+        c += 1;
     }
 }
 
 // The fullest filling of a mark.
-fn mix(cells: &mut Clocks, mask: u32)
+pub(crate) fn mix(cells: &mut Clocks, mask: u32)
     ensures { λ _. ⌜ now (cells .exit) ≡ mix max tasks mask (now (cells .entry)) ⌝ }
 {
     gather(cells, mask);
@@ -177,106 +183,82 @@ fn mix(cells: &mut Clocks, mask: u32)
     note_named(cells, mask);
 }
 
+// Whether a task has acted.
+fn has_acted(cells: &Clocks, t: Task) -> bool
+    requires { ⌜ t .0 < tasks ⌝ }
+    ensures { λ r. ⌜ r ≡ ltb 0 (cell tasks (now (cells .entry)) actedRow (t .0)) ⌝ }
+{
+    0 < cells[FIRST_ACTED + t.0 as usize]
+}
+
 // An act joins a task that has acted.
 fn joins_acted(cells: &Clocks, kind: u8, on: u32) -> bool
     requires { ⌜ (kind ≡ number Op.join → on < tasks) ⌝ }
     ensures { λ r. ⌜ r ≡ joinsActed tasks (now (cells .entry)) kind on ⌝ }
 {
-    if kind == JOIN {
-        0 < cells[ACTED + on as usize]
-    } else {
-        false
+    match kind {
+        JOIN => has_acted(cells, Task(on)),
+        _ => false,
     }
 }
 
 // Order over an act of a kind.
-fn pass_on(cells: &mut Clocks, asked: bool, kind: u8, task: u32, on: u32)
-    requires { ⌜ Fitting kind task on ⌝ }
-    ensures { λ _. ⌜ now (cells .exit) ≡ onward max tasks asked kind task on (now (cells .entry)) ⌝ }
+pub(crate) fn pass_on(cells: &mut Clocks, asked: bool, kind: u8, task: Task, on: u32)
+    requires { ⌜ Fitting kind (task .0) on ⌝ }
+    ensures { λ _. ⌜ now (cells .exit) ≡ onward max tasks asked kind (task .0) on (now (cells .entry)) ⌝ }
 {
     let joins = joins_acted(cells, kind, on);
     flow(
         cells,
         asked,
-        acquired_row(kind, Task(task), on, joins),
-        released_row(kind, Task(task), on),
-        task as usize,
+        acquired_row(kind, task, on, joins),
+        released_row(kind, task, on),
+        task,
     );
 }
 
 // An act's own part: the task's own cell is the act's number, and the task has acted.
-fn own(cells: &mut Clocks, task: u32, number: u32)
-    requires { ⌜ task < tasks ⌝ }
-    ensures { λ _. ⌜ now (cells .exit) ≡ clockOwn task number (now (cells .entry)) ⌝ }
+pub(crate) fn own(cells: &mut Clocks, task: Task, number: RecordNumber)
+    requires { ⌜ task .0 < tasks ⌝ }
+    ensures { λ _. ⌜ now (cells .exit) ≡ clockOwn (task .0) (number .0) (now (cells .entry)) ⌝ }
 {
-    let t = task as usize;
-    cells[t * 16 + t] = number;
-    cells[ACTED + t] = 1;
+    let t = task.0 as usize;
+    cells[task_row(task) * COLUMNS + t] = number.0;
+    cells[FIRST_ACTED + t] = 1;
 }
 
-// Both tables after an accepted record. An access acquires from and releases to no other row.
-pub(crate) fn advance_clocks(
-    clocks: &mut Clocks,
-    fullclocks: &mut Clocks,
-    kind: u8,
-    task: u32,
-    on: u32,
-    number: u32,
-)
-    requires { ⌜ Proper kind task on ⌝ }
-    ensures { λ _. ⌜ (now (clocks .exit) ≡ clocksBy arrived kind task on number (now (clocks .entry)))
-        × (now (fullclocks .exit) ≡ clocksBy full kind task on number (now (fullclocks .entry))) ⌝ }
-{
-    if kind == LOST {
-        mix(fullclocks, on);
-        return;
-    }
-    own(clocks, task, number);
-    own(fullclocks, task, number);
-    if is_access(kind) {
-        return;
-    }
-    pass_on(clocks, false, kind, task, on);
-    pass_on(fullclocks, true, kind, task, on);
-}
-
-// The mask of an access in one filling, twice in a word, from the task's row of clocks and from what the history has for its kind: the tasks whose latest
-// conflicting access the row does not know.
+// The mask of an access in one filling, twice in a word, from where the task's row of clocks begins and where what the history has for its kind
+// does: the tasks whose latest conflicting access the row does not know. The loop is over columns, which are the tasks by their numbers.
 fn mask(cells: &Clocks, last: &History, row: usize, from: usize) -> u32
-    requires { ⌜ (row + tasks ≤ 1312) × (from + tasks ≤ slots) ⌝ }
-    ensures { λ r. ⌜ r % 2 ^ 16 ≡ maskOf (λ u. ltb (getD (now (cells .entry)) (row + u) 0) (getD (now (last .entry)) (from + u) 0)) ⌝ }
+    requires { ⌜ (row + tasks ≤ cellCount tasks) × (from + tasks ≤ slots) ⌝ }
+    ensures { λ r. ⌜ r % 2 ^ tasks ≡ maskOf (λ u. ltb (getD (now (cells .entry)) (row + u) 0) (getD (now (last .entry)) (from + u) 0)) ⌝ }
 {
     let mut x: u32 = 0;
-    let mut u: usize = 0;
-    while u < 16 {
-        x = x | weight_of(cells[row + u] < last[from + u], u as u32);
-        u += 1;
+    let mut c: usize = 0;
+    while c < COLUMNS {
+        x = x | weight_of(cells[row + c] < last[from + c], Task(c as u32));
+        c += 1;
     }
     x
 }
 
-// The masks of the tasks whose latest conflicting access has no path to this access; empty for any other record.
+// The masks of the tasks whose latest conflicting access has no path to this access.
 pub(crate) fn clock_masks(
     clocks: &Clocks,
     fullclocks: &Clocks,
     last: &History,
     kind: u8,
-    task: u32,
-    on: u32,
+    task: Task,
+    v: Variable,
 ) -> Masks
-    requires { ⌜ Proper kind task on ⌝ }
-    ensures { λ r. ⌜ r ≡ clockMasks (now (clocks .entry)) (now (fullclocks .entry)) (now (last .entry)) kind task on ⌝ }
+    requires { ⌜ OfAccess kind (task .0) (v .0) ⌝ }
+    ensures { λ r. ⌜ r ≡ masksBy (clockMask (now (fullclocks .entry)) (now (last .entry)) kind (task .0) (v .0))
+        (clockMask (now (clocks .entry)) (now (last .entry)) kind (task .0) (v .0)) ⌝ }
 {
-    if is_access(kind) {
-        let row = task as usize * 16;
-        let from = slot(ask_at(kind), Variable(on), Task(0));
-        return Masks {
-            full: lower_half(mask(fullclocks, last, row, from)),
-            arrived: lower_half(mask(clocks, last, row, from)),
-        };
-    }
+    let row = task_row(task) * COLUMNS;
+    let from = slot(ask_at(kind), v, Task(0));
     Masks {
-        full: 0,
-        arrived: 0,
+        full: lower_half(mask(fullclocks, last, row, from)),
+        arrived: lower_half(mask(clocks, last, row, from)),
     }
 }

@@ -1,5 +1,7 @@
 // The order checker below the text layer: the code, each function proved against the definitions of crates/theory.
+mod acting;
 mod asking;
+mod bools;
 mod clocks;
 mod control;
 mod history;

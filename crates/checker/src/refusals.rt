@@ -1,8 +1,11 @@
 // Which records are refused, and by which row of the refusal table. crates/theory/specs/acceptance/Table.antt has the rows, and each test here is one of them.
-use crate::control::COUNT;
+use crate::bools::both;
+use crate::bools::either;
 use crate::control::is_live;
 use crate::control::is_unseen;
+use crate::masks::MASKS;
 use crate::rows::has_bit;
+use theory::COUNT;
 use theory::Control;
 use theory::GIVE;
 use theory::JOIN;
@@ -19,32 +22,22 @@ use theory::SET;
 use theory::START;
 use theory::TAKE;
 use theory::TASKS;
+use theory::Task;
 ghost use mathlib.Core.Path.{_≡_};
-ghost use mathlib.Core.Bool.{not, _&&_, _||_};
+ghost use mathlib.Core.Bool.{cond, not, _&&_, _||_};
 ghost use Prim.Native.Nat.{_<_, _^_};
 ghost use lib.Dec.{leb, eqb};
 ghost use Rattle.theory.specs.order.Limits.{tasks, records};
-ghost use Rattle.theory.specs.order.Recording.{Op, kind as number, lossMark, seriesOf};
+ghost use Rattle.theory.specs.order.Recording.{lossMark, seriesOf};
 ghost use Rattle.theory.proofs.acceptance.Rows.{OfAct};
 ghost use Rattle.theory.specs.fillings.Completion.{names};
 ghost use Rattle.theory.specs.acceptance.Table.{anyBelow};
-ghost use Rattle.theory.specs.acceptance.Control.{liveIn, unseenIn, countIn, refusalIn};
+ghost use Rattle.theory.specs.acceptance.Control.{liveIn, unseenIn, countIn, controlRefusal};
 
-// Every mask is below this: it has a bit for each task.
-const MASKS: u32 = 1 << TASKS;
+// The last number of a kind, and the last mask.
+const LAST_KIND: u8 = KINDS - 1;
 
-// `||` and `&&` as calls, so that no branches are left to join where they stand.
-pub(crate) fn either(a: bool, b: bool) -> bool
-    ensures { λ r. ⌜ r ≡ (a || b) ⌝ }
-{
-    if a { true } else { b }
-}
-
-pub(crate) fn both(a: bool, b: bool) -> bool
-    ensures { λ r. ⌜ r ≡ (a && b) ⌝ }
-{
-    if a { b } else { false }
-}
+const LAST_MASK: u32 = MASKS - 1;
 
 // Row 3: the number is none of the kind's series.
 fn outside(kind: u8, on: u32) -> bool
@@ -77,43 +70,37 @@ fn full(control: &Control) -> bool
     RECORDS <= control[COUNT]
 }
 
-// Row 7: a start of a task that is not unseen.
-fn starts_seen(control: &Control, kind: u8, on: u32) -> bool
-    requires { ⌜ (kind ≡ number Op.start → on < tasks) ⌝ }
-    ensures { λ r. ⌜ r ≡ (eqb kind (number Op.start) && not (unseenIn (now (control .entry)) on)) ⌝ }
+// Row 7, for a start: the task that it names is not unseen.
+fn start_refusal(control: &Control, named: Task) -> u32
+    requires { ⌜ named .0 < tasks ⌝ }
+    ensures { λ n. ⌜ n ≡ cond (not (unseenIn (now (control .entry)) (named .0))) 7 0 ⌝ }
 {
-    if kind == START {
-        !is_unseen(control, on as usize)
-    } else {
-        false
+    if !is_unseen(control, named) {
+        return 7;
     }
+    0
 }
 
-// Row 8: a join of the acting task itself.
-fn joins_itself(kind: u8, task: u32, on: u32) -> bool
-    ensures { λ r. ⌜ r ≡ (eqb kind (number Op.join) && eqb on task) ⌝ }
+// Rows 8 and 9, for a join: of the acting task itself, and of a task that is not live.
+fn join_refusal(control: &Control, task: Task, named: Task) -> u32
+    requires { ⌜ named .0 < tasks ⌝ }
+    ensures { λ n. ⌜ n ≡ cond (eqb (named .0) (task .0)) 8 (cond (not (liveIn (now (control .entry)) (named .0))) 9 0) ⌝ }
 {
-    both(kind == JOIN, on == task)
-}
-
-// Row 9: a join of a task that is not live.
-fn joins_dead(control: &Control, kind: u8, on: u32) -> bool
-    requires { ⌜ (kind ≡ number Op.join → on < tasks) ⌝ }
-    ensures { λ r. ⌜ r ≡ (eqb kind (number Op.join) && not (liveIn (now (control .entry)) on)) ⌝ }
-{
-    if kind == JOIN {
-        !is_live(control, on as usize)
-    } else {
-        false
+    if named.0 == task.0 {
+        return 8;
     }
+    if !is_live(control, named) {
+        return 9;
+    }
+    0
 }
 
 // The mask names the task, and it is not live.
-fn names_dead(control: &Control, mask: u32, t: u32) -> bool
-    requires { ⌜ t < tasks ⌝ }
-    ensures { λ r. ⌜ r ≡ (names mask t && not (liveIn (now (control .entry)) t)) ⌝ }
+fn names_dead(control: &Control, mask: u32, t: Task) -> bool
+    requires { ⌜ t .0 < tasks ⌝ }
+    ensures { λ r. ⌜ r ≡ (names mask (t .0) && not (liveIn (now (control .entry)) (t .0))) ⌝ }
 {
-    both(has_bit(mask, t), !is_live(control, t as usize))
+    both(has_bit(mask, t), !is_live(control, t))
 }
 
 // Row 9: a mark that names a task that is not live.
@@ -123,7 +110,7 @@ fn names_any_dead(control: &Control, mask: u32) -> bool
     let mut found = false;
     let mut t = 0;
     while t < TASKS {
-        found = either(found, names_dead(control, mask, t));
+        found = either(found, names_dead(control, mask, Task(t)));
         t += 1;
     }
     found
@@ -133,13 +120,16 @@ fn names_any_dead(control: &Control, mask: u32) -> bool
 fn no_mask(on: u32) -> bool
     ensures { λ r. ⌜ r ≡ (eqb on 0 || leb (2 ^ tasks) on) ⌝ }
 {
-    either(on == 0, MASKS <= on)
+    match on {
+        1..=LAST_MASK => false,
+        _ => true,
+    }
 }
 
 // The rows that can apply to a mark.
 fn mark_refusal(control: &Control, r: Record) -> u32
     requires { ⌜ r .kind ≡ lossMark ⌝ }
-    ensures { λ n. ⌜ n ≡ refusalIn (now (control .entry)) r ⌝ }
+    ensures { λ n. ⌜ n ≡ controlRefusal (now (control .entry)) r ⌝ }
 {
     if no_mask(r.on) {
         return 4;
@@ -153,12 +143,22 @@ fn mark_refusal(control: &Control, r: Record) -> u32
     0
 }
 
+// Row 2: there is no such task.
+fn no_task(task: u32) -> bool
+    ensures { λ r. ⌜ r ≡ leb tasks task ⌝ }
+{
+    match task {
+        0..=LAST_TASK => false,
+        _ => true,
+    }
+}
+
 // The rows that can apply to an act. Rows 2 and 3 come first, so that those after them find the tasks in the table.
 fn act_refusal(control: &Control, r: Record) -> u32
     requires { ⌜ OfAct r ⌝ }
-    ensures { λ n. ⌜ n ≡ refusalIn (now (control .entry)) r ⌝ }
+    ensures { λ n. ⌜ n ≡ controlRefusal (now (control .entry)) r ⌝ }
 {
-    if TASKS <= r.task {
+    if no_task(r.task) {
         return 2;
     }
     if outside(r.kind, r.on) {
@@ -167,30 +167,28 @@ fn act_refusal(control: &Control, r: Record) -> u32
     if full(control) {
         return 5;
     }
-    if !is_live(control, r.task as usize) {
+    let task = Task(r.task);
+    if !is_live(control, task) {
         return 6;
     }
-    if starts_seen(control, r.kind, r.on) {
-        return 7;
+    let kind = r.kind;
+    match kind {
+        START => start_refusal(control, Task(r.on)),
+        JOIN => join_refusal(control, task, Task(r.on)),
+        _ => 0,
     }
-    if joins_itself(r.kind, r.task, r.on) {
-        return 8;
-    }
-    if joins_dead(control, r.kind, r.on) {
-        return 9;
-    }
-    0
 }
 
 // The number of the first of rows 1 to 9 that applies to the record; 0 where none does.
 pub fn refusal(control: &Control, r: Record) -> u32
-    ensures { λ n. ⌜ n ≡ refusalIn (now (control .entry)) r ⌝ }
+    ensures { λ n. ⌜ n ≡ controlRefusal (now (control .entry)) r ⌝ }
 {
-    if KINDS <= r.kind {
-        return 1;
+    let kind = r.kind;
+    match kind {
+        0..=LAST_KIND => match kind {
+            LOST => mark_refusal(control, r),
+            _ => act_refusal(control, r),
+        },
+        _ => 1,
     }
-    if r.kind == LOST {
-        return mark_refusal(control, r);
-    }
-    act_refusal(control, r)
 }

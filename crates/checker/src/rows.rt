@@ -1,6 +1,10 @@
-// Rows of the clocks' and the sets' tables: which row an act acquires and releases to, and how a row's knowledge goes to another.
+// Rows of the clocks' and the sets' tables: which row an act acquires and releases to, and which rows a mark does.
+use theory::FIRST_FLAG;
+use theory::FIRST_SEMAPHORE;
 use theory::Flag;
 use theory::GIVE;
+use theory::HUB;
+use theory::JOIN;
 use theory::LOOK;
 use theory::SET;
 use theory::START;
@@ -8,16 +12,14 @@ use theory::Semaphore;
 use theory::TAKE;
 use theory::Task;
 ghost use mathlib.Core.Path.{_≡_};
-ghost use mathlib.Core.Bool.{cond};
+ghost use mathlib.Core.Bool.{true, cond};
 ghost use Prim.Native.Nat.{_<_};
 ghost use Rattle.theory.specs.order.Limits.{tasks};
+ghost use Rattle.theory.specs.order.Recording.{Op, kind as number};
 ghost use Rattle.theory.specs.fillings.Completion.{bit};
-ghost use Rattle.theory.specs.tables.Rows.{taskRow, semaphoreRow, flagRow, acquiredRow, releasedRow, isReleased, rowOrHub};
+ghost use Rattle.theory.specs.tables.Rows.{taskRow, semaphoreRow, flagRow, hub, rowCount, acquiredRow, releasedRow, isReleased, rowOrHub};
 
-// The row that knows what any semaphore or flag knows.
-pub(crate) const HUB: usize = 80;
-
-fn task_row(t: Task) -> usize
+pub(crate) fn task_row(t: Task) -> usize
     ensures { λ r. ⌜ r ≡ taskRow (t .0) ⌝ }
 {
     t.0 as usize
@@ -37,23 +39,25 @@ fn task_row_of(first: bool, one: Task, other: Task) -> usize
 fn semaphore_row(s: Semaphore) -> usize
     ensures { λ r. ⌜ r ≡ semaphoreRow (s .0) ⌝ }
 {
-    16 + s.0 as usize
+    FIRST_SEMAPHORE + s.0 as usize
 }
 
 fn flag_row(f: Flag) -> usize
     ensures { λ r. ⌜ r ≡ flagRow (f .0) ⌝ }
 {
-    48 + f.0 as usize
+    FIRST_FLAG + f.0 as usize
 }
 
 // The row that an act acquires beside its own task's; that own row where there is none. A join reads the ended task's, if that has acted.
 pub(crate) fn acquired_row(kind: u8, task: Task, on: u32, joins: bool) -> usize
+    requires { ⌜ (joins ≡ true → kind ≡ number Op.join) ⌝ }
     ensures { λ r. ⌜ r ≡ acquiredRow kind (task .0) on joins ⌝ }
 {
     match kind {
         TAKE => semaphore_row(Semaphore(on)),
         LOOK => flag_row(Flag(on)),
-        _ => task_row_of(joins, Task(on), task),
+        JOIN => task_row_of(joins, Task(on), task),
+        _ => task_row(task),
     }
 }
 
@@ -69,29 +73,29 @@ pub(crate) fn released_row(kind: u8, task: Task, on: u32) -> usize
     }
 }
 
-// Whether the mask has the bit of weight 2 to the power t.
-pub(crate) fn has_bit(mask: u32, t: u32) -> bool
-    requires { ⌜ t < 32 ⌝ }
-    ensures { λ r. ⌜ r ≡ bit mask t ⌝ }
+// Whether the mask names the task, by the bit of weight 2 to the power of its number.
+pub(crate) fn has_bit(mask: u32, t: Task) -> bool
+    requires { ⌜ t .0 < tasks ⌝ }
+    ensures { λ r. ⌜ r ≡ bit mask (t .0) ⌝ }
 {
-    (mask >> t) % 2 == 1
+    (mask >> t.0) % 2 == 1
 }
 
 // The row of task t's next act where the mask names it, and the hub where not.
-pub(crate) fn named_row(mask: u32, t: usize) -> usize
-    requires { ⌜ t < tasks ⌝ }
-    ensures { λ q. ⌜ (q ≡ rowOrHub (bit mask t) t) × (q < 82) ⌝ }
+pub(crate) fn named_row(mask: u32, t: Task) -> usize
+    requires { ⌜ t .0 < tasks ⌝ }
+    ensures { λ q. ⌜ (q ≡ rowOrHub (bit mask (t .0)) (taskRow (t .0))) × (q < rowCount) ⌝ }
 {
-    if has_bit(mask, t as u32) { t } else { HUB }
+    if has_bit(mask, t) { task_row(t) } else { HUB }
 }
 
-// Row r where a mark's lost records can release to it, and the hub where not.
+// Row r where a mark's lost records can release to it, and the hub where not. The rows before the semaphores' are the tasks', by their numbers.
 pub(crate) fn released_by(mask: u32, r: usize) -> usize
-    requires { ⌜ r < 80 ⌝ }
-    ensures { λ q. ⌜ (q ≡ rowOrHub (isReleased mask r) r) × (q < 82) ⌝ }
+    requires { ⌜ r < hub ⌝ }
+    ensures { λ q. ⌜ (q ≡ rowOrHub (isReleased mask r) r) × (q < rowCount) ⌝ }
 {
-    if r < 16 {
-        if has_bit(mask, r as u32) { r } else { HUB }
+    if r < FIRST_SEMAPHORE {
+        named_row(mask, Task(r as u32))
     } else {
         r
     }

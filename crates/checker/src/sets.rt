@@ -1,57 +1,57 @@
-// Sets: a table of 81 rows and a bit for each kept access, 32 to a word, and one row more that says which tasks have acted. A bit is 1
+// Sets: a table with a row for each node and a bit for each kept access, and one row more that says which tasks have acted. A bit is 1
 // where order from the access has come to the row's node, so that a slot's bits are the set of tasks and objects that document 004 grows.
 // One table is for the recording as it arrived, one for the fullest filling. All sets grow together, a row at a time.
+use crate::bools::both;
+use crate::bools::either;
 use crate::history::ask_at;
 use crate::history::clashes;
-use crate::history::is_access;
 use crate::history::latest_number;
 use crate::history::slot;
 use crate::masks::lower_half;
 use crate::masks::weight;
 use crate::masks::weight_of;
-use crate::refusals::both;
-use crate::refusals::either;
-use crate::rows::HUB;
 use crate::rows::acquired_row;
 use crate::rows::acted_after;
 use crate::rows::has_bit;
 use crate::rows::named_row;
 use crate::rows::released_by;
 use crate::rows::released_row;
+use crate::rows::task_row;
+use theory::ACTED;
 use theory::ASKERS;
+use theory::COLUMNS;
+use theory::FIRST_SEMAPHORE;
+use theory::HUB;
 use theory::History;
 use theory::JOIN;
-use theory::LOST;
 use theory::Masks;
 use theory::SLOT_WORDS;
 use theory::Sets;
 use theory::TASKS;
 use theory::Task;
 use theory::Variable;
+use theory::WORD_BITS;
 ghost use mathlib.Core.Path.{_≡_};
-ghost use Prim.Native.Nat.{_<_, _-_, _^_};
-ghost use lib.Bits.{bitOr};
-ghost use Rattle.theory.specs.tables.Rows.{joinRow, rowOf, joinWith, putRow, flow, joinsActed, onward, gather, spread, noteNamed, mix};
-ghost use Rattle.theory.specs.tables.Reckonings.{slotWords, knownSlots, clearSlot, addSlot, setOwn, setsBy, setMask, setMasks};
-ghost use Rattle.theory.specs.fillings.Completion.{arrived, full};
 ghost use mathlib.Core.Bool.{cond};
+ghost use Prim.Native.Nat.{_<_, _≤_, _-_, _^_};
+ghost use lib.Bits.{bitOr};
+ghost use lib.Dec.{ltb};
 ghost use lib.ListN.{length};
-ghost use Rattle.theory.specs.order.Recording.{kindAt};
-ghost use Rattle.theory.specs.history.History.{askers, asker, clashBy, slot as slotOf, slots, underEach};
-ghost use Rattle.theory.proofs.tables.Reckoned.{apartBy};
 ghost use Rattle.theory.specs.order.Limits.{tasks, variables};
-ghost use Rattle.theory.specs.order.Recording.{Op, kind as number};
-ghost use Rattle.theory.specs.acceptance.Table.{Fitting, Proper};
+ghost use Rattle.theory.specs.order.Recording.{Op, kind as number, kindAt};
+ghost use Rattle.theory.specs.acceptance.Table.{Fitting};
+ghost use Rattle.theory.specs.history.History.{askers, asker, kindClashes, slot as slotOf, slots, underEach};
+ghost use Rattle.theory.specs.tables.Rows.{actedRow, cell, joinRow, rowOf, joinWith, putRow, flow, noteActed, joinsActed, onward, gather, spread, noteNamed, mix};
+ghost use Rattle.theory.specs.tables.Reckonings.{wordBits, slotWords, knownSlots, clearSlot, addSlot, setOwn, setMask, masksBy};
+ghost use Rattle.theory.proofs.tables.Reckoned.{apartBy};
+ghost use Rattle.theory.proofs.history.Accesses.{OfAccess};
 
 // Where the row of what has acted begins.
-const ACTED: usize = 81 * SLOT_WORDS;
-
-// A word with all its bits.
-const ALL: u32 = 4_294_967_295;
+const FIRST_ACTED: usize = ACTED * SLOT_WORDS;
 
 // What row `from` knows is known to row `to` as well.
 fn join_row(cells: &mut Sets, to: usize, from: usize)
-    requires { ⌜ (to < 82) × (from < 82) ⌝ }
+    requires { ⌜ (to ≤ actedRow) × (from ≤ actedRow) ⌝ }
     ensures { λ _. ⌜ now (cells .exit) ≡ joinRow bitOr slotWords to from (now (cells .entry)) ⌝ }
 {
     if to == from {
@@ -66,7 +66,7 @@ fn join_row(cells: &mut Sets, to: usize, from: usize)
 
 // A row by itself.
 fn row_of(cells: &Sets, from: usize) -> [u32; SLOT_WORDS]
-    requires { ⌜ from < 82 ⌝ }
+    requires { ⌜ from ≤ actedRow ⌝ }
     ensures { λ r. ⌜ r ≡ rowOf slotWords from (now (cells .entry)) ⌝ }
 {
     let mut row = [0u32; SLOT_WORDS];
@@ -80,7 +80,7 @@ fn row_of(cells: &Sets, from: usize) -> [u32; SLOT_WORDS]
 
 // What a row that stands by itself knows is known to row `to` as well.
 fn join_with(cells: &mut Sets, to: usize, row: &[u32; SLOT_WORDS])
-    requires { ⌜ to < 82 ⌝ }
+    requires { ⌜ to ≤ actedRow ⌝ }
     ensures { λ _. ⌜ now (cells .exit) ≡ joinWith bitOr slotWords to (now (row .entry)) (now (cells .entry)) ⌝ }
 {
     let mut c = 0;
@@ -93,7 +93,7 @@ fn join_with(cells: &mut Sets, to: usize, row: &[u32; SLOT_WORDS])
 // `join_row` by way of a copy. In a loop over rows the compiler cannot tell that the two rows never overlap, and would take them word by
 // word; of a copy it can.
 fn join_copied(cells: &mut Sets, to: usize, from: usize)
-    requires { ⌜ (to < 82) × (from < 82) ⌝ }
+    requires { ⌜ (to ≤ actedRow) × (from ≤ actedRow) ⌝ }
     ensures { λ _. ⌜ now (cells .exit) ≡ joinRow bitOr slotWords to from (now (cells .entry)) ⌝ }
 {
     if to == from {
@@ -105,7 +105,7 @@ fn join_copied(cells: &mut Sets, to: usize, from: usize)
 
 // Row `to` with the cells of a row that stands by itself.
 fn put_row(cells: &mut Sets, to: usize, row: &[u32; SLOT_WORDS])
-    requires { ⌜ to < 82 ⌝ }
+    requires { ⌜ to ≤ actedRow ⌝ }
     ensures { λ _. ⌜ now (cells .exit) ≡ putRow slotWords to (now (row .entry)) (now (cells .entry)) ⌝ }
 {
     let mut c = 0;
@@ -116,16 +116,17 @@ fn put_row(cells: &mut Sets, to: usize, row: &[u32; SLOT_WORDS])
 }
 
 // Order over an act: the task's next act knows what the acquired row knows, and it is passed on, to an object and to the hub alike.
-fn flow(cells: &mut Sets, asked: bool, acquired: usize, released: usize, task: usize)
-    requires { ⌜ (acquired < 82) × (released < 82) × (task < tasks) ⌝ }
-    ensures { λ _. ⌜ now (cells .exit) ≡ flow bitOr slotWords asked acquired released task (now (cells .entry)) ⌝ }
+fn flow(cells: &mut Sets, asked: bool, acquired: usize, released: usize, task: Task)
+    requires { ⌜ (acquired ≤ actedRow) × (released ≤ actedRow) × (task .0 < tasks) ⌝ }
+    ensures { λ _. ⌜ now (cells .exit) ≡ flow bitOr slotWords asked acquired released (task .0) (now (cells .entry)) ⌝ }
 {
-    join_row(cells, task, acquired);
-    join_row(cells, released, task);
-    if either(released < 16, !asked) {
+    let own = task_row(task);
+    join_row(cells, own, acquired);
+    join_row(cells, released, own);
+    if either(released < FIRST_SEMAPHORE, !asked) {
         return;
     }
-    join_row(cells, HUB, task);
+    join_row(cells, HUB, own);
 }
 
 // What a mark's lost records can acquire comes to the hub.
@@ -133,8 +134,8 @@ fn gather(cells: &mut Sets, mask: u32)
     ensures { λ _. ⌜ now (cells .exit) ≡ gather bitOr slotWords mask (now (cells .entry)) ⌝ }
 {
     let mut t = 0;
-    while t < 16 {
-        join_copied(cells, HUB, named_row(mask, t));
+    while t < TASKS {
+        join_copied(cells, HUB, named_row(mask, Task(t)));
         t += 1;
     }
 }
@@ -151,19 +152,19 @@ fn spread(cells: &mut Sets, mask: u32)
     }
 }
 
-// The tasks that the mask names have acted.
+// The tasks that the mask names have acted. The loop is over the first columns of one row, which are the tasks by their numbers.
 fn note_named(cells: &mut Sets, mask: u32)
     ensures { λ _. ⌜ now (cells .exit) ≡ noteNamed slotWords mask (now (cells .entry)) ⌝ }
 {
-    let mut t = 0;
-    while t < 16 {
-        cells[ACTED + t] = acted_after(has_bit(mask, t as u32), cells[ACTED + t]);
-        t += 1;
+    let mut c = 0;
+    while c < COLUMNS {
+        cells[FIRST_ACTED + c] = acted_after(has_bit(mask, Task(c as u32)), cells[FIRST_ACTED + c]);
+        c += 1;
     }
 }
 
 // The fullest filling of a mark.
-fn mix(cells: &mut Sets, mask: u32)
+pub(crate) fn mix(cells: &mut Sets, mask: u32)
     ensures { λ _. ⌜ now (cells .exit) ≡ mix bitOr slotWords mask (now (cells .entry)) ⌝ }
 {
     gather(cells, mask);
@@ -173,10 +174,10 @@ fn mix(cells: &mut Sets, mask: u32)
 
 // All bits of a word but that of weight 2 to the power k.
 fn all_but(k: u32) -> u32
-    requires { ⌜ k < 32 ⌝ }
-    ensures { λ r. ⌜ r ≡ 2 ^ 32 - 1 - 2 ^ k ⌝ }
+    requires { ⌜ k < wordBits ⌝ }
+    ensures { λ r. ⌜ r ≡ 2 ^ wordBits - 1 - 2 ^ k ⌝ }
 {
-    ALL - weight(k)
+    !weight(k)
 }
 
 // No row knows of the slot's access.
@@ -184,10 +185,10 @@ fn clear_slot(cells: &mut Sets, s: usize)
     requires { ⌜ s < slots ⌝ }
     ensures { λ _. ⌜ now (cells .exit) ≡ clearSlot s (now (cells .entry)) ⌝ }
 {
-    let word = s / 32;
-    let others = all_but((s % 32) as u32);
+    let word = s / WORD_BITS;
+    let others = all_but((s % WORD_BITS) as u32);
     let mut r = 0;
-    while r < 81 {
+    while r < ACTED {
         cells[r * SLOT_WORDS + word] = cells[r * SLOT_WORDS + word] & others;
         r += 1;
     }
@@ -195,16 +196,16 @@ fn clear_slot(cells: &mut Sets, s: usize)
 
 // Row r knows of it.
 fn add_slot(cells: &mut Sets, r: usize, s: usize)
-    requires { ⌜ (r < 82) × (s < slots) ⌝ }
+    requires { ⌜ (r ≤ actedRow) × (s < slots) ⌝ }
     ensures { λ _. ⌜ now (cells .exit) ≡ addSlot r s (now (cells .entry)) ⌝ }
 {
-    let at = r * SLOT_WORDS + s / 32;
-    cells[at] = cells[at] | weight((s % 32) as u32);
+    let at = r * SLOT_WORDS + s / WORD_BITS;
+    cells[at] = cells[at] | weight((s % WORD_BITS) as u32);
 }
 
 // A slot is kept anew: order has come to this row, and to no other.
 fn begin_slot(cells: &mut Sets, r: usize, s: usize)
-    requires { ⌜ (r < 82) × (s < slots) ⌝ }
+    requires { ⌜ (r ≤ actedRow) × (s < slots) ⌝ }
     ensures { λ _. ⌜ now (cells .exit) ≡ addSlot r s (clearSlot s (now (cells .entry))) ⌝ }
 {
     clear_slot(cells, s);
@@ -212,34 +213,51 @@ fn begin_slot(cells: &mut Sets, r: usize, s: usize)
 }
 
 // An access kept anew under the kind of access with number a, if it clashes with that.
-fn keep_under(cells: &mut Sets, a: usize, kind: u8, task: u32, on: u32)
-    requires { ⌜ (a < length askers) × Fitting kind task on ⌝ }
-    ensures { λ _. ⌜ now (cells .exit) ≡ cond (clashBy (kindAt kind) (asker a)) (addSlot task (slotOf a on task) (clearSlot (slotOf a on task) (now (cells .entry)))) (now (cells .entry)) ⌝ }
+fn keep_under(cells: &mut Sets, a: usize, kind: u8, task: Task, v: Variable)
+    requires { ⌜ (a < length askers) × (task .0 < tasks) × (v .0 < variables) ⌝ }
+    ensures { λ _. let s = slotOf a (v .0) (task .0) in ⌜ now (cells .exit)
+        ≡ cond (kindClashes (kindAt kind) (asker a)) (addSlot (task .0) s (clearSlot s (now (cells .entry)))) (now (cells .entry)) ⌝ }
 {
     if clashes(kind, a) {
-        begin_slot(cells, task as usize, slot(a, Variable(on), Task(task)));
+        begin_slot(cells, task_row(task), slot(a, v, task));
     }
 }
 
 // An access is kept anew in each of its slots.
-fn keep_anew(cells: &mut Sets, kind: u8, task: u32, on: u32)
-    requires { ⌜ Fitting kind task on ⌝ }
-    ensures { λ _. ⌜ now (cells .exit) ≡ underEach (λ s b. addSlot task s (clearSlot s b)) kind on task (now (cells .entry)) ⌝ }
+fn keep_anew(cells: &mut Sets, kind: u8, task: Task, v: Variable)
+    requires { ⌜ (task .0 < tasks) × (v .0 < variables) ⌝ }
+    ensures { λ _. ⌜ now (cells .exit) ≡ underEach (λ s b. addSlot (task .0) s (clearSlot s b)) kind (v .0) (task .0) (now (cells .entry)) ⌝ }
 {
     let mut a = 0;
     while a < ASKERS {
-        keep_under(cells, a, kind, task, on);
+        keep_under(cells, a, kind, task, v);
         a += 1;
     }
 }
 
-// An act's own part: the task has acted, and a new access takes its slots.
-fn own(cells: &mut Sets, kind: u8, task: u32, on: u32)
-    requires { ⌜ Fitting kind task on ⌝ }
-    ensures { λ _. ⌜ now (cells .exit) ≡ setOwn kind task on (now (cells .entry)) ⌝ }
+// The task has acted.
+pub(crate) fn note_acted(cells: &mut Sets, task: Task)
+    requires { ⌜ task .0 < tasks ⌝ }
+    ensures { λ _. ⌜ now (cells .exit) ≡ noteActed slotWords (task .0) (now (cells .entry)) ⌝ }
 {
-    keep_anew(cells, kind, task, on);
-    cells[ACTED + task as usize] = 1;
+    cells[FIRST_ACTED + task.0 as usize] = 1;
+}
+
+// An access's own part: it takes its slots, and the task has acted.
+pub(crate) fn own(cells: &mut Sets, kind: u8, task: Task, v: Variable)
+    requires { ⌜ (task .0 < tasks) × (v .0 < variables) ⌝ }
+    ensures { λ _. ⌜ now (cells .exit) ≡ setOwn kind (task .0) (v .0) (now (cells .entry)) ⌝ }
+{
+    keep_anew(cells, kind, task, v);
+    note_acted(cells, task);
+}
+
+// Whether a task has acted.
+fn has_acted(cells: &Sets, t: Task) -> bool
+    requires { ⌜ t .0 < tasks ⌝ }
+    ensures { λ r. ⌜ r ≡ ltb 0 (cell slotWords (now (cells .entry)) actedRow (t .0)) ⌝ }
+{
+    0 < cells[FIRST_ACTED + t.0 as usize]
 }
 
 // An act joins a task that has acted.
@@ -247,99 +265,77 @@ fn joins_acted(cells: &Sets, kind: u8, on: u32) -> bool
     requires { ⌜ (kind ≡ number Op.join → on < tasks) ⌝ }
     ensures { λ r. ⌜ r ≡ joinsActed slotWords (now (cells .entry)) kind on ⌝ }
 {
-    if kind == JOIN {
-        0 < cells[ACTED + on as usize]
-    } else {
-        false
+    match kind {
+        JOIN => has_acted(cells, Task(on)),
+        _ => false,
     }
 }
 
 // Order over an act of a kind.
-fn pass_on(cells: &mut Sets, asked: bool, kind: u8, task: u32, on: u32)
-    requires { ⌜ Fitting kind task on ⌝ }
-    ensures { λ _. ⌜ now (cells .exit) ≡ onward bitOr slotWords asked kind task on (now (cells .entry)) ⌝ }
+pub(crate) fn pass_on(cells: &mut Sets, asked: bool, kind: u8, task: Task, on: u32)
+    requires { ⌜ Fitting kind (task .0) on ⌝ }
+    ensures { λ _. ⌜ now (cells .exit) ≡ onward bitOr slotWords asked kind (task .0) on (now (cells .entry)) ⌝ }
 {
     let joins = joins_acted(cells, kind, on);
     flow(
         cells,
         asked,
-        acquired_row(kind, Task(task), on, joins),
-        released_row(kind, Task(task), on),
-        task as usize,
+        acquired_row(kind, task, on, joins),
+        released_row(kind, task, on),
+        task,
     );
 }
 
-// Both tables after an accepted record. An access acquires from and releases to no other row.
-pub(crate) fn advance_sets(sets: &mut Sets, fullsets: &mut Sets, kind: u8, task: u32, on: u32)
-    requires { ⌜ Proper kind task on ⌝ }
-    ensures { λ _. ⌜ (now (sets .exit) ≡ setsBy arrived kind task on (now (sets .entry)))
-        × (now (fullsets .exit) ≡ setsBy full kind task on (now (fullsets .entry))) ⌝ }
-{
-    if kind == LOST {
-        mix(fullsets, on);
-        return;
-    }
-    own(sets, kind, task, on);
-    own(fullsets, kind, task, on);
-    if is_access(kind) {
-        return;
-    }
-    pass_on(sets, false, kind, task, on);
-    pass_on(fullsets, true, kind, task, on);
-}
-
 // What row r knows of what the kind of access with number a asks of the tasks, for variable v: from bit 0 on a bit for each task.
-fn known_slots(cells: &Sets, r: usize, a: usize, v: u32) -> u32
-    requires { ⌜ (r < 82) × (a < length askers) × (v < variables) ⌝ }
-    ensures { λ q. ⌜ q ≡ knownSlots (now (cells .entry)) r a v ⌝ }
+fn known_slots(cells: &Sets, r: usize, a: usize, v: Variable) -> u32
+    requires { ⌜ (r ≤ actedRow) × (a < length askers) × (v .0 < variables) ⌝ }
+    ensures { λ q. ⌜ q ≡ knownSlots (now (cells .entry)) r a (v .0) ⌝ }
 {
-    let s = slot(a, Variable(v), Task(0));
-    cells[r * SLOT_WORDS + s / 32] >> (s % 32) as u32
+    let s = slot(a, v, Task(0));
+    cells[r * SLOT_WORDS + s / WORD_BITS] >> (s % WORD_BITS) as u32
 }
 
 // Whether order from task u's latest conflicting access has not come to a row, by what the row knows of them. From its own it has.
-fn apart(known: u32, last: &History, kind: u8, on: u32, u: u32) -> bool
-    requires { ⌜ (on < variables) × (u < tasks) ⌝ }
-    ensures { λ r. ⌜ r ≡ apartBy (now (last .entry)) kind on known u ⌝ }
+fn apart(known: u32, last: &History, kind: u8, v: Variable, u: Task) -> bool
+    requires { ⌜ OfAccess kind (u .0) (v .0) ⌝ }
+    ensures { λ r. ⌜ r ≡ apartBy (now (last .entry)) kind (v .0) known (u .0) ⌝ }
 {
-    both(0 < latest_number(last, kind, on, u), known & weight(u) == 0)
+    both(
+        0 < latest_number(last, kind, v, u).0,
+        known & weight(u.0) == 0,
+    )
 }
 
 // The mask of an access in one filling.
-fn mask(cells: &Sets, last: &History, kind: u8, task: u32, on: u32) -> u16
-    requires { ⌜ (task < tasks) × (on < variables) ⌝ }
-    ensures { λ r. ⌜ r ≡ setMask (now (cells .entry)) (now (last .entry)) kind task on ⌝ }
+fn mask(cells: &Sets, last: &History, kind: u8, task: Task, v: Variable) -> u16
+    requires { ⌜ OfAccess kind (task .0) (v .0) ⌝ }
+    ensures { λ r. ⌜ r ≡ setMask (now (cells .entry)) (now (last .entry)) kind (task .0) (v .0) ⌝ }
 {
-    let known = known_slots(cells, task as usize, ask_at(kind), on);
+    let known = known_slots(cells, task_row(task), ask_at(kind), v);
     let mut x: u32 = 0;
     let mut u: u32 = 0;
     while u < TASKS {
-        x = x | weight_of(apart(known, last, kind, on, u), u);
+        x = x | weight_of(apart(known, last, kind, v, Task(u)), Task(u));
         u += 1;
     }
     lower_half(x)
 }
 
-// The masks of the tasks whose latest conflicting access has no path to this access; empty for any other record.
+// The masks of the tasks whose latest conflicting access has no path to this access.
 pub(crate) fn set_masks(
     sets: &Sets,
     fullsets: &Sets,
     last: &History,
     kind: u8,
-    task: u32,
-    on: u32,
+    task: Task,
+    v: Variable,
 ) -> Masks
-    requires { ⌜ Proper kind task on ⌝ }
-    ensures { λ r. ⌜ r ≡ setMasks (now (sets .entry)) (now (fullsets .entry)) (now (last .entry)) kind task on ⌝ }
+    requires { ⌜ OfAccess kind (task .0) (v .0) ⌝ }
+    ensures { λ r. ⌜ r ≡ masksBy (setMask (now (fullsets .entry)) (now (last .entry)) kind (task .0) (v .0))
+        (setMask (now (sets .entry)) (now (last .entry)) kind (task .0) (v .0)) ⌝ }
 {
-    if is_access(kind) {
-        return Masks {
-            full: mask(fullsets, last, kind, task, on),
-            arrived: mask(sets, last, kind, task, on),
-        };
-    }
     Masks {
-        full: 0,
-        arrived: 0,
+        full: mask(fullsets, last, kind, task, v),
+        arrived: mask(sets, last, kind, task, v),
     }
 }

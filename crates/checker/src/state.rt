@@ -1,4 +1,5 @@
 // The states before any record.
+use crate::control::LIVE;
 use theory::CLOCK_CELLS;
 use theory::CONTROL_CELLS;
 use theory::Clocks;
@@ -18,7 +19,7 @@ fn fresh_control() -> Control
     ensures { λ r. ⌜ r ≡ freshControl ⌝ }
 {
     let mut control = [0u32; CONTROL_CELLS];
-    control[0] = 1;
+    control[0] = LIVE;
     control
 }
 

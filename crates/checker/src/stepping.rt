@@ -1,55 +1,30 @@
 // The step over all kinds of records, by the clocks, and the same by the sets. In place, on tables that the caller lends, and by value.
-use crate::clocks::advance_clocks;
-use crate::clocks::clock_masks;
-use crate::control::COUNT;
+use crate::acting::act_by_clocks;
+use crate::acting::act_by_sets;
+use crate::clocks;
 use crate::control::note;
-use crate::history::keep;
-use crate::masks::answered;
 use crate::refusals::refusal;
-use crate::sets::advance_sets;
-use crate::sets::set_masks;
+use crate::sets;
 use theory::Answer;
+use theory::COUNT;
 use theory::Clocks;
 use theory::Control;
 use theory::History;
-use theory::Masks;
+use theory::LOST;
 use theory::Record;
+use theory::RecordNumber;
 use theory::SetState;
 use theory::SetStepped;
 use theory::Sets;
 use theory::State;
 use theory::Stepped;
+use theory::Task;
 ghost use mathlib.Core.Path.{_≡_};
-ghost use Prim.Native.Nat.{_<_};
-ghost use Rattle.theory.specs.order.Limits.{records};
-ghost use Rattle.theory.specs.acceptance.Table.{Proper};
-ghost use Rattle.theory.specs.acceptance.Control.{countIn, controlAfter};
-ghost use Rattle.theory.specs.history.History.{lastAfter};
-ghost use Rattle.theory.specs.feeding.Step.{answeredBy, stepOf, setStepOf};
-ghost use Rattle.theory.specs.feeding.Lent.{seen, tables, setTables};
+ghost use Rattle.theory.specs.feeding.Step.{stepOf, setStepOf};
+ghost use Rattle.theory.specs.feeding.Lent.{tables, setTables};
 
-// What both steps do with an accepted record beside their own tables: it is answered, counted and kept. They hand its number in and advance
-// their tables first, which spares the compiler a second look at the count: 10 of 470 instructions a record.
-fn take_in(
-    control: &mut Control,
-    last: &mut History,
-    kind: u8,
-    task: u32,
-    on: u32,
-    number: u32,
-    masks: Masks,
-) -> Answer
-    requires { ⌜ Proper kind task on × (countIn (now control) < records) ⌝ }
-    ensures { λ a. let c = seen control in let l = seen last in ⌜ (a ≡ answeredBy (l .entry) kind on number masks)
-        × (c .exit ≡ controlAfter kind on (c .entry)) × (l .exit ≡ lastAfter kind task on number (l .entry)) ⌝ }
-{
-    let answer = answered(last, kind, task, on, number, masks);
-    note(control, kind, on as usize);
-    keep(last, kind, task, on, number);
-    answer
-}
-
-// Feeds a record. A refused record leaves every table as it was.
+// Feeds a record. A refused record leaves every table as it was. An accepted one gets its number; the kind says what its other numbers are:
+// an act has an acting task, and a mark none, but a mask.
 pub fn step_in_place(
     control: &mut Control,
     last: &mut History,
@@ -63,10 +38,16 @@ pub fn step_in_place(
     if refused != 0 {
         return Answer::Refused(refused);
     }
-    let number = control[COUNT] + 1;
-    let masks = clock_masks(clocks, fullclocks, last, r.kind, r.task, r.on);
-    advance_clocks(clocks, fullclocks, r.kind, r.task, r.on, number);
-    take_in(control, last, r.kind, r.task, r.on, number, masks)
+    let kind = r.kind;
+    let number = RecordNumber(control[COUNT] + 1);
+    note(control, kind, r.on);
+    match kind {
+        LOST => {
+            clocks::mix(fullclocks, r.on);
+            Answer::Accepted(number)
+        }
+        _ => act_by_clocks(last, clocks, fullclocks, kind, Task(r.task), r.on, number),
+    }
 }
 
 // The same by the sets, on their own state.
@@ -83,10 +64,16 @@ pub fn set_step_in_place(
     if refused != 0 {
         return Answer::Refused(refused);
     }
-    let number = control[COUNT] + 1;
-    let masks = set_masks(sets, fullsets, last, r.kind, r.task, r.on);
-    advance_sets(sets, fullsets, r.kind, r.task, r.on);
-    take_in(control, last, r.kind, r.task, r.on, number, masks)
+    let kind = r.kind;
+    let number = RecordNumber(control[COUNT] + 1);
+    note(control, kind, r.on);
+    match kind {
+        LOST => {
+            sets::mix(fullsets, r.on);
+            Answer::Accepted(number)
+        }
+        _ => act_by_sets(last, sets, fullsets, kind, Task(r.task), r.on, number),
+    }
 }
 
 // The same by value: state and record in, state and answer out.

@@ -25,7 +25,7 @@ const RACE: u32 = 3;
 const DOUBT: u32 = 4;
 
 // An answer as three numbers: which case it is, the number of the refusal or of the record, and the partner's.
-fn answer_numbers(a: Answer) -> [u32; 3]
+pub fn answer_numbers(a: Answer) -> [u32; 3]
     ensures { λ r. ⌜ r ≡ answerNumbers a ⌝ }
 {
     match a {

@@ -2,6 +2,7 @@
 // have two callers, and the compiler would no longer make it part of the loop over lines.
 mod feeding;
 
+pub use feeding::answer_numbers;
 pub use feeding::order_begin;
 pub use feeding::order_feed;
 pub use feeding::order_sets_begin;

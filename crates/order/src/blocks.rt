@@ -2,22 +2,23 @@
 use libc::STDERR_FILENO;
 use libc::STDIN_FILENO;
 use libc::STDOUT_FILENO;
+use report::LINE_ROOM;
+use report::REFUSED;
 use report::report_piece;
 use text::Progress;
 use theory::Clocks;
 use theory::Control;
 use theory::History;
 ghost use Prim.Native.Nat.{_<_, _≤_};
-ghost use Rattle.io.specs.Counts.{Counts};
 
 // A piece is so short that the report of its lines has room beside a block of output that waits to be written.
 const PIECE: usize = 1024;
 
-// So much of the report waits at most before it is written.
+// So much of the report of one read waits at most before it is written.
 const WAITING: usize = 65_536;
 
-// What `at` is once nothing more can be written; a piece is then refused.
-const CLOSED: usize = 18_446_744_073_709_551_615;
+// The report memory: for what waits, and for a line of the report for each byte of a piece.
+pub(crate) const OUT: usize = WAITING + LINE_ROOM * PIECE;
 
 // What one block of the input came to: whether there may be more, and how far the report is.
 pub(crate) struct Turn {
@@ -37,22 +38,14 @@ fn piece_end(from: usize, len: usize) -> usize
     }
 }
 
-// How many bytes wait to be written: none once the output is closed.
-fn waiting(out: &[u8], progress: Progress) -> usize
-    ensures { λ r. ⌜ Counts r (now (out .entry)) ⌝ }
-{
-    if progress.at <= out.len() {
-        progress.at
-    } else {
-        0
-    }
-}
-
-// Writes the report so far. Where the output is closed, nothing more is taken in.
+// Writes what waits. Once the output is closed, `at` stands past the memory, so that nothing more is taken in or written.
 fn write_out(out: &[u8], now: Progress) -> Progress {
-    let n = waiting(out, now);
+    let n = now.at;
+    if out.len() < n {
+        return now;
+    }
     let written = io::write_all(STDOUT_FILENO, &out[..n]);
-    let at = if written { 0 } else { CLOSED };
+    let at = if written { 0 } else { REFUSED };
     Progress {
         lines: now.lines,
         held: now.held,
@@ -60,7 +53,7 @@ fn write_out(out: &[u8], now: Progress) -> Progress {
     }
 }
 
-// Writes the report so far, once there is a block of it.
+// Writes what waits once it is a block.
 fn write_some(out: &[u8], now: Progress) -> Progress {
     if now.at < WAITING {
         return now;
@@ -113,7 +106,8 @@ fn answer_block(
     now
 }
 
-// Reads one block and feeds it. A read may bring less than a block; none at all is the end of the input.
+// Reads one block, feeds it, and writes what the report has for it before the next read: more input may be long in coming. A read may bring less than
+// a block; none at all is the end of the input.
 fn answer_read(
     out: &mut [u8],
     block: &mut [u8],
@@ -129,7 +123,7 @@ fn answer_read(
         io::write_all(STDERR_FILENO, b"order: the input cannot be read\n");
     }
     let n = io::count(got, block);
-    let now = answer_block(
+    let answered = answer_block(
         out,
         &block[..n],
         held,
@@ -139,8 +133,9 @@ fn answer_read(
         clocks,
         fullclocks,
     );
+    let now = write_out(out, answered);
     Turn {
-        more: n > 0 && now.at < CLOSED,
+        more: n > 0 && now.at < REFUSED,
         now,
     }
 }
@@ -177,7 +172,7 @@ pub(crate) fn answer_input(
     now
 }
 
-// Answers a rest without LF, as if LF ended it, and writes what waits.
+// Answers a rest without LF, as if LF ended it.
 pub(crate) fn finish(
     out: &mut [u8],
     held: &mut [u8],
@@ -188,7 +183,6 @@ pub(crate) fn finish(
     fullclocks: &mut Clocks,
 ) {
     if begun.held == 0 {
-        write_out(out, begun);
         return;
     }
     let now = report_piece(out, b"\n", held, begun, control, last, clocks, fullclocks);

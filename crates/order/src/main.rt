@@ -1,9 +1,11 @@
 // The program `order`: a recording on standard input, its report on standard output, in fixed memory whatever the input.
 mod blocks;
 
+use blocks::OUT;
 use blocks::answer_input;
 use blocks::finish;
 use checker::begin;
+use report::HELD_MOST;
 use text::Progress;
 use theory::CLOCK_CELLS;
 use theory::CONTROL_CELLS;
@@ -15,8 +17,8 @@ fn main() {
     let mut clocks = [0u32; CLOCK_CELLS];
     let mut fullclocks = [0u32; CLOCK_CELLS];
     begin(&mut control, &mut last, &mut clocks, &mut fullclocks);
-    let mut out = [0u8; 131072];
-    let mut held = [0u8; 65];
+    let mut out = [0u8; OUT];
+    let mut held = [0u8; HELD_MOST];
     let none = Progress {
         lines: 0,
         held: 0,

@@ -6,7 +6,7 @@ ghost use lib.Dec.{eqb, ltb};
 ghost use lib.ListN.{length, drop, getD};
 ghost use Rattle.text.specs.Bytes.{indexOf};
 ghost use Rattle.text.specs.Lines.{lf, lineEnd, linesOf, lfBit, lfCount};
-ghost use Rattle.text.specs.Reading.{lineAt, placeAfter};
+ghost use Rattle.text.specs.Reading.{lineAt, placeAfter, LastLf};
 
 pub(crate) const LF: u8 = 10;
 
@@ -164,8 +164,7 @@ pub(crate) fn place_after(text: &[u8], at: usize, n: usize) -> usize
 
 // Where what follows the last LF of a text begins; 0 where it has none.
 pub(crate) fn rest_start(text: &[u8]) -> usize
-    ensures { λ r. ⌜ (r ≤ length (now (text .entry))) × (lineEnd (drop r (now (text .entry))) ≡ length (drop r (now (text .entry))))
-        × ((0 < r) → getD (now (text .entry)) (r - 1) 0 ≡ lf) ⌝ }
+    ensures { λ r. ⌜ LastLf (now (text .entry)) r ⌝ }
 {
     let mut i = text.len();
     while i > 0 {

@@ -1,8 +1,9 @@
 // Short lines, read in one pass: `op=W task=T on=N` with numbers of one or two digits, LF being found on the way. Nearly all lines are.
 use crate::decimal::read_short;
 use crate::parsing::parse_line;
-use crate::reader::take_line;
 use crate::scan::LF;
+use crate::scan::line_at;
+use crate::scan::place_after;
 use crate::words::SPACE;
 use crate::words::four;
 use crate::words::known_op;
@@ -100,13 +101,18 @@ fn not_short() -> Short
     }
 }
 
-// The line that begins at a place, if it is short and 24 bytes can be read.
+// So many bytes are enough for a short line: eight for the op, eight for the task, six for the number, and LF.
+const SHORT: usize = 24;
+
+// The line that begins at a place, if it is short and so many bytes can be read.
 fn short_line(s: &[u8], p: usize) -> Short
-    requires { ⌜ p ≤ length (now s) ⌝ }
     ensures { λ r. ⌜ ((r .kind ≡ lossMark → ⊥) → (parseOf (lineAt (now (s .entry)) p) ≡ Parsed.Record (record { kind = r .kind; task = r .task; on = r .on }))
         × (nextAt (now (s .entry)) p ≡ r .to)) ⌝ }
 {
-    if s.len() - p < 24 {
+    if s.len() < SHORT {
+        return not_short();
+    }
+    if s.len() - SHORT < p {
         return not_short();
     }
     let op = known_op(s, p);
@@ -136,29 +142,44 @@ fn short_line(s: &[u8], p: usize) -> Short
     }
 }
 
-// The record that the next line says, if it is of the text form. The place moves past the line and its LF.
-pub(crate) fn next_parsed(piece: &[u8], p: &mut usize) -> Parsed
-    requires { ⌜ now p ≤ length (now piece) ⌝ }
-    ensures { λ r. ⌜ (r ≡ parseOf (lineAt (now (piece .entry)) (now (p .entry))))
-        × (now (p .exit) ≡ nextAt (now (piece .entry)) (now (p .entry))) ⌝ }
+// What the line at a place says, and the place after it and its LF.
+pub(crate) struct Taken {
+    pub parsed: Parsed,
+    pub next: usize,
+}
+
+// Reads the line that begins at a place: as a short line, or else as a part of the text that is taken apart. From the end of the text on it is empty.
+pub(crate) fn record_at(text: &[u8], at: usize) -> Taken
+    ensures { λ r. ⌜ r ≡ record { parsed = parseOf (lineAt (now (text .entry)) at); next = nextAt (now (text .entry)) at } ⌝ }
 {
-    let s = short_line(piece, *p);
+    let s = short_line(text, at);
     if s.kind != LOST {
-        *p = s.to;
-        return Parsed::Record(Record {
+        let record = Record {
             kind: s.kind,
             task: s.task,
             on: s.on,
-        });
+        };
+        return Taken {
+            parsed: Parsed::Record(record),
+            next: s.to,
+        };
     }
-    let line = take_line(piece, p);
+    let line = line_at(text, at);
+    let next = place_after(text, at, line.len());
     // made anew, so that no record is copied where the line is short
     let Parsed::Record(r) = parse_line(line) else {
-        return Parsed::Nothing;
+        return Taken {
+            parsed: Parsed::Nothing,
+            next,
+        };
     };
-    Parsed::Record(Record {
+    let record = Record {
         kind: r.kind,
         task: r.task,
         on: r.on,
-    })
+    };
+    Taken {
+        parsed: Parsed::Record(record),
+        next,
+    }
 }

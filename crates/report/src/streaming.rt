@@ -1,27 +1,27 @@
 // A text that comes in pieces: each is answered as far as its lines have ended, and what is left of a line is held for the next.
 use crate::answering::Reached;
-use crate::answering::put_line;
 use crate::answering::put_lines;
 use crate::scan::line_end;
+use crate::scan::rest_start;
+use crate::sizes::HELD_MOST;
+use crate::sizes::LINE_ROOM;
 use crate::writing::put_bytes;
 use text::Progress;
 use theory::Clocks;
 use theory::Control;
 use theory::History;
 ghost use mathlib.Core.Path.{_≡_};
-ghost use mathlib.Core.Bool.{true};
+ghost use mathlib.Core.Bool.{cond};
 ghost use mathlib.Core.List.{_++_};
-ghost use Prim.Native.Nat.{_<_, _≤_, _+_, _^_, min};
+ghost use Prim.Native.Nat.{_<_, _≤_, _+_, min};
 ghost use lib.ListN.{length, take, drop};
 ghost use lib.Seq.{sets as written};
 ghost use Rattle.theory.specs.feeding.Lent.{seen, tables};
 ghost use Rattle.text.specs.Lines.{lineEnd};
 ghost use Rattle.text.specs.LineForm.{parseOf};
-ghost use Rattle.text.specs.Pieces.{heldMost, keptOf, fits};
-ghost use Rattle.text.specs.Answers.{LineAnswered, LinesAnswered, PieceFits, PieceAnswered, EndAnswered};
-
-// So many bytes of a line are held at most: a line of more than 64 is refused, whatever else it says.
-pub(crate) const HELD_MOST: usize = 65;
+ghost use Rattle.text.specs.Reading.{LastLf};
+ghost use Rattle.text.specs.Pieces.{heldMost, keptOf, saidIn, afterPiece, progressAfter, holdsOpen, fits, refused};
+ghost use Rattle.text.specs.Answers.{LineAnswered, PieceFits, EndedAnswered, PieceAnswered};
 
 fn least(a: usize, b: usize) -> usize
     ensures { λ r. ⌜ (r ≡ min a b) × (r ≤ b) ⌝ }
@@ -39,39 +39,8 @@ fn hold(held: &mut [u8], n: usize, s: &[u8]) -> usize
     put_bytes(held, n, &s[..m])
 }
 
-// Answers the line of which n bytes are held and s is the rest.
+// Answers the line that has begun with what is held and ends at e in a piece. It lies whole in no memory that was lent, so it is put together.
 fn put_first(
-    out: &mut [u8],
-    at: usize,
-    number: u64,
-    held: &[u8],
-    n: usize,
-    s: &[u8],
-    control: &mut Control,
-    last: &mut History,
-    clocks: &mut Clocks,
-    fullclocks: &mut Clocks,
-) -> usize
-    requires { ⌜ (at + 64 ≤ length (now out)) × (n ≤ heldMost) × (heldMost ≤ length (now held)) ⌝ }
-    ensures { λ to. ⌜ LineAnswered (seen out) at number (tables control last clocks fullclocks) (parseOf (take n (now (held .entry)) ++ now (s .entry))) to ⌝ }
-{
-    let mut line = [0u8; 65];
-    let begun = put_bytes(&mut line, 0, &held[..n]);
-    let end = hold(&mut line, begun, s);
-    put_line(
-        out,
-        at,
-        number,
-        &line[..end],
-        control,
-        last,
-        clocks,
-        fullclocks,
-    )
-}
-
-// Answers the lines that end in a piece, the first going on from what is held. At least one ends: its LF stands at e.
-fn put_ended(
     out: &mut [u8],
     piece: &[u8],
     e: usize,
@@ -81,62 +50,63 @@ fn put_ended(
     last: &mut History,
     clocks: &mut Clocks,
     fullclocks: &mut Clocks,
-) -> Reached
-    requires { ⌜ PieceFits (now out) (now piece) (now held) begun × (e ≡ 0 + lineEnd (drop 0 (now piece))) × (e < length (now piece)) ⌝ }
-    ensures { λ r. let state = tables control last clocks fullclocks in
-        ⌜ LinesAnswered (seen out) (begun .at) (keptOf (state .entry) begun (now (held .entry))) (now (piece .entry)) 0 (state .exit) (r .lines) (r .at) (r .from) ⌝ }
+) -> usize
+    requires { ⌜ PieceFits (now out) (now piece) (now held) begun × (0 < begun .held) × (e ≡ 0 + lineEnd (drop 0 (now piece))) × (e < length (now piece)) ⌝ }
+    ensures { λ to. ⌜ LineAnswered (seen out) (begun .at) (begun .lines + 1) (tables control last clocks fullclocks)
+        (parseOf (take (begun .held) (now (held .entry)) ++ take e (now (piece .entry)))) to ⌝ }
 {
-    let number = begun.lines + 1;
-    let at = put_first(
+    let mut line = [0u8; HELD_MOST];
+    let n = begun.held;
+    let joined = put_bytes(&mut line, 0, &held[..n]);
+    let end = hold(&mut line, joined, &piece[..e]);
+    let answered = put_lines(
         out,
         begun.at,
-        number,
-        held,
-        begun.held,
-        &piece[..e],
+        begun.lines,
+        &line[..end],
+        0,
+        end,
         control,
         last,
         clocks,
         fullclocks,
     );
-    put_lines(
-        out,
-        at,
-        number,
-        piece,
-        e + 1,
-        control,
-        last,
-        clocks,
-        fullclocks,
-    )
+    answered.at
 }
 
-// Answers the lines that end in a piece, and holds what is left.
-pub(crate) fn put_piece(
+// Answers the lines that end in a piece, the first going on from what is held; the last LF stands before `rest`. Where nothing is held, the first
+// lies whole in the piece and is read there like the others.
+fn put_ended(
     out: &mut [u8],
     piece: &[u8],
-    held: &mut [u8],
+    rest: usize,
+    held: &[u8],
     begun: Progress,
     control: &mut Control,
     last: &mut History,
     clocks: &mut Clocks,
     fullclocks: &mut Clocks,
-) -> Progress
-    requires { ⌜ PieceFits (now out) (now piece) (now held) begun ⌝ }
-    ensures answered { λ r. ⌜ PieceAnswered true (seen out) (seen held) (tables control last clocks fullclocks) begun (now (piece .entry)) r ⌝ }
-    ensures room { λ r. ⌜ (begun .held ≡ 0 → 0 < r .held → r .at + 64 ≤ length (now (out .exit))) ⌝ }
+) -> Reached
+    requires { ⌜ PieceFits (now out) (now piece) (now held) begun × LastLf (now piece) rest × (0 < rest) ⌝ }
+    ensures { λ r. let state = tables control last clocks fullclocks in
+        ⌜ EndedAnswered (seen out) (begun .at) (keptOf (state .entry) begun (now (held .entry))) (now (piece .entry)) rest (state .exit) (r .lines) (r .at) ⌝ }
 {
-    let e = line_end(piece, 0);
-    if e == piece.len() {
-        let n = hold(held, begun.held, piece);
-        return Progress {
-            lines: begun.lines,
-            held: n,
-            at: begun.at,
-        };
+    if begun.held == 0 {
+        return put_lines(
+            out,
+            begun.at,
+            begun.lines,
+            piece,
+            0,
+            rest,
+            control,
+            last,
+            clocks,
+            fullclocks,
+        );
     }
-    let answered = put_ended(
+    let e = line_end(piece, 0);
+    let at = put_first(
         out,
         piece,
         e,
@@ -147,37 +117,13 @@ pub(crate) fn put_piece(
         clocks,
         fullclocks,
     );
-    let from = answered.from;
-    let n = hold(held, 0, &piece[from..]);
-    Progress {
-        lines: answered.lines,
-        held: n,
-        at: answered.at,
-    }
-}
-
-// Answers what is held at the end of a text, as if LF ended it.
-pub(crate) fn put_rest(
-    out: &mut [u8],
-    held: &[u8],
-    begun: Progress,
-    control: &mut Control,
-    last: &mut History,
-    clocks: &mut Clocks,
-    fullclocks: &mut Clocks,
-) -> usize
-    requires { ⌜ (begun .held ≤ length (now held)) × (0 < begun .held → begun .at + 64 ≤ length (now out)) × (begun .lines + 1 < 2 ^ 64) ⌝ }
-    ensures { λ to. ⌜ EndAnswered (seen out) (now (held .entry)) (tables control last clocks fullclocks) begun to ⌝ }
-{
-    let n = begun.held;
-    if n == 0 {
-        return begun.at;
-    }
-    put_line(
+    put_lines(
         out,
-        begun.at,
+        at,
         begun.lines + 1,
-        &held[..n],
+        piece,
+        e + 1,
+        rest,
         control,
         last,
         clocks,
@@ -185,23 +131,75 @@ pub(crate) fn put_rest(
     )
 }
 
-// What `at` is where a piece was not taken in: 64 one-bits.
-const REFUSED: usize = 18_446_744_073_709_551_615;
+// Answers the lines that end in a piece, and holds what is left.
+fn put_piece(
+    out: &mut [u8],
+    piece: &[u8],
+    held: &mut [u8],
+    begun: Progress,
+    control: &mut Control,
+    last: &mut History,
+    clocks: &mut Clocks,
+    fullclocks: &mut Clocks,
+) -> Progress
+    requires { ⌜ PieceFits (now out) (now piece) (now held) begun ⌝ }
+    ensures { λ r. ⌜ PieceAnswered (seen out) (seen held) (tables control last clocks fullclocks) begun (now (piece .entry)) r ⌝ }
+{
+    let rest = rest_start(piece);
+    if rest == 0 {
+        let n = hold(held, begun.held, piece);
+        return Progress {
+            lines: begun.lines,
+            held: n,
+            at: begun.at,
+        };
+    }
+    let answered = put_ended(
+        out,
+        piece,
+        rest,
+        held,
+        begun,
+        control,
+        last,
+        clocks,
+        fullclocks,
+    );
+    let n = hold(held, 0, &piece[rest..]);
+    Progress {
+        lines: answered.lines,
+        held: n,
+        at: answered.at,
+    }
+}
 
-// A piece of so many bytes can be answered into memory of these sizes.
-fn has_room(out: usize, piece: usize, held: usize, begun: Progress) -> bool
-    ensures { λ r. ⌜ r ≡ fits out piece held begun ⌝ }
+// What `at` is where a piece was not taken in: 64 one-bits.
+pub const REFUSED: usize = usize::MAX;
+
+// There are n bytes of a line in memory that holds one, and no LF is among them.
+fn holds_open(held: &[u8], n: usize) -> bool
+    ensures { λ r. ⌜ r ≡ holdsOpen (now (held .entry)) n ⌝ }
+{
+    if held.len() < HELD_MOST {
+        return false;
+    }
+    if HELD_MOST < n {
+        return false;
+    }
+    n <= line_end(&held[..n], 0)
+}
+
+// A piece of so many bytes can be answered into report memory of this size.
+fn has_room(out: usize, piece: usize, held: &[u8], begun: Progress) -> bool
+    ensures { λ r. ⌜ r ≡ fits out piece (now (held .entry)) begun ⌝ }
 {
     if out < begun.at {
         return false;
     }
-    if (out - begun.at) / 64 < piece {
+    if (out - begun.at) / LINE_ROOM < piece {
         return false;
     }
-    if held < HELD_MOST {
-        return false;
-    }
-    if HELD_MOST < begun.held {
+    if !holds_open(held, begun.held) {
         return false;
     }
     piece as u64 <= u64::MAX - begun.lines
@@ -209,8 +207,8 @@ fn has_room(out: usize, piece: usize, held: usize, begun: Progress) -> bool
 
 // The report of a text that comes in pieces, into lent memory: answers the lines that end in a piece, the first of them going on from
 // what is held, and holds what is left. The text begins with progress 0, 0, 0 and fresh tables; a rest without LF at its end is answered by
-// one piece more, of LF alone. Where the memory has under 64 bytes for each byte of the piece, or cannot hold 65 bytes of a line, or the
-// lines could outgrow 64 bits, nothing is changed, and `at` is 64 one-bits.
+// one piece more, of LF alone. Where the memory has under 64 bytes for each byte of the piece, or cannot hold 65 bytes of a line, or an LF is among
+// those that are held, or the lines could outgrow 64 bits, nothing is changed, and `at` is 64 one-bits.
 pub fn report_piece(
     out: &mut [u8],
     piece: &[u8],
@@ -221,10 +219,16 @@ pub fn report_piece(
     clocks: &mut Clocks,
     fullclocks: &mut Clocks,
 ) -> Progress
-    ensures { λ r. ⌜ PieceAnswered (fits (length (now (out .entry))) (length (now (piece .entry))) (length (now (held .entry))) begun)
-        (seen out) (seen held) (tables control last clocks fullclocks) begun (now (piece .entry)) r ⌝ }
+    ensures { λ r. let state = tables control last clocks fullclocks in
+        let taken = fits (length (now (out .entry))) (length (now (piece .entry))) (now (held .entry)) begun in
+        let before = keptOf (state .entry) begun (now (held .entry)) in
+        let after = afterPiece before (now (piece .entry)) in
+        ⌜ (r ≡ cond taken (progressAfter before (begun .at) (now (piece .entry))) (refused begun))
+        × (now (out .exit) ≡ cond taken (written (now (out .entry)) (begun .at) (saidIn before (now (piece .entry)))) (now (out .entry)))
+        × (state .exit ≡ cond taken (after .state) (state .entry))
+        × (now (held .exit) ≡ cond taken (written (now (held .entry)) 0 (after .held)) (now (held .entry))) ⌝ }
 {
-    if !has_room(out.len(), piece.len(), held.len(), begun) {
+    if !has_room(out.len(), piece.len(), held, begun) {
         return Progress {
             lines: begun.lines,
             held: begun.held,

@@ -7,6 +7,7 @@ ghost use mathlib.Core.Bool.{cond};
 ghost use mathlib.Core.List.{[], _∷_};
 ghost use lib.Dec.{ltb};
 ghost use lib.ListN.{length};
+ghost use Rattle.text.specs.Lines.{lineRoom};
 ghost use Rattle.text.specs.Printing.{bytes, lastDigit, decimal, fiveDigits};
 ghost use Rattle.text.specs.ReportLines.{accessPart, accessLine, refusedLine, reportLine};
 ghost use Rattle.text.specs.Wrote.{Wrote};
@@ -29,7 +30,7 @@ fn put_digit(out: &mut [u8], at: usize, n: u64) -> usize
     requires { ⌜ at < length (now out) ⌝ }
     ensures { λ r. ⌜ Wrote (now (out .entry)) at (lastDigit n ∷ []) (now (out .exit)) r ⌝ }
 {
-    out[at] = (n % 10) as u8 + 48;
+    out[at] = (n % 10) as u8 + b'0';
     at + 1
 }
 
@@ -130,8 +131,8 @@ fn put_clear(out: &mut [u8], at: usize, number: u32, r: Record) -> usize
 
 // The line of a refused line, by its line number and the refusal's number.
 pub(crate) fn put_refused(out: &mut [u8], at: usize, line: u64, number: u32) -> usize
-    requires { ⌜ at + 64 ≤ length (now out) ⌝ }
-    ensures { λ r. ⌜ Wrote (now (out .entry)) at (refusedLine line number) (now (out .exit)) r × (r ≤ at + 64) ⌝ }
+    requires { ⌜ at + lineRoom ≤ length (now out) ⌝ }
+    ensures { λ r. ⌜ Wrote (now (out .entry)) at (refusedLine line number) (now (out .exit)) r × (r ≤ at + lineRoom) ⌝ }
 {
     let a = put_bytes(out, at, b"line=");
     let b = put_decimal(out, a, line);
@@ -143,8 +144,8 @@ pub(crate) fn put_refused(out: &mut [u8], at: usize, line: u64, number: u32) -> 
 // What the report has for a line that said the record r and got the answer a.
 // 64 bytes are room enough where task and variable have at most nine digits; in the text form they have five.
 pub(crate) fn put_answer(out: &mut [u8], at: usize, line: u64, r: Record, a: Answer) -> usize
-    requires { ⌜ (at + 64 ≤ length (now out)) × (r .task < 10 ^ 9) × (r .on < 10 ^ 9) ⌝ }
-    ensures { λ to. ⌜ Wrote (now (out .entry)) at (reportLine line r a) (now (out .exit)) to × (to ≤ at + 64) ⌝ }
+    requires { ⌜ (at + lineRoom ≤ length (now out)) × (r .task < 10 ^ 9) × (r .on < 10 ^ 9) ⌝ }
+    ensures { λ to. ⌜ Wrote (now (out .entry)) at (reportLine line r a) (now (out .exit)) to × (to ≤ at + lineRoom) ⌝ }
 {
     match a {
         Answer::Refused(number) => put_refused(out, at, line, number),

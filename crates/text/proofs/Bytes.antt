@@ -130,6 +130,11 @@ without-drop b s zero h = h
 without-drop b [] (suc n) h = h
 without-drop b (x ∷ s) (suc n) h = without-drop b s n (without-head b x s h .1)
 
+pub without-take : (b : ℕ) (s : List ℕ) (n : ℕ) → Without b s → Without b (take n s)
+without-take b s zero h = index-none b
+without-take b [] (suc n) h = h
+without-take b (x ∷ s) (suc n) h = let (d, g) = without-head b x s h in without-cons b x (take n s) d (without-take b s n g)
+
 pub take-seam : (w s : List ℕ) → take (length w) (w ++ s) ≡ w
 take-seam [] s = refl
 take-seam (x ∷ w) s = ap (λ (l : List ℕ). x ∷ l) (take-seam w s)
@@ -164,7 +169,7 @@ passed-over b s i j h l e =
     ap (λ (t : List ℕ). i + indexOf b t) q ∙ ap (λ (k : ℕ). i + k) (index-append b w (drop j s) n) ∙ omega arith
 
 -- a b in front is the first one
-index-front : (b : ℕ) (w s : List ℕ) → indexOf b w < length w → indexOf b (w ++ s) ≡ indexOf b w
+pub index-front : (b : ℕ) (w s : List ℕ) → indexOf b w < length w → indexOf b (w ++ s) ≡ indexOf b w
 unfolding indexOf
 index-front b [] s h = absurd (omega arith)
 index-front b (x ∷ w) s h = picked (eqb x b) h (index-front b w s)

@@ -1,28 +1,33 @@
 -- The memory that holds the line that has begun, and what a piece makes of it. Assumes nothing.
 use mathlib.Core.Path.{_≡_, refl, sym, _∙_, ap, ap₂, subst}
 use mathlib.Core.List.{List, [], _∷_, _++_, append-nil}
-use Prim.Native.Nat.{ℕ, _+_, _-_, _*_, _/_, _^_, _≤_, _<_, min}
+use Prim.Native.Nat.{ℕ, zero, suc, _+_, _-_, _*_, _/_, _^_, _≤_, _<_, min}
 use native.Mathlib.Omega.{arith}
-use native.Mathlib.Nat.{zero-add}
-use lib.ListN.{length, take, drop, length-append, length-take, length-drop, take-append-drop}
-use lib.Seq.{sets, sets-eq, length-sets, take-all, take-length, take-append-add}
+use native.Mathlib.Nat.{add-zero, zero-add}
+use lib.ListN.{length, take, drop, getD, length-append, length-take, length-drop, take-append-drop}
+use lib.Seq.{sets, sets-eq, length-sets, take-all, take-length, length-take-le, take-append-add, drop-append-le, drop-drop, drop-at, getD-take, getD-drop}
 use mathlib.Core.Bool.{Bool, true, false}
 use lib.Dec.{leb, eqb}
-use borrow.Author.Tests.{leb-true, leb-false, eq-eqb, ne-eqb}
+use borrow.Author.Tests.{leb-true, leb-false, eqb-false}
 use native.Mathlib.Numerals.{add-one}
 use Rattle.theory.specs.declared.state.State.{State}
+use Rattle.theory.specs.feeding.Step.{freshState}
+use Rattle.text.specs.declared.parsed.Parsed.{Parsed}
 use Rattle.text.specs.declared.progress.Progress.{Progress}
-use Rattle.text.specs.Lines.{lf, linesOf, lineEnd}
+use Rattle.text.specs.Bytes.{upTo, after}
+use Rattle.text.specs.Lines.{lf, lineRoom, linesOf, lineEnd}
 use Rattle.text.specs.LineForm.{parseOf}
 use Rattle.text.specs.Wrote.{Wrote}
-use Rattle.text.specs.Answers.{LineAnswered, LinesAnswered, PieceFits, EndAnswered}
-use Rattle.text.specs.Report.{saidFor, stateAfter, reportOf}
-use Rattle.text.specs.Pieces.{Kept, kept, freshKept, heldMost, saidAt, afterByte, saidIn, afterPiece, saidAtEnd, saidInAll, wholeOf, keptOf, progressAfter, fits}
-use Rattle.text.proofs.Bytes.{Without, and-true}
-use Rattle.text.proofs.Wrote.{sets-append, wrote-nothing, _then_, front, as-long}
-use Rattle.text.proofs.Lines.{lines-of, lines-fit}
-use Rattle.text.proofs.Pieces.{keptWith, parse-held, rest-held, line-said, line-after, any-cut}
-use Rattle.text.proofs.Reporting.{from-place, line-without}
+use Rattle.text.specs.Answers.{LineAnswered, LinesFit, stateFrom, LinesAnswered, PieceFits, EndedAnswered}
+use Rattle.text.specs.Report.{saidFor, stateAfter, reportFrom, reportOf}
+use Rattle.text.specs.Pieces.{Kept, kept, heldMost, afterByte, saidIn, afterPiece, progressAfter, holdsOpen, fits, HeldOpen}
+use Rattle.text.specs.Reading.{LastLf}
+use Rattle.text.proofs.Bytes.{Without, and-true, index-none, index-fits, index-bound, split-first, before-without, without-append, without-cons, without-head, without-drop, without-take}
+use Rattle.text.proofs.Wrote.{sets-append, _then_, front, as-long}
+use Rattle.text.proofs.Lines.{no-lines, lines-of, lines-fit, line-last}
+use Rattle.text.proofs.Reading.{lf-within}
+use Rattle.text.proofs.Pieces.{keptWith, parse-held, said-append, after-append, rest-held, line-said, line-after}
+use Rattle.text.proofs.Reporting.{linesIn, lines-in, from-place, line-without}
 
 -- What is held
 
@@ -98,7 +103,7 @@ held-rest memory s i {m} {memory′} =
 
 -- What a piece makes of it
 
--- at most 65 bytes are a line's beginning as it stands
+-- as many bytes as are held at most are a line's beginning as it stands
 cut-none : (s : State) (n : ℕ) {h : List ℕ} → length h ≤ heldMost → kept s n h ≡ keptWith s n h
 cut-none s n {h} q = ap (kept s n) (sym (take-all heldMost h q))
 
@@ -106,137 +111,273 @@ pub piece-held : (s : State) (n : ℕ) (h l : List ℕ) → length h ≤ heldMos
     → (saidIn (kept s n h) l ≡ []) × (afterPiece (kept s n h) l ≡ kept s n (take heldMost (h ++ l)))
 piece-held s n h l q w = rw (cut-none s n q) (rest-held s n h l w)
 
--- a piece in which the line that has begun with h ends
-module _ (s : State) (n : ℕ) (h piece : List ℕ) (e : ℕ) (short : length h ≤ heldMost) (q : e ≡ 0 + lineEnd (drop 0 piece)) (ends : e < length piece) where
-  whole : take (e - 0) piece ≡ take e piece
-  whole = let z : e - 0 ≡ e = omega arith in ap (λ (k : ℕ). take k piece) z
+-- a part is its lines: they are answered, and nothing is held
+abbrev OnlyLines : List ℕ → State → ℕ → Type 0
+OnlyLines u s n = (saidIn (kept s n []) u ≡ reportFrom (suc n) s (linesOf u)) × (afterPiece (kept s n []) u ≡ kept (stateFrom s (linesOf u)) (n + length (linesOf u)) [])
 
+-- LF is its last byte: so it is if what follows its first line is
+module _ (u : List ℕ) (some : 0 < length u) (e : getD u (length u - 1) 0 ≡ lf) where
+  abbrev line : List ℕ
+  line = upTo lf u
+
+  abbrev more : List ℕ
+  more = after lf u
+
+  more-long : length more ≡ length u - suc (lineEnd u)
+  more-long = length-drop (suc (lineEnd u)) u
+
+  more-last : 0 < length more → getD more (length more - 1) 0 ≡ lf
+  more-last k =
+      let q : suc (lineEnd u) + (length more - 1) ≡ length u - 1 = omega (arith, more-long) in
+      getD-drop (suc (lineEnd u)) u (length more - 1) 0 ∙ ap (λ (j : ℕ). getD u j 0) q ∙ e
+
+  one-more : (s : State) (n : ℕ) → OnlyLines more (stateAfter s (parseOf line)) (suc n) → OnlyLines u s n
+  unfolding reportFrom stateFrom
+  one-more s n on =
+      let split : u ≡ line ++ (lf ∷ more) = split-first lf u (lf-within u 0 some e) in
+      let lines : linesOf u ≡ line ∷ linesOf more = lines-of u some in
+      let count : suc n + length (linesOf more) ≡ n + suc (length (linesOf more)) = omega arith in
+      let w = before-without lf u in (
+        ap (saidIn (kept s n [])) split
+            ∙ line-said s n [] line more w
+            ∙ ap (λ (z : List ℕ). saidFor (suc n) s (parseOf line) ++ z) (on .0)
+            ∙ ap (reportFrom (suc n) s) (sym lines),
+        ap (afterPiece (kept s n [])) split
+            ∙ line-after s n [] line more w
+            ∙ on .1
+            ∙ ap (λ (k : ℕ). kept (stateFrom (stateAfter s (parseOf line)) (linesOf more)) k []) count
+            ∙ ap (λ (z : List (List ℕ)). kept (stateFrom s z) (n + length z) []) (sym lines),
+      )
+
+-- nothing is too
+no-more : (s : State) (n : ℕ) → OnlyLines [] s n
+unfolding saidIn afterPiece reportFrom stateFrom
+no-more s n = rw no-lines (refl, ap (λ (k : ℕ). kept s k []) (sym (add-zero n)))
+
+-- so a part of which LF is the last byte, or that is empty, is its lines
+ended-said : (m : ℕ) (u : List ℕ) → length u ≤ m → (0 < length u → getD u (length u - 1) 0 ≡ lf) → (s : State) (n : ℕ) → OnlyLines u s n
+ended-said zero [] h e s n = no-more s n
+ended-said zero (b ∷ u) h e s n = absurd (omega arith)
+ended-said (suc m) [] h e s n = no-more s n
+ended-said (suc m) (b ∷ u) h e s n =
+    let last = e (omega arith) in
+    one-more (b ∷ u) (omega arith) last s n
+    (ended-said m (after lf (b ∷ u)) (omega (arith, more-long (b ∷ u) (omega arith) last)) (more-last (b ∷ u) (omega arith) last) (stateAfter s (parseOf (upTo lf (b ∷ u)))) (suc n))
+
+-- a piece whose last LF stands before `rest`
+module _ (piece : List ℕ) (rest : ℕ) (x : LastLf piece rest) where
+  -- from a place before that on: the lines that end are answered, and what is left is held
+  module _ (s : State) (n from : ℕ) (h : from ≤ rest) where
+    abbrev u : List ℕ
+    u = drop from (take rest piece)
+
+    long : length u ≡ rest - from
+    long = length-drop from (take rest piece) ∙ ap (λ (k : ℕ). k - from) (length-take-le rest piece (x .within))
+
+    joined : drop from piece ≡ u ++ drop rest piece
+    joined = ap (drop from) (sym (take-append-drop rest piece)) ∙ drop-append-le from (take rest piece) (drop rest piece) (omega (arith, length-take-le rest piece (x .within)))
+
+    last : 0 < length u → getD u (length u - 1) 0 ≡ lf
+    last k =
+        let q : from + (length u - 1) ≡ rest - 1 = omega (arith, long) in
+        getD-drop from (take rest piece) (length u - 1) 0
+        ∙ ap (λ (j : ℕ). getD (take rest piece) j 0) q
+        ∙ getD-take rest piece (rest - 1) 0 (omega (arith, long))
+        ∙ x .after-lf (omega (arith, long))
+
+    pub part-said : saidIn (kept s n []) (drop from piece) ≡ reportFrom (suc n) s (linesIn piece rest from)
+    part-said =
+        let (p, q) = ended-said (length u) u (omega arith) last s n in
+        ap (saidIn (kept s n [])) joined
+        ∙ said-append (kept s n []) u (drop rest piece)
+        ∙ ap₂ (λ (z : List ℕ) (k : Kept). z ++ saidIn k (drop rest piece)) p q
+        ∙ ap (λ (z : List ℕ). reportFrom (suc n) s (linesOf u) ++ z) (rest-held (stateFrom s (linesOf u)) (n + length (linesOf u)) [] (drop rest piece) (x .none) .0)
+        ∙ append-nil (reportFrom (suc n) s (linesOf u))
+
+    pub part-after : afterPiece (kept s n []) (drop from piece)
+        ≡ kept (stateFrom s (linesIn piece rest from)) (n + length (linesIn piece rest from)) (take heldMost (drop rest piece))
+    part-after =
+        let (p, q) = ended-said (length u) u (omega arith) last s n in
+        ap (afterPiece (kept s n [])) joined
+        ∙ after-append (kept s n []) u (drop rest piece)
+        ∙ ap (λ (k : Kept). afterPiece k (drop rest piece)) q
+        ∙ rest-held (stateFrom s (linesOf u)) (n + length (linesOf u)) [] (drop rest piece) (x .none) .1
+
+  -- nothing was held: all lines that end in the piece lie whole in it
+  pub none-begun : {out out′ : List ℕ} {at n lines to : ℕ} {s s′ : State}
+      → LinesAnswered (record { entry = out; exit = out′ }) at (record { entry = s; exit = s′ }) n (linesIn piece rest 0) lines to
+      → EndedAnswered (record { entry = out; exit = out′ }) at (kept s n []) piece rest s′ lines to
+  none-begun {n = n} {s = s} a =
+      record {
+        wrote = rw (part-said s n 0 (omega arith)) (a .wrote);
+        keeps = ap₂ (λ (z : State) (k : ℕ). kept z k (take heldMost (drop rest piece))) (a .fed) (a .counts) ∙ sym (part-after s n 0 (omega arith));
+      }
+
+-- the first line of a piece, up to its LF, which stands at e
+whole-first : (piece : List ℕ) (e : ℕ) → take (e - 0) piece ≡ take e piece
+whole-first piece e = let z : e - 0 ≡ e = omega arith in ap (λ (k : ℕ). take k piece) z
+
+pub first-without : (piece : List ℕ) (e : ℕ) → e ≡ 0 + lineEnd (drop 0 piece) → Without lf (take e piece)
+first-without piece e q = subst (Without lf) (whole-first piece e) (line-without piece 0 e q)
+
+module _ (piece : List ℕ) (e : ℕ) (q : e ≡ 0 + lineEnd (drop 0 piece)) (ends : e < length piece) where
   first-line : piece ≡ take e piece ++ (lf ∷ drop (e + 1) piece)
-  first-line = from-place piece 0 e q ends ∙ ap (λ (l : List ℕ). l ++ (lf ∷ drop (e + 1) piece)) whole
+  first-line = from-place piece 0 e q ends ∙ ap (λ (l : List ℕ). l ++ (lf ∷ drop (e + 1) piece)) (whole-first piece e)
 
-  first-without : Without lf (take e piece)
-  first-without = subst (Without lf) whole (line-without piece 0 e q)
+  -- that LF is not after the last one
+  pub first-before : {rest : ℕ} → LastLf piece rest → e + 1 ≤ rest
+  first-before {rest} x = picked (leb rest e) refl
+    where
+      picked : (t : Bool) → leb rest e ≡ t → e + 1 ≤ rest
+      picked false f = omega (arith, leb-false rest e f)
+      picked true f =
+          let i : rest + (e - rest) ≡ e = omega (arith, leb-true rest e f) in
+          let w = subst (Without lf) (drop-drop (e - rest) rest piece ∙ ap (λ (k : ℕ). drop k piece) i) (without-drop lf (drop rest piece) (e - rest) (x .none)) in
+          let there = ap (drop e) first-line ∙ drop-at (take e piece) (lf ∷ drop (e + 1) piece) e (length-take-le e piece (omega arith)) in
+          absurd (without-head lf lf (drop (e + 1) piece) (subst (Without lf) there w) .0 refl)
 
+-- where there is a last LF, there is a first
+pub some-lf : (piece : List ℕ) {e rest : ℕ} → e ≡ 0 + lineEnd (drop 0 piece) → LastLf piece rest → 0 < rest → e < length piece
+some-lf piece {rest = rest} q x h = omega (arith, index-bound lf piece (rest - 1) (omega (arith, x .within)) (x .after-lf h), x .within)
+
+-- the lines before what follows it fit where there is room for a line for each byte
+pub lines-before : (piece : List ℕ) {out : List ℕ} {at lines rest : ℕ} (from : ℕ) → LastLf piece rest → from ≤ rest → at + lineRoom * (rest - from) ≤ length out → lines + (rest - from) < 2 ^ 64
+    → LinesFit out at lines piece from rest
+lines-before piece {rest = rest} from x h r k =
+    let l = lines-in piece rest from in
+    record { begins = h; uncut = record { within = x .within; after-lf = λ i _. x .after-lf i }; room = omega (arith, l); counted = omega (arith, l) }
+
+-- the line that has begun with h ends in the piece
+module _ (s : State) (n : ℕ) (h piece : List ℕ) (e : ℕ) (short : length h ≤ heldMost) (q : e ≡ 0 + lineEnd (drop 0 piece)) (ends : e < length piece) where
   -- the state after that line
   abbrev next : State
   next = stateAfter s (parseOf (h ++ take e piece))
 
   said : saidIn (kept s n h) piece ≡ saidFor (n + 1) s (parseOf (h ++ take e piece)) ++ saidIn (kept next (n + 1) []) (drop (e + 1) piece)
   said =
-      ap₂ saidIn (cut-none s n short) first-line ∙ line-said s n h (take e piece) (drop (e + 1) piece) first-without
+      ap₂ saidIn (cut-none s n short) (first-line piece e q ends) ∙ line-said s n h (take e piece) (drop (e + 1) piece) (first-without piece e q)
       ∙ ap (λ (k : ℕ). saidFor k s (parseOf (h ++ take e piece)) ++ saidIn (kept next k []) (drop (e + 1) piece)) (sym (add-one n))
 
-  after : afterPiece (kept s n h) piece ≡ afterPiece (kept next (n + 1) []) (drop (e + 1) piece)
-  after =
-      ap₂ afterPiece (cut-none s n short) first-line ∙ line-after s n h (take e piece) (drop (e + 1) piece) first-without
+  goes-on : afterPiece (kept s n h) piece ≡ afterPiece (kept next (n + 1) []) (drop (e + 1) piece)
+  goes-on =
+      ap₂ afterPiece (cut-none s n short) (first-line piece e q ends) ∙ line-after s n h (take e piece) (drop (e + 1) piece) (first-without piece e q)
       ∙ ap (λ (k : ℕ). afterPiece (kept next k []) (drop (e + 1) piece)) (sym (add-one n))
 
   -- that line, and those that end after it
-  pub lines-answered : {out out₁ out₂ : List ℕ} {at at₁ at₂ lines rest : ℕ} {s₁ s₂ : State}
+  pub some-begun : {rest : ℕ} {out out₁ out₂ : List ℕ} {at at₁ at₂ lines : ℕ} {s₁ s₂ : State} → LastLf piece rest
       → LineAnswered (record { entry = out; exit = out₁ }) at (n + 1) (record { entry = s; exit = s₁ }) (parseOf (h ++ take e piece)) at₁
-      → LinesAnswered (record { entry = out₁; exit = out₂ }) at₁ (kept s₁ (n + 1) []) piece (e + 1) s₂ lines at₂ rest
-      → LinesAnswered (record { entry = out; exit = out₂ }) at (kept s n h) piece 0 s₂ lines at₂ rest
-  lines-answered {out₁ = out₁} {out₂} {at₁ = at₁} {at₂} a b =
+      → LinesAnswered (record { entry = out₁; exit = out₂ }) at₁ (record { entry = s₁; exit = s₂ }) (n + 1) (linesIn piece rest (e + 1)) lines at₂
+      → EndedAnswered (record { entry = out; exit = out₂ }) at (kept s n h) piece rest s₂ lines at₂
+  some-begun {rest} {out₁ = out₁} {out₂} {at₁ = at₁} {at₂} x a b =
+      let ls = linesIn piece rest (e + 1) in
+      let before = first-before piece e q ends x in
       record {
-        wrote = rw said (a .wrote then subst (λ (z : State). Wrote out₁ at₁ (saidIn (kept z (n + 1) []) (drop (e + 1) piece)) out₂ at₂) (a .fed) (b .wrote));
-        within = b .within;
-        room = b .room;
-        keeps = b .keeps ∙ ap (λ (z : State). afterPiece (kept z (n + 1) []) (drop (e + 1) piece)) (a .fed) ∙ sym after;
+        wrote = rw (said, part-said piece rest x next (n + 1) (e + 1) before)
+            (a .wrote then subst (λ (z : State). Wrote out₁ at₁ (reportFrom (suc (n + 1)) z ls) out₂ at₂) (a .fed) (b .wrote));
+        keeps = ap₂ (λ (z : State) (k : ℕ). kept z k (take heldMost (drop rest piece))) (b .fed ∙ ap (λ (z : State). stateFrom z ls) (a .fed)) (b .counts)
+            ∙ sym (goes-on ∙ part-after piece rest x next (n + 1) (e + 1) before);
       }
 
 -- As memory
 
--- the line that begins with n held bytes and goes on with s, put together in memory of its own, says what the line does
-pub line-joined : (zeros memory s : List ℕ) {n a b : ℕ} {joint line : List ℕ} → n ≤ heldMost → heldMost ≤ length memory → heldMost ≤ length zeros
-    → Wrote zeros 0 (take n memory) joint a
-    → b ≡ length (take heldMost (take a joint ++ s))
-    → line ≡ sets joint 0 (take heldMost (take a joint ++ s))
-    → parseOf (take b line) ≡ parseOf (take n memory ++ s)
-line-joined zeros memory s {n} {a} {b} {joint} {line} h k z w q e =
-    let long : length (take n memory) ≤ heldMost = omega (arith, length-take n memory) in
-    let joins : take a joint ≡ take n memory = front w (omega arith) in
-    let room : length (take heldMost (take a joint ++ s)) ≤ length joint = omega (arith, length-take heldMost (take a joint ++ s), as-long w) in
-    ap₂ (λ (i : ℕ) (l : List ℕ). parseOf (take i l)) q e
-    ∙ ap parseOf (front-held joint (take heldMost (take a joint ++ s)) room)
-    ∙ parse-held (take a joint ++ s)
-    ∙ ap (λ (l : List ℕ). parseOf (l ++ s)) joins
+-- a text of one line without LF
+pub one-line : (line : List ℕ) {b : ℕ} → b ≡ length line → Without lf line → 0 < length line → linesIn line b 0 ≡ line ∷ []
+one-line line q w h = ap linesOf (ap (λ (k : ℕ). take k line) q ∙ take-length line) ∙ line-last line w h
 
-pub some-lines : (s : List ℕ) → 0 < length s → 0 < length (linesOf s)
-some-lines s h = omega (arith, ap length (lines-of s h))
+-- what is held of a line says what the line does
+line-answered : (h : List ℕ) {out out′ : List ℕ} {at n lines to : ℕ} {s s′ : State}
+    → LinesAnswered (record { entry = out; exit = out′ }) at (record { entry = s; exit = s′ }) n (take heldMost h ∷ []) lines to
+    → LineAnswered (record { entry = out; exit = out′ }) at (n + 1) (record { entry = s; exit = s′ }) (parseOf h) to
+unfolding reportFrom stateFrom
+line-answered h {out} {out′} {at} {n} {to = to} {s} a =
+    record {
+      room = omega (arith, a .room);
+      wrote = subst (λ (z : List ℕ). Wrote out at z out′ to) (append-nil _ ∙ ap₂ (λ (k : ℕ) (p : Parsed). saidFor k s p) (sym (add-one n)) (parse-held h)) (a .wrote);
+      fed = a .fed ∙ ap (stateAfter s) (parse-held h);
+    }
 
--- where something is held of a piece, the piece has room for one line at least
-pub room-held : (memory s : List ℕ) (at : ℕ) {n m size : ℕ} → n ≡ 0 → m ≡ length (take heldMost (take n memory ++ s)) → 0 < m
-    → at + 64 * length (linesOf s) ≤ size → at + 64 ≤ size
-room-held memory s at {n} {m} z q h r =
-    let none : length (take n memory) ≡ 0 = length-take n memory ∙ omega arith in
-    let long : length (take heldMost (take n memory ++ s)) ≤ length s = omega (arith, length-take heldMost (take n memory ++ s), length-append (take n memory) s) in
-    omega (arith, some-lines s (omega arith))
+-- the first n bytes of `memory` and what follows them, put together in memory of their own: as much of a line as is held at most
+module _ (zeros memory s : List ℕ) {n a b : ℕ} {joint line : List ℕ} (some : 0 < n) (short : n ≤ heldMost) (room : heldMost ≤ length memory)
+    (clean : n ≤ lineEnd (take n memory)) (zeros-fit : heldMost ≤ length zeros) (w : Wrote zeros 0 (take n memory) joint a)
+    (q : b ≡ length (take heldMost (take a joint ++ s))) (e : line ≡ sets joint 0 (take heldMost (take a joint ++ s))) where
+  joins : take a joint ≡ take n memory
+  joins = front w (omega (arith, length-take n memory))
+
+  whole-line : take b line ≡ take heldMost (take n memory ++ s)
+  whole-line =
+      let fit : length (take heldMost (take a joint ++ s)) ≤ length joint = omega (arith, length-take heldMost (take a joint ++ s), as-long w) in
+      ap₂ (λ (i : ℕ) (l : List ℕ). take i l) q e
+      ∙ front-held joint (take heldMost (take a joint ++ s)) fit
+      ∙ ap (λ (l : List ℕ). take heldMost (l ++ s)) joins
+
+  joined-long : b ≡ length (take b line)
+  joined-long = q ∙ ap (λ (l : List ℕ). length (take heldMost (l ++ s))) joins ∙ sym (ap length whole-line)
+
+  not-empty : 0 < length (take b line)
+  not-empty =
+      omega (arith, ap length whole-line, length-take heldMost (take n memory ++ s), length-append (take n memory) s, length-take n memory)
+
+  module _ (open-rest : Without lf s) where
+    no-lf : Without lf (take b line)
+    no-lf =
+        let held : Without lf (take n memory) = omega (arith, clean, index-fits lf (take n memory), length-take n memory) in
+        subst (Without lf) (sym whole-line) (without-take lf (take n memory ++ s) heldMost (without-append lf (take n memory) s held open-rest))
+
+    one : linesIn (take b line) b 0 ≡ take b line ∷ []
+    one = one-line (take b line) joined-long no-lf not-empty
+
+    pub joined-fits : {out : List ℕ} {at lines : ℕ} → at + lineRoom ≤ length out → lines + 1 < 2 ^ 64 → LinesFit out at lines (take b line) 0 b
+    joined-fits h k =
+        record {
+          begins = omega arith;
+          uncut = record { within = omega (arith, joined-long); after-lf = λ _ l. absurd (omega (arith, joined-long)) };
+          room = omega (arith, ap length one);
+          counted = omega (arith, ap length one);
+        }
+
+    pub joined-answered : {out out′ : List ℕ} {at m lines to : ℕ} {z z′ : State}
+        → LinesAnswered (record { entry = out; exit = out′ }) at (record { entry = z; exit = z′ }) m (linesIn (take b line) b 0) lines to
+        → LineAnswered (record { entry = out; exit = out′ }) at (m + 1) (record { entry = z; exit = z′ }) (parseOf (take n memory ++ s)) to
+    joined-answered {out} {out′} {at} {m} {lines} {to} {z} {z′} x =
+        line-answered (take n memory ++ s)
+        (subst (λ (ls : List (List ℕ)). LinesAnswered (record { entry = out; exit = out′ }) at (record { entry = z; exit = z′ }) m ls lines to)
+        (one ∙ ap (λ (l : List ℕ). l ∷ []) whole-line) x)
 
 pub progress-said : (k : Kept) (piece : List ℕ) (at : ℕ) {to n lines : ℕ} {s : State} {h : List ℕ} → afterPiece k piece ≡ kept s lines h
     → n ≡ length h → to ≡ at + length (saidIn k piece)
     → record { lines = lines; held = n; at = to } ≡ progressAfter k at piece
 progress-said k piece at e f g = rw (e, f, g)
 
--- After a piece
-
-pub lines-kept : (k : Kept) (s : List ℕ) → (afterPiece k s) .lines ≤ k .lines + length s
+pub held-open : HeldOpen
 unfolding afterPiece afterByte
-lines-kept k [] = omega arith
-lines-kept k (b ∷ s) = omega (arith, lines-kept (afterByte k b) s, one-byte (eqb b lf) refl)
+held-open k [] w = w
+held-open k (b ∷ s) w = held-open (afterByte k b) s (picked (eqb b lf) refl)
   where
-    one-byte : (t : Bool) → eqb b lf ≡ t → (afterByte k b) .lines ≤ k .lines + 1
-    one-byte true e = rw e (omega arith)
-    one-byte false e = rw e (omega arith)
+    picked : (t : Bool) → eqb b lf ≡ t → Without lf ((afterByte k b) .held)
+    picked true e = rw e (index-none lf)
+    picked false e =
+        rw e (without-take lf (k .held ++ (b ∷ [])) heldMost (without-append lf (k .held) (b ∷ []) w (without-cons lf b [] (eqb-false b lf e) (index-none lf))))
 
-pub held-short : (k : Kept) (s : List ℕ) → length (k .held) ≤ heldMost → length ((afterPiece k s) .held) ≤ heldMost
-unfolding afterPiece afterByte
-held-short k [] h = h
-held-short k (b ∷ s) h = held-short (afterByte k b) s (picked (eqb b lf) refl)
-  where
-    picked : (t : Bool) → eqb b lf ≡ t → length ((afterByte k b) .held) ≤ heldMost
-    picked true e = rw e (omega arith)
-    picked false e = rw e (omega (arith, length-take heldMost (k .held ++ (b ∷ []))))
+-- The whole text
 
--- so many lines at most are answered, and the memory holds what is held
-module _ (k : Kept) (piece : List ℕ) (at : ℕ) {r : Progress} (e : r ≡ progressAfter k at piece) where
-  pub lines-after : r .lines ≤ k .lines + length piece
-  lines-after = rw e (lines-kept k piece)
+-- its lines fit where there is room for each
+pub text-fits : (report text : List ℕ) → lineRoom * length (linesOf text) ≤ length report → length text < 2 ^ 64 → LinesFit report 0 0 text 0 (length text)
+text-fits report text h k =
+    let all = ap (λ (l : List ℕ). length (linesOf l)) (take-length text) in
+    record {
+      begins = omega arith;
+      uncut = record { within = omega arith; after-lf = λ _ l. absurd (omega arith) };
+      room = omega (arith, all);
+      counted = omega (arith, all, lines-fit text);
+    }
 
-  module _ (memory : List ℕ) {memory′ : List ℕ} (f : memory′ ≡ sets memory 0 ((afterPiece k piece) .held)) (short : length (k .held) ≤ heldMost) (fits : heldMost ≤ length memory) where
-    pub held-within : r .held ≤ length memory′
-    held-within = rw (e, f) (omega (arith, held-short k piece short, length-sets memory 0 ((afterPiece k piece) .held)))
-
-    pub kept-after : {s : State} → s ≡ (afterPiece k piece) .state → keptOf s r memory′ ≡ afterPiece k piece
-    kept-after g = rw (e, f, g, front-held memory ((afterPiece k piece) .held) (omega (arith, held-short k piece short)))
-
--- The end of a text
-
-module _ (s : State) (begun : Progress) (memory out : List ℕ) where
-  -- nothing is held, and nothing is said
-  pub nothing-held : begun .held ≡ 0 → EndAnswered (record { entry = out; exit = out }) memory (record { entry = s; exit = s }) begun (begun .at)
-  nothing-held e =
-      let q : length (take (begun .held) memory) ≡ 0 = omega (arith, length-take (begun .held) memory) in
-      let t = eq-eqb (length (take (begun .held) memory)) 0 q in
-      record { wrote = rw t wrote-nothing; fed = rw t }
-
-  -- what is held is a line
-  pub line-held : {out′ : List ℕ} {to : ℕ} {s′ : State} → begun .held ≤ length memory → (begun .held ≡ 0 → ⊥)
-      → LineAnswered (record { entry = out; exit = out′ }) (begun .at) (begun .lines + 1) (record { entry = s; exit = s′ }) (parseOf (take (begun .held) memory)) to
-      → EndAnswered (record { entry = out; exit = out′ }) memory (record { entry = s; exit = s′ }) begun to
-  unfolding saidAt afterByte
-  line-held h d a =
-      let t = ne-eqb (length (take (begun .held) memory)) 0 (λ z. d (counted (begun .held) memory h ∙ z)) in
-      record { wrote = rw t (rw (add-one (begun .lines)) at (a .wrote)); fed = rw t (a .fed) }
-
-whole-text : (text : List ℕ) → reportOf text ≡ saidIn freshKept text ++ saidAtEnd (afterPiece freshKept text)
-unfolding wholeOf saidInAll
-whole-text text = ap reportOf (sym (append-nil text)) ∙ sym (any-cut (text ∷ []))
-
--- the whole text as one piece, and what is held at its end
-pub text-said : (text : List ℕ) {k k′ : Kept} {report report′ report″ : List ℕ} {at to : ℕ}
-    → Wrote report 0 (saidIn k text) report′ at → k′ ≡ afterPiece k text → Wrote report′ at (saidAtEnd k′) report″ to → k ≡ freshKept
-    → Wrote report 0 (reportOf text) report″ to
-text-said text w e v f = rw (whole-text text, ← f, ← e) (w then v)
+-- all its lines are answered from a fresh state
+pub text-said : (text : List ℕ) {s : State} {report report′ : List ℕ} {to : ℕ}
+    → Wrote report 0 (reportFrom 1 s (linesIn text (length text) 0)) report′ to → s ≡ freshState
+    → Wrote report 0 (reportOf text) report′ to
+unfolding reportOf
+text-said text {s} {report} {report′} {to} w e =
+    subst (λ (z : List ℕ). Wrote report 0 z report′ to) (ap₂ (λ (z : State) (l : List ℕ). reportFrom 1 z (linesOf l)) e (take-length text)) w
 
 -- Room
 
@@ -245,19 +386,21 @@ in-64 : (lines more : ℕ) → lines < 2 ^ 64 → more ≤ 2 ^ 64 - 1 - lines �
 in-64 lines more b h = omega arith
 
 -- where a piece fits, its lines do, and so does what is held
-pub room-enough : (out piece held : List ℕ) (begun : Progress) → begun .lines < 2 ^ 64 → fits (length out) (length piece) (length held) begun ≡ true
+pub room-enough : (out piece held : List ℕ) (begun : Progress) → begun .lines < 2 ^ 64 → fits (length out) (length piece) held begun ≡ true
     → PieceFits out piece held begun
 room-enough out piece held begun w e =
     let (a, r) = and-true (leb (begun .at) (length out)) _ e in
-    let (b, r₁) = and-true (leb (length piece) ((length out - begun .at) / 64)) _ r in
-    let (c, r₂) = and-true (leb heldMost (length held)) _ r₁ in
-    let (d, f) = and-true (leb (begun .held) heldMost) _ r₂ in
+    let (b, r₁) = and-true (leb (length piece) ((length out - begun .at) / lineRoom)) _ r in
+    let (o, f) = and-true (holdsOpen held (begun .held)) _ r₁ in
+    let (c, r₂) = and-true (leb heldMost (length held)) _ o in
+    let (d, g) = and-true (leb (begun .held) heldMost) _ r₂ in
     let h = leb-true (begun .at) (length out) a in
-    let k = leb-true (length piece) ((length out - begun .at) / 64) b in
+    let k = leb-true (length piece) ((length out - begun .at) / lineRoom) b in
     let l = leb-true (length piece) (2 ^ 64 - 1 - begun .lines) f in
     record {
-      room = omega (arith, lines-fit piece, h, k);
+      room = omega (arith, h, k);
       short = leb-true (begun .held) heldMost d;
       holds = leb-true heldMost (length held) c;
+      whole = leb-true (begun .held) (lineEnd (take (begun .held) held)) g;
       counted = in-64 (begun .lines) (length piece) w l;
     }

@@ -6,10 +6,10 @@ use native.Mathlib.Omega.{arith}
 use lib.ListN.{length, length-append}
 use Rattle.theory.specs.declared.record.Record.{Record}
 use Rattle.theory.specs.declared.answer.Answer.{Answer}
-use Rattle.theory.specs.declared.answer.Answer.the-variants.{Refused, Accepted, Clear, Race, Doubt}
-use Rattle.theory.specs.feeding.Feeding.{refusalNumber}
+use Rattle.theory.specs.verdicts.Verdict.{Verdict, Race, Clear, Doubt}
+use Rattle.theory.specs.feeding.Meaning.{Meaning, refuses, takes, judges, meaning, refusalNumber}
 use Rattle.text.specs.Printing.{bytes, digitsOf, decimal}
-use Rattle.text.specs.ReportLines.{accessPart, accessLine, refusedLine, reportLine}
+use Rattle.text.specs.ReportLines.{accessPart, accessLine, refusedLine, wordFor, lineFor, reportLine}
 use Rattle.text.proofs.Digits.{decimal-fits}
 
 -- the lengths of the lines: the words and the numbers of five digits are of fixed length
@@ -47,11 +47,18 @@ pub access-room : (at number task variable : ℕ) (verdict : List ℕ) (partner 
     → at + length (accessLine number task variable verdict partner) ≤ room
 access-room at number task variable verdict partner h t v w = omega (arith, access-line-fits number task variable verdict partner t v w)
 
+-- a word of at most five letters
+pub word-fits : (v : Verdict) → length (wordFor v) ≤ 5
+word-fits Race = omega arith
+word-fits Clear = omega arith
+word-fits Doubt = omega arith
+
 -- a line of the report, whatever the answer. With tasks and variables of ten digits an access would take 66 bytes; a line of the text form says at most five.
-pub report-line-fits : (line : ℕ) (r : Record) (a : Answer) → line < 2 ^ 64 → refusalNumber a < 2 ^ 32 → r .task < 10 ^ 9 → r .on < 10 ^ 9
+pub report-line-fits : (line : ℕ) (r : Record) (a : Answer) → line < 2 ^ 64 → refusalNumber (meaning a) < 2 ^ 32 → r .task < 10 ^ 9 → r .on < 10 ^ 9
     → length (reportLine line r a) ≤ 64
-report-line-fits line r (Refused number) h n t v = refused-line-fits line number h n
-report-line-fits line r (Accepted number) h n t v = omega arith
-report-line-fits line r (Clear number) h n t v = access-line-fits (number .0) (r .task) (r .on) (bytes "clear") 0 t v (omega arith)
-report-line-fits line r (Race number partner) h n t v = access-line-fits (number .0) (r .task) (r .on) (bytes "race") (partner .0) t v (omega arith)
-report-line-fits line r (Doubt number partner) h n t v = access-line-fits (number .0) (r .task) (r .on) (bytes "doubt") (partner .0) t v (omega arith)
+report-line-fits line r a h n t v = fits (meaning a) n
+  where
+    fits : (m : Meaning) → refusalNumber m < 2 ^ 32 → length (lineFor line r m) ≤ 64
+    fits (refuses number) n = refused-line-fits line number h n
+    fits (takes number) n = omega arith
+    fits (judges number verdict partner) n = access-line-fits number (r .task) (r .on) (wordFor verdict) partner t v (word-fits verdict)

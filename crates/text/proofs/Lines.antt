@@ -50,13 +50,6 @@ pub line-last : (line : List ℕ) → Without lf line → 0 < length line → li
 line-last line h k =
     lines-of line k ∙ rw (h, take-length line, drop-of-length-le line {i = suc (length line)} (omega arith), no-lines)
 
--- the lines from a place on are one more than those from the place after the line that begins there
-pub lines-at : (s : List ℕ) (at r : ℕ) → at < length s → r ≡ at + lineEnd (drop at s) → length (linesOf (drop at s)) ≡ suc (length (linesOf (drop (r + 1) s)))
-lines-at s at r h e =
-    let q : at + suc (lineEnd (drop at s)) ≡ r + 1 = omega arith in
-    ap length (lines-of (drop at s) (rw (length-drop at s) (omega arith)))
-    ∙ ap (λ (t : List ℕ). suc (length (linesOf t))) (drop-drop (suc (lineEnd (drop at s))) at s ∙ ap (λ (k : ℕ). drop k s) q)
-
 -- a text has at most as many lines as bytes
 pub lines-fit : (s : List ℕ) → length (linesOf s) ≤ length s
 unfolding linesOf
@@ -67,9 +60,6 @@ lines-fit (b ∷ s) = picked (eqb b lf) (linesOf s) (lines-fit s)
     picked true ls h = omega arith
     picked false [] h = omega arith
     picked false (l ∷ ls) h = omega arith
-
-pub none-left : (s : List ℕ) (at : ℕ) → length s ≤ at → length (linesOf (drop at s)) ≡ 0
-none-left s at h = rw (drop-of-length-le s h, no-lines)
 
 -- Lines by their LFs
 

@@ -11,7 +11,7 @@ use borrow.Author.Tests.{ne-eqb, eqb-true, eqb-false, leb-true, leb-false}
 use Rattle.theory.specs.declared.state.State.{State}
 use Rattle.text.specs.declared.parsed.Parsed.{Parsed}
 use Rattle.text.specs.Lines.{lf, linesOf}
-use Rattle.text.specs.LineForm.{parseOf}
+use Rattle.text.specs.LineForm.{parseOf, longest}
 use Rattle.text.specs.Report.{saidFor, stateAfter, reportFrom, reportOf}
 use Rattle.text.specs.Pieces.{Kept, kept, freshKept, heldMost, saidAt, afterByte, saidIn, afterPiece, saidAtEnd, saidInAll, wholeOf, AnyCut}
 use Rattle.text.proofs.Bytes.{Without, index-none, without-append, without-cons, without-head}
@@ -37,8 +37,8 @@ parse-held s = picked (leb (length s) heldMost) refl
     picked : (t : Bool) → leb (length s) heldMost ≡ t → parseOf (take heldMost s) ≡ parseOf s
     picked true e = ap parseOf (take-all heldMost s (leb-true (length s) heldMost e))
     picked false e =
-        let h : 65 < length s = leb-false (length s) heldMost e in
-        let k : length (take heldMost s) ≡ 65 = length-take heldMost s ∙ omega arith in
+        let h : heldMost < length s = leb-false (length s) heldMost e in
+        let k : length (take heldMost s) ≡ heldMost = length-take heldMost s ∙ omega arith in
         long-refused (take heldMost s) (omega arith) ∙ sym (long-refused s (omega arith))
 
 -- Byte by byte
@@ -116,7 +116,7 @@ end-begun : (s : State) (n : ℕ) (h : List ℕ) → Without lf h → saidAtEnd 
 unfolding reportFrom
 end-begun s n [] w = ap (reportFrom (suc n) s) (sym no-lines)
 end-begun s n (x ∷ h) w =
-    rw (ne-eqb (suc (length (take 64 h))) 0 (λ e. omega arith))
+    rw (ne-eqb (suc (length (take longest h))) 0 (λ e. omega arith))
     (at-lf s n (x ∷ h) ∙ sym (append-nil _) ∙ ap (reportFrom (suc n) s) (sym (line-last (x ∷ h) w (omega arith))))
 
 -- what is said for what follows, where a line has begun with h, and at the end

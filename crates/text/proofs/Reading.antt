@@ -1,14 +1,18 @@
 -- Reading a text line by line. Assumes nothing.
-use mathlib.Core.Path.{_≡_, sym, ap, _∙_}
-use mathlib.Core.List.{List, [], _∷_}
+use mathlib.Core.Path.{_≡_, refl, sym, ap, ap₂, _∙_}
+use mathlib.Core.Bool.{Bool, true, false}
+use mathlib.Core.List.{List, [], _∷_, _++_}
 use Prim.Native.Nat.{ℕ, zero, suc, _+_, _-_, _≤_, _<_, min}
 use native.Mathlib.Nat.{min-zero, suc-min-suc}
 use native.Mathlib.Omega.{arith}
-use lib.ListN.{length, take, drop, length-drop, drop-of-length-le}
-use lib.Seq.{take-nil, drop-nil, drop-drop, length-take-le}
+use lib.Dec.{leb}
+use lib.ListN.{length, take, drop, getD, length-append, length-drop, take-append-drop, drop-of-length-le}
+use lib.Seq.{take-all, take-nil, drop-nil, drop-drop, length-take-le, take-append-le, drop-append-le, getD-take, getD-drop}
+use borrow.Author.Tests.{leb-true, leb-false}
+use Rattle.text.specs.Bytes.{indexOf}
 use Rattle.text.specs.Lines.{lf, linesOf, lineEnd}
-use Rattle.text.specs.Reading.{lineAt, placeAfter, nextAt, ReadsLines}
-use Rattle.text.proofs.Bytes.{index-fits}
+use Rattle.text.specs.Reading.{lineAt, placeAfter, nextAt, LineStarts, ReadsLines}
+use Rattle.text.proofs.Bytes.{index-fits, index-bound, index-front}
 use Rattle.text.proofs.Lines.{lines-of}
 
 -- the part up to the line's end
@@ -48,3 +52,61 @@ pub reads-lines : ReadsLines
 unfolding lineAt
 reads-lines s at h =
     lines-of (drop at s) (rw (length-drop at s) (omega arith)) ∙ ap (λ (t : List ℕ). lineAt s at ∷ linesOf t) (sym (rest-after s at))
+
+-- Up to a place where a line begins
+
+-- where LF is the last byte, it ends each line
+pub lf-within : (t : List ℕ) (at : ℕ) → at < length t → getD t (length t - 1) 0 ≡ lf → lineEnd (drop at t) < length (drop at t)
+lf-within t at h e =
+    let q : at + (length t - 1 - at) ≡ length t - 1 = omega arith in
+    let b = index-bound lf (drop at t) (length t - 1 - at) (omega (arith, length-drop at t)) (getD-drop at t (length t - 1 - at) 0 ∙ ap (λ (j : ℕ). getD t j 0) q ∙ e) in
+    omega (arith, length-drop at t, b)
+
+-- a line that LF ends in t is the same in t ++ v
+module _ (t v : List ℕ) (at : ℕ) (h : at < length t) (e : lineEnd (drop at t) < length (drop at t)) where
+  ends : lineEnd (drop at (t ++ v)) ≡ lineEnd (drop at t)
+  ends = ap (indexOf lf) (drop-append-le at t v (omega arith)) ∙ index-front lf (drop at t) v e
+
+  front-line : lineAt (t ++ v) at ≡ lineAt t at
+  unfolding lineAt
+  front-line = ap₂ (λ (n : ℕ) (l : List ℕ). take n l) ends (drop-append-le at t v (omega arith)) ∙ take-append-le (lineEnd (drop at t)) (drop at t) v (omega arith)
+
+  front-next : nextAt (t ++ v) at ≡ nextAt t at
+  front-next =
+      let b : at + lineEnd (drop at t) < length t = omega (arith, length-drop at t, e) in
+      next-place (t ++ v) at (omega (arith, length-append t v, ends)) ∙ ap (λ (n : ℕ). at + n + 1) ends ∙ sym (next-place t at b)
+
+-- what is read before a place where a line begins does not hang on what follows it
+pub read-within : (s : List ℕ) (end at : ℕ) → LineStarts s end → at < end → (lineAt s at ≡ lineAt (take end s) at) × (nextAt s at ≡ nextAt (take end s) at)
+read-within s end at w k = picked (leb (length s) end) refl
+  where
+    Same : Type 0
+    Same = (lineAt s at ≡ lineAt (take end s) at) × (nextAt s at ≡ nextAt (take end s) at)
+
+    picked : (b : Bool) → leb (length s) end ≡ b → Same
+    picked true e = let q = sym (take-all end s (leb-true (length s) end e)) in (ap (λ (l : List ℕ). lineAt l at) q, ap (λ (l : List ℕ). nextAt l at) q)
+    picked false e =
+        let more = leb-false (length s) end e in
+        let long : length (take end s) ≡ end = length-take-le end s (w .within) in
+        let last : length (take end s) - 1 ≡ end - 1 = omega (arith, long) in
+        let byte = ap (λ (j : ℕ). getD (take end s) j 0) last ∙ getD-take end s (end - 1) 0 (omega arith) ∙ w .after-lf (omega arith) more in
+        let here : at < length (take end s) = omega (arith, long) in
+        let b = lf-within (take end s) at here byte in
+        let q = sym (take-append-drop end s) in
+        (ap (λ (l : List ℕ). lineAt l at) q ∙ front-line (take end s) (drop end s) at here b, ap (λ (l : List ℕ). nextAt l at) q ∙ front-next (take end s) (drop end s) at here b)
+
+-- the lines before such a place: the one that begins at `at`, and those after it
+pub lines-within : (s : List ℕ) (end at : ℕ) → LineStarts s end → at < end
+    → linesOf (drop at (take end s)) ≡ lineAt s at ∷ linesOf (drop (nextAt s at) (take end s))
+lines-within s end at w k =
+    let (l, n) = read-within s end at w k in
+    let long : length (take end s) ≡ end = length-take-le end s (w .within) in
+    reads-lines (take end s) at (omega (arith, long))
+    ∙ ap₂ (λ (x : List ℕ) (j : ℕ). x ∷ linesOf (drop j (take end s))) (sym l) (sym n)
+
+-- the reader moves on, and not past such a place
+pub moved : (s : List ℕ) (end at : ℕ) {next : ℕ} → LineStarts s end → at < end → next ≡ nextAt s at → (at < next) × (next ≤ end)
+unfolding placeAfter
+moved s end at w k e =
+    let long : length (take end s) ≡ end = length-take-le end s (w .within) in
+    let q = e ∙ read-within s end at w k .1 in (omega (arith, long, q), omega (arith, long, q))

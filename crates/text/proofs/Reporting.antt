@@ -1,37 +1,111 @@
--- The loop over the lines of a piece: what is written and what is still to be said make what was to be said. Assumes nothing.
-use mathlib.Core.Path.{_≡_, refl, sym, _∙_, ap, subst}
+-- The loop over the lines of a text: what is written and what is still to be said make what was to be said. Assumes nothing.
+use mathlib.Core.Path.{_≡_, refl, sym, _∙_, ap, ap₂, subst}
 use mathlib.Core.List.{List, [], _∷_, _++_}
 use Prim.Native.Nat.{ℕ, suc, _+_, _-_, _*_, _≤_, _<_}
 use native.Mathlib.Numerals.{add-one}
 use native.Mathlib.Omega.{arith}
-use lib.ListN.{length, take, drop, getD, length-append, length-drop, drop-of-length-le}
-use lib.Seq.{sets, length-sets, drop-drop, drop-cons, getD-drop}
+use lib.ListN.{length, take, drop, getD, length-append, length-take, length-drop, drop-of-length-le}
+use lib.Seq.{sets, drop-drop, drop-cons}
 use Rattle.theory.specs.declared.state.State.{State}
 use Rattle.text.specs.declared.parsed.Parsed.{Parsed}
-use Rattle.text.specs.Lines.{lf, linesOf, lineEnd}
+use Rattle.text.specs.Lines.{lf, lineRoom, linesOf, lineEnd}
 use Rattle.text.specs.LineForm.{parseOf}
-use Rattle.text.specs.Wrote.{Wrote}
-use Rattle.text.specs.Answers.{LineAnswered}
-use Rattle.text.specs.Report.{saidFor, stateAfter}
-use Rattle.text.specs.Pieces.{Kept, kept, saidIn, afterPiece}
-use Rattle.text.proofs.Bytes.{Without, index-none, split-first, before-without, index-bound, without-cons, without-drop}
-use Rattle.text.specs.Reading.{lineAt, nextAt}
-use Rattle.text.proofs.Reading.{line-part, next-place}
+use Rattle.text.specs.Answers.{LineAnswered, stateFrom, LinesAnswered}
+use Rattle.text.specs.Report.{saidFor, stateAfter, reportFrom}
+use Rattle.text.specs.Reading.{lineAt, nextAt, LineStarts}
+use Rattle.text.proofs.Bytes.{Without, index-none, split-first, before-without, without-cons}
+use Rattle.text.proofs.Lines.{no-lines, lines-fit}
+use Rattle.text.proofs.Reading.{lines-within}
 use Rattle.text.proofs.Wrote.{sets-append}
-use Rattle.text.proofs.Lines.{lines-at}
-use Rattle.text.proofs.Pieces.{keptWith, line-said, line-after, rest-held}
 
--- `said` was to be written over `memory` from `start` on, and `last` to be kept then. `report` holds what is written, up to `at`; the state
--- is s, so many lines are answered, and `piece` is still to be answered from p on.
-pub record Left (memory : List ℕ) (start : ℕ) (said : List ℕ) (last : Kept) (report : List ℕ) (at : ℕ) (s : State) (number : ℕ) (piece : List ℕ) (p : ℕ) : Type 0 where
-  pub place : at + length (saidIn (kept s number []) (drop p piece)) ≡ start + length said
-  pub written : sets report at (saidIn (kept s number []) (drop p piece)) ≡ sets memory start said
-  pub keeps : afterPiece (kept s number []) (drop p piece) ≡ last
-  pub room : at + 64 * length (linesOf (drop p piece)) ≤ length report
+-- One line
 
-pub left-start : {memory : List ℕ} {start : ℕ} {s : State} {number : ℕ} {piece : List ℕ} {p : ℕ} → start + 64 * length (linesOf (drop p piece)) ≤ length memory
-    → Left memory start (saidIn (kept s number []) (drop p piece)) (afterPiece (kept s number []) (drop p piece)) memory start s number piece p
-left-start h = record { place = refl; written = refl; keeps = refl; room = h }
+-- a line was answered, and others are still to be: together they are what was to be said
+module _ {report report′ : List ℕ} {at to : ℕ} {s s′ : State} {parsed : Parsed} (n : ℕ) (line : List ℕ) (ls : List (List ℕ))
+    (e : parsed ≡ parseOf line) (a : LineAnswered (record { entry = report; exit = report′ }) at (n + 1) (record { entry = s; exit = s′ }) parsed to) where
+  abbrev rest : List ℕ
+  rest = reportFrom (suc (n + 1)) s′ ls
+
+  first-said : reportFrom (suc n) s (line ∷ ls) ≡ saidFor (n + 1) s parsed ++ rest
+  unfolding reportFrom
+  first-said = rw (a .fed, e, add-one n)
+
+  pub place-next : to + length rest ≡ at + length (reportFrom (suc n) s (line ∷ ls))
+  place-next = omega (arith, a .wrote .place, ap length first-said ∙ length-append (saidFor (n + 1) s parsed) rest)
+
+  pub written-next : sets report′ to rest ≡ sets report at (reportFrom (suc n) s (line ∷ ls))
+  written-next =
+      ap₂ (λ (z : List ℕ) (k : ℕ). sets z k rest) (a .wrote .memory) (a .wrote .place)
+      ∙ sym (sets-append report at (saidFor (n + 1) s parsed) rest)
+      ∙ ap (sets report at) (sym first-said)
+
+  pub fed-next : stateFrom s′ ls ≡ stateFrom s (line ∷ ls)
+  unfolding stateFrom
+  fed-next = ap (λ (z : State). stateFrom z ls) (a .fed ∙ ap (stateAfter s) e)
+
+-- Line by line
+
+-- the lines of a text from a place on and before another
+abbrev pub linesIn : List ℕ → ℕ → ℕ → List (List ℕ)
+linesIn text end p = linesOf (drop p (take end text))
+
+-- those from p₀ on were to be answered over `memory` from `start` on, after n₀ others. `report` holds what is written, up to `at`; n lines are
+-- answered, and those from p on are still to be.
+pub record Left (text : List ℕ) (end : ℕ) (memory : List ℕ) (start : ℕ) (s₀ : State) (n₀ p₀ : ℕ) (report : List ℕ) (at : ℕ) (s : State) (n p : ℕ) : Type 0 where
+  pub place : at + length (reportFrom (suc n) s (linesIn text end p)) ≡ start + length (reportFrom (suc n₀) s₀ (linesIn text end p₀))
+  pub written : sets report at (reportFrom (suc n) s (linesIn text end p)) ≡ sets memory start (reportFrom (suc n₀) s₀ (linesIn text end p₀))
+  pub fed : stateFrom s (linesIn text end p) ≡ stateFrom s₀ (linesIn text end p₀)
+  pub counts : n + length (linesIn text end p) ≡ n₀ + length (linesIn text end p₀)
+  pub room : at + lineRoom * length (linesIn text end p) ≤ start + lineRoom * length (linesIn text end p₀)
+
+module _ {text : List ℕ} {end : ℕ} {memory : List ℕ} {start : ℕ} {s₀ : State} {n₀ p₀ : ℕ} where
+  pub left-start : Left text end memory start s₀ n₀ p₀ memory start s₀ n₀ p₀
+  left-start = record { place = refl; written = refl; fed = refl; counts = refl; room = omega arith }
+
+  module _ {report : List ℕ} {at : ℕ} {s : State} {n p : ℕ} (x : Left text end memory start s₀ n₀ p₀ report at s n p) where
+    -- there is room for the next line, and a number
+    pub left-room : LineStarts text end → p < end → at + lineRoom ≤ start + lineRoom * length (linesIn text end p₀)
+    left-room w h = omega (arith, x .room, ap length (lines-within text end p w h))
+
+    pub left-number : LineStarts text end → p < end → n + 1 ≤ n₀ + length (linesIn text end p₀)
+    left-number w h = omega (arith, x .counts, ap length (lines-within text end p w h))
+
+    -- the next line is answered
+    pub left-taken : {report′ : List ℕ} {parsed : Parsed} {p′ to : ℕ} {s′ : State} → LineStarts text end → p < end
+        → parsed ≡ parseOf (lineAt text p) → p′ ≡ nextAt text p
+        → LineAnswered (record { entry = report; exit = report′ }) at (n + 1) (record { entry = s; exit = s′ }) parsed to
+        → Left text end memory start s₀ n₀ p₀ report′ to s′ (n + 1) p′
+    left-taken {p′ = p′} w h e f a =
+        let ls = linesIn text end p′ in
+        let all : linesIn text end p ≡ lineAt text p ∷ ls = lines-within text end p w h ∙ ap (λ (j : ℕ). lineAt text p ∷ linesIn text end j) (sym f) in
+        record {
+          place = place-next n (lineAt text p) ls e a ∙ ap (λ (z : List (List ℕ)). at + length (reportFrom (suc n) s z)) (sym all) ∙ x .place;
+          written = written-next n (lineAt text p) ls e a ∙ ap (λ (z : List (List ℕ)). sets report at (reportFrom (suc n) s z)) (sym all) ∙ x .written;
+          fed = fed-next n (lineAt text p) ls e a ∙ ap (stateFrom s) (sym all) ∙ x .fed;
+          counts = omega (arith, x .counts, ap length all);
+          room = omega (arith, x .room, ap length all, a .room);
+        }
+
+    -- no line is left
+    pub left-said : end ≤ p → LinesAnswered (record { entry = memory; exit = report }) start (record { entry = s₀; exit = s }) n₀ (linesIn text end p₀) n at
+    unfolding reportFrom stateFrom
+    left-said h =
+        let none : linesIn text end p ≡ [] = ap linesOf (drop-of-length-le (take end text) {i = p} (omega (arith, length-take end text))) ∙ no-lines in
+        record {
+          room = omega (arith, x .room, ap length none);
+          wrote = record {
+            place = omega (arith, x .place, ap (λ (z : List (List ℕ)). length (reportFrom (suc n) s z)) none);
+            memory = sym (ap (λ (z : List (List ℕ)). sets report at (reportFrom (suc n) s z)) none) ∙ x .written;
+          };
+          fed = sym (ap (stateFrom s) none) ∙ x .fed;
+          counts = omega (arith, x .counts, ap length none);
+        }
+
+-- no more lines than bytes
+pub lines-in : (text : List ℕ) (end p : ℕ) → length (linesIn text end p) ≤ end - p
+lines-in text end p = omega (arith, lines-fit (drop p (take end text)), length-drop p (take end text), length-take end text)
+
+-- The first line of a piece
 
 -- from a place on: the line there, LF, and what follows
 pub from-place : (piece : List ℕ) (p e : ℕ) → e ≡ p + lineEnd (drop p piece) → e < length piece
@@ -60,88 +134,3 @@ pub one-before : (s : List ℕ) (i : ℕ) → 0 < i → i ≤ length s → (getD
 one-before s i h k d w =
     let q : suc (i - 1) ≡ i = omega arith in
     rw (drop-cons s (i - 1) 0 (omega arith)) (without-cons lf (getD s (i - 1) 0) (drop (suc (i - 1)) s) d (subst (λ (j : ℕ). Without lf (drop j s)) (sym q) w))
-
--- a line that begins before the place after the last LF is ended by LF
-pub ends-before : (piece : List ℕ) (p r : ℕ) → p < r → r ≤ length piece → (0 < r → getD piece (r - 1) 0 ≡ lf) → p + lineEnd (drop p piece) < length piece
-ends-before piece p r h k e =
-    let q : p + (r - 1 - p) ≡ r - 1 = omega arith in
-    let b : lineEnd (drop p piece) ≤ r - 1 - p =
-    index-bound lf (drop p piece) (r - 1 - p) (omega (arith, length-drop p piece)) (getD-drop p piece (r - 1 - p) 0 ∙ ap (λ (j : ℕ). getD piece j 0) q ∙ e (omega arith))
-    in omega arith
-
--- the reader then moves on, and not past the end
-pub moved : (piece : List ℕ) (p : ℕ) {p′ : ℕ} → p + lineEnd (drop p piece) < length piece → p′ ≡ nextAt piece p → (p < p′) × (p′ ≤ length piece)
-moved piece p h e = let q = e ∙ next-place piece p h in (omega arith, omega arith)
-
-pub past-last : (piece : List ℕ) (p r : ℕ) → r ≤ p → Without lf (drop r piece) → Without lf (drop p piece)
-past-last piece p r h w =
-    let q : r + (p - r) ≡ p = omega arith in
-    subst (Without lf) (drop-drop (p - r) r piece ∙ ap (λ (j : ℕ). drop j piece) q) (without-drop lf (drop r piece) (p - r) w)
-
--- no LF from a place on
-pub rest-without : (piece : List ℕ) (p e : ℕ) → e ≡ p + lineEnd (drop p piece) → e ≡ length piece → Without lf (drop p piece)
-rest-without piece p e q h = omega (arith, length-drop p piece)
-
-module _ {memory said : List ℕ} {start : ℕ} {last : Kept} {report piece : List ℕ} {at p number : ℕ} {s : State} where
-  pub left-room : {e : ℕ} → Left memory start said last report at s number piece p → e ≡ p + lineEnd (drop p piece) → e < length piece
-      → at + 64 ≤ length report
-  left-room {e} x q h = let r = x .room in let c = lines-at piece p e (omega arith) q in omega arith
-
-  pub left-next : {report′ : List ℕ} {e to : ℕ} {s′ : State} → Left memory start said last report at s number piece p
-      → e ≡ p + lineEnd (drop p piece) → e < length piece
-      → Wrote report at (saidFor (number + 1) s (parseOf (take (e - p) (drop p piece)))) report′ to
-      → to ≤ at + 64
-      → s′ ≡ stateAfter s (parseOf (take (e - p) (drop p piece)))
-      → Left memory start said last report′ to s′ (number + 1) piece (e + 1)
-  left-next {report′} {e} {to} {s′} x q h w l f =
-      subst (λ (z : State). Left memory start said last report′ to z (number + 1) piece (e + 1)) (sym f)
-      (record {
-        place = omega (arith, x .place, ap length split ∙ length-append first _, w .place);
-        written =
-            ap (λ (z : List ℕ). sets z to after) (w .memory)
-            ∙ ap (λ (k : ℕ). sets (sets report at first) k after) (w .place)
-            ∙ sym (sets-append report at first after)
-            ∙ ap (sets report at) (sym split)
-            ∙ x .written;
-        keeps = sym (ap (afterPiece (kept s number [])) (from-place piece p e q h) ∙ line-after s number [] _ _ (line-without piece p e q) ∙ rw (add-one number)) ∙ x .keeps;
-        room = omega (arith, x .room, lines-at piece p e (omega arith) q, ap length (w .memory) ∙ length-sets report at first);
-      })
-    where
-      next : State
-      next = stateAfter s (parseOf (take (e - p) (drop p piece)))
-
-      first : List ℕ
-      first = saidFor (number + 1) s (parseOf (take (e - p) (drop p piece)))
-
-      after : List ℕ
-      after = saidIn (kept next (number + 1) []) (drop (e + 1) piece)
-
-      split : saidIn (kept s number []) (drop p piece) ≡ first ++ after
-      split = ap (saidIn (kept s number [])) (from-place piece p e q h) ∙ line-said s number [] _ _ (line-without piece p e q) ∙ rw (add-one number)
-
-  -- the same for what the next line says, and the place after it
-  pub left-taken : {report′ : List ℕ} {parsed : Parsed} {p′ to : ℕ} {s′ : State} → Left memory start said last report at s number piece p
-      → p + lineEnd (drop p piece) < length piece
-      → parsed ≡ parseOf (lineAt piece p) → p′ ≡ nextAt piece p
-      → LineAnswered (record { entry = report; exit = report′ }) at (number + 1) (record { entry = s; exit = s′ }) parsed to
-      → Left memory start said last report′ to s′ (number + 1) piece p′
-  left-taken {report′} {to = to} {s′} x h e f a =
-      let same = e ∙ ap parseOf (sym (line-part piece p (p + lineEnd (drop p piece)) refl)) in
-      subst (λ (j : ℕ). Left memory start said last report′ to s′ (number + 1) piece j) (sym (f ∙ next-place piece p h))
-      (left-next x refl h
-      (subst (λ (z : Parsed). Wrote report at (saidFor (number + 1) s z) report′ to) same (a .wrote))
-      (a .room)
-      (a .fed ∙ ap (stateAfter s) same))
-
-  -- what is left has no LF: it is held, and all is said
-  pub left-said : Left memory start said last report at s number piece p → Without lf (drop p piece) → Wrote memory start said report at
-  left-said x w =
-      let e = rest-held s number [] (drop p piece) w .0 in
-      record {
-        place = omega (arith, x .place, ap length e);
-        memory = ap (sets report at) (sym e) ∙ x .written;
-      }
-
-  pub left-kept : Left memory start said last report at s number piece p → Without lf (drop p piece)
-      → keptWith s number (drop p piece) ≡ last
-  left-kept x w = sym (rest-held s number [] (drop p piece) w .1) ∙ x .keeps

@@ -1,4 +1,4 @@
--- Demand 1 for texts, from the definitions. Assumes nothing.
+-- Demand 1 for texts. Of the step nothing is used but that it meets demand 1 for records (`clocks-demand1`). Assumes nothing.
 use mathlib.Core.Path.{_≡_, refl, sym, ap, ap₂, subst, _∙_}
 use mathlib.Core.Bool.{Bool, true, false}
 use mathlib.Core.List.{List, [], _∷_, _++_}
@@ -10,44 +10,35 @@ use lib.Seq.{sets, sets-eq}
 use borrow.Author.Tests.{ltb-true, ltb-false}
 use Rattle.theory.specs.declared.record.Record.{Record}
 use Rattle.theory.specs.declared.state.State.{State}
-use Rattle.theory.specs.declared.state.Stepped.{Stepped}
-use Rattle.theory.specs.declared.answer.Answer.{Answer}
-use Rattle.theory.specs.declared.answer.Answer.the-variants.{Refused}
-use Rattle.theory.specs.verdicts.Verdict.{Verdict, Race, Clear, Doubt}
-use Rattle.theory.specs.acceptance.Control.{refusalIn}
-use Rattle.theory.specs.feeding.Step.{stepOf, freshState}
-use Rattle.theory.specs.feeding.Feeding.{Says, says-clear, says-race, says-doubt, fedTo, byClocks, Handled, access-taken, other-taken}
+use Rattle.theory.specs.feeding.Meaning.{Meaning, refuses, meaning}
+use Rattle.theory.specs.feeding.Step.{freshState}
+use Rattle.theory.specs.feeding.Feeding.{replies, byClocks, rowFor, Handled, access-taken, other-taken}
 use Rattle.theory.specs.feeding.Feeding
-use Rattle.theory.proofs.feeding.Demanded.{demand1}
+use Rattle.theory.proofs.feeding.Demanded.{clocks-demand1}
 use Rattle.text.specs.declared.parsed.Parsed.{Parsed}
 use Rattle.text.specs.Lines.{linesOf}
 use Rattle.text.specs.LineForm.{parseOf}
-use Rattle.text.specs.ReportLines.{accessLine, refusedLine, reportLine}
+use Rattle.text.specs.ReportLines.{wordFor, refusedLine, lineFor, reportLine}
 use Rattle.text.specs.Report.{saidFor, stateAfter, reportFrom, reportOf, tooSmall}
-use Rattle.text.specs.TextDemands.{TextForm, wordFor, LineGot, no-record, refused, judged, taken, LinesGot, no-lines, a-line, TextHandled, refused-whole, reported, TextDemand1, OneReport, Tells, tells-nothing, tells-no-record, tells-answer, TextFed}
+use Rattle.text.specs.TextDemands.{TextForm, LineGot, no-record, refused, judged, taken, LinesGot, no-lines, a-line, TextHandled, refused-whole, reported, TextDemand1, OneReport, Tells, tells-nothing, tells-no-record, tells-answer, TextFed}
 use Rattle.text.proofs.Lines.{lines-fit}
 use Rattle.text.proofs.RoundTrip.{text-taken, only-text, only-sayable}
-use Rattle.text.proofs.Lengths.{refused-line-fits, access-line-fits}
+use Rattle.text.proofs.Lengths.{refused-line-fits, access-line-fits, word-fits}
 
 -- A line
 
-verdict-line : {a : Answer} {m : ℕ} {v : Verdict} {w : ℕ} (n : ℕ) (r : Record) → Says a m v w → accessLine m (r .task) (r .on) (wordFor v) w ≡ reportLine n r a
-verdict-line n r says-clear = refl
-verdict-line n r says-race = refl
-verdict-line n r says-doubt = refl
-
 module _ (n : ℕ) (s : State) (line : List ℕ) (r : Record) (form : TextForm line r) where
-  -- what the line gets where the step gives x
-  abbrev Gives : Stepped → Type 0
-  Gives x = LineGot n s line (x .state) (reportLine n r (x .answer))
+  -- what the line gets where the step leaves the state x and its answer means m
+  abbrev Gives : State → Meaning → Type 0
+  Gives x m = LineGot n s line x (lineFor n r m)
 
-  record-got : Gives (stepOf s r)
-  record-got = by-cases (demand1 s r)
+  record-got : Gives (byClocks .next s r) (meaning (byClocks .answer s r))
+  record-got = by-cases (clocks-demand1 s r)
     where
-      by-cases : Handled s r → Gives (stepOf s r)
-      by-cases (Feeding.refused k e l h q) = subst Gives (sym q) (refused form e l h)
-      by-cases (access-taken e q j) = subst (LineGot n s line ((stepOf s r) .state)) (verdict-line n r (j .2)) (judged form e q (j .2))
-      by-cases (other-taken e q a) = subst (λ (x : Answer). LineGot n s line ((stepOf s r) .state) (reportLine n r x)) (sym a) (taken form e q a)
+      by-cases : Handled byClocks s r → Gives (byClocks .next s r) (meaning (byClocks .answer s r))
+      by-cases (Feeding.refused k e l h m q) = subst (λ (x : State). Gives x (meaning (byClocks .answer s r))) (sym q) (subst (Gives s) (sym m) (refused form e l h))
+      by-cases (access-taken e q j) = subst (Gives (byClocks .next s r)) (sym (j .2)) (judged form e q (j .2))
+      by-cases (other-taken e q m) = subst (Gives (byClocks .next s r)) (sym m) (taken form e q m)
 
 module _ (line : List ℕ) where
   parsed-none : parseOf line ≡ Parsed.Nothing → (r : Record) → ¬ TextForm line r
@@ -68,11 +59,6 @@ answered : (n : ℕ) (s : State) (lines : List (List ℕ)) → LinesGot n s line
 unfolding reportFrom
 answered n s [] = no-lines
 answered n s (line ∷ lines) = a-line (line-got line n s (parseOf line) refl) (answered (suc n) (stateAfter s (parseOf line)) lines)
-
-word-fits : (v : Verdict) → length (wordFor v) ≤ 5
-word-fits Race = omega arith
-word-fits Clear = omega arith
-word-fits Doubt = omega arith
 
 got-fits : {n : ℕ} {s s′ : State} {line said : List ℕ} → LineGot n s line s′ said → n < 2 ^ 64 → length said ≤ 64
 got-fits {n} (no-record f) h = refused-line-fits n 1 h (omega arith)
@@ -107,11 +93,11 @@ text-demand1 text memory h = decided (tooSmall text (length memory)) refl
 -- No other report would do
 
 -- a record to which a row applies is refused with that row's number
-row-refuses : (s : State) (r : Record) {k : ℕ} → refusalIn (s .control) r ≡ k → 1 ≤ k → stepOf s r ≡ record { state = s; answer = Refused k }
-row-refuses s r {k} z l = by-cases (demand1 s r)
+row-refuses : (s : State) (r : Record) {k : ℕ} → rowFor byClocks s r ≡ k → 1 ≤ k → (meaning (byClocks .answer s r) ≡ refuses k) × (byClocks .next s r ≡ s)
+row-refuses s r {k} z l = by-cases (clocks-demand1 s r)
   where
-    by-cases : Handled s r → stepOf s r ≡ record { state = s; answer = Refused k }
-    by-cases (Feeding.refused m e _ _ q) = subst (λ (x : ℕ). stepOf s r ≡ record { state = s; answer = Refused x }) (sym e ∙ z) q
+    by-cases : Handled byClocks s r → (meaning (byClocks .answer s r) ≡ refuses k) × (byClocks .next s r ≡ s)
+    by-cases (Feeding.refused n e _ _ m q) = (m ∙ ap refuses (sym e ∙ z), q)
     by-cases (access-taken e _ _) = absurd (omega arith)
     by-cases (other-taken e _ _) = absurd (omega arith)
 
@@ -121,7 +107,7 @@ record Fixed (n : ℕ) (s : State) (line : List ℕ) (s′ : State) (said : List
   piece : said ≡ saidFor n s (parseOf line)
 
 module _ {n : ℕ} {s : State} {line : List ℕ} where
-  form-fixed : {r : Record} {s′ : State} {said : List ℕ} → TextForm line r → s′ ≡ (stepOf s r) .state → said ≡ reportLine n r ((stepOf s r) .answer) → Fixed n s line s′ said
+  form-fixed : {r : Record} {s′ : State} {said : List ℕ} → TextForm line r → s′ ≡ byClocks .next s r → said ≡ reportLine n r (byClocks .answer s r) → Fixed n s line s′ said
   form-fixed {r} f a b =
       let e : parseOf line ≡ Parsed.Record r = ap parseOf (f .is-text) ∙ text-taken r (f .sayable) in
       record { state = rw e a; piece = rw e b }
@@ -132,11 +118,9 @@ module _ {n : ℕ} {s : State} {line : List ℕ} where
       by-parse : (p : Parsed) → parseOf line ≡ p → Fixed n s line s (refusedLine n 1)
       by-parse Parsed.Nothing e = record { state = rw e; piece = rw e }
       by-parse (Parsed.Record r) e = absurd (f r (parsed-form line r e))
-  got-fixed (refused {r = r} f z l h) =
-      let e = row-refuses s r z l in
-      form-fixed f (ap (λ (x : Stepped). x .state) (sym e)) (ap (λ (x : Stepped). reportLine n r (x .answer)) (sym e))
-  got-fixed (judged {r = r} f z a x) = form-fixed f refl (verdict-line n r x)
-  got-fixed (taken {r = r} f z a x) = form-fixed f refl (ap (reportLine n r) (sym x))
+  got-fixed (refused {r = r} f z l h) = let (m, q) = row-refuses s r z l in form-fixed f (sym q) (ap (lineFor n r) (sym m))
+  got-fixed (judged {r = r} f z a m) = form-fixed f refl (ap (lineFor n r) (sym m))
+  got-fixed (taken {r = r} f z a m) = form-fixed f refl (ap (lineFor n r) (sym m))
 
 answered-fixed : {n : ℕ} {s : State} {lines : List (List ℕ)} {report : List ℕ} → LinesGot n s lines report → report ≡ reportFrom n s lines
 unfolding reportFrom
@@ -151,13 +135,13 @@ one-report text report a = answered-fixed a
 
 -- The answers are those of feeding
 
-told : (n : ℕ) (s : State) (lines : List (List ℕ)) → (rs : List Record) × Tells n lines rs (fedTo byClocks s rs) (reportFrom n s lines)
+told : (n : ℕ) (s : State) (lines : List (List ℕ)) → (rs : List Record) × Tells n lines rs (replies byClocks s rs) (reportFrom n s lines)
 unfolding reportFrom
 told n s [] = ([], tells-nothing)
 told n s (line ∷ lines) = by-parse (parseOf line) refl (told (suc n) (stateAfter s (parseOf line)) lines)
   where
-    by-parse : (p : Parsed) → parseOf line ≡ p → ((rs : List Record) × Tells (suc n) lines rs (fedTo byClocks (stateAfter s p) rs) (reportFrom (suc n) (stateAfter s p) lines))
-        → (rs : List Record) × Tells n (line ∷ lines) rs (fedTo byClocks s rs) (saidFor n s p ++ reportFrom (suc n) (stateAfter s p) lines)
+    by-parse : (p : Parsed) → parseOf line ≡ p → ((rs : List Record) × Tells (suc n) lines rs (replies byClocks (stateAfter s p) rs) (reportFrom (suc n) (stateAfter s p) lines))
+        → (rs : List Record) × Tells n (line ∷ lines) rs (replies byClocks s rs) (saidFor n s p ++ reportFrom (suc n) (stateAfter s p) lines)
     by-parse Parsed.Nothing e (rs, t) = (rs, tells-no-record (parsed-none line e) t)
     by-parse (Parsed.Record r) e (rs, t) = (r ∷ rs, tells-answer (parsed-form line r e) t)
 

@@ -1,50 +1,65 @@
--- What a function asks and promises that answers a line, a piece or the end of a text into lent memory: each part has a name. `out` is the report
--- memory and `held` the memory that holds the line that has begun, with `state` each at entry and at exit.
+-- What a function asks and promises that answers lines or a piece into lent memory: each part has a name. `out` is the report memory and `held` the
+-- memory that holds the line that has begun, with `state` each at entry and at exit.
 use mathlib.Core.Path.{_≡_}
-use Prim.Native.Nat.{ℕ, _+_, _*_, _^_, _≤_, _<_}
-use mathlib.Core.Bool.{Bool, cond}
-use mathlib.Core.List.{List}
+use Prim.Native.Nat.{ℕ, suc, _+_, _*_, _^_, _≤_, _<_}
+use mathlib.Core.List.{List, [], _∷_}
 use lib.ListN.{length, take, drop}
 use lib.Seq.{sets}
 use Rattle.theory.specs.declared.state.State.{State}
 use Rattle.theory.specs.feeding.Lent.{Twice}
 use Rattle.text.specs.declared.parsed.Parsed.{Parsed}
 use Rattle.text.specs.declared.progress.Progress.{Progress}
-use Rattle.text.specs.Lines.{linesOf}
+use Rattle.text.specs.Lines.{lineRoom, linesOf, lineEnd}
+use Rattle.text.specs.LineForm.{parseOf}
+use Rattle.text.specs.Reading.{LineStarts}
 use Rattle.text.specs.Wrote.{Wrote}
-use Rattle.text.specs.Report.{saidFor, stateAfter}
-use Rattle.text.specs.Pieces.{Kept, kept, keptOf, heldMost, saidIn, afterPiece, saidAtEnd, stateAtEnd, progressAfter, refused}
+use Rattle.text.specs.Report.{saidFor, stateAfter, reportFrom}
+use Rattle.text.specs.Pieces.{Kept, kept, keptOf, heldMost, saidIn, afterPiece, progressAfter}
 
 -- a line that says `parsed` was answered under its number, from the place `at` on; `to` is the next place
 pub record LineAnswered (out : Twice (List ℕ)) (at number : ℕ) (state : Twice State) (parsed : Parsed) (to : ℕ) : Type 0 where
-  pub room : to ≤ at + 64
+  pub room : to ≤ at + lineRoom
   pub wrote : Wrote (out .entry) at (saidFor number (state .entry) parsed) (out .exit) to
   pub fed : state .exit ≡ stateAfter (state .entry) parsed
 
--- the lines that end in `piece` from the place `from` on were answered, k being kept before. So many lines are answered then, `to` is the next
--- place in the report, `rest` the place where what is left of the piece begins, and there is room for a line of the report for each line in it
-pub record LinesAnswered (out : Twice (List ℕ)) (at : ℕ) (k : Kept) (piece : List ℕ) (from : ℕ) (s : State) (lines to rest : ℕ) : Type 0 where
-  pub wrote : Wrote (out .entry) at (saidIn k (drop from piece)) (out .exit) to
-  pub within : rest ≤ length piece
-  pub room : to + 64 * length (linesOf (drop rest piece)) ≤ length (out .exit)
-  pub keeps : kept s lines (take heldMost (drop rest piece)) ≡ afterPiece k (drop from piece)
+-- what answering the lines from the place `from` on and before `end` asks: no line is cut there, there is room for each, and they can be counted
+-- in 64 bits
+pub record LinesFit (out : List ℕ) (at lines : ℕ) (text : List ℕ) (from end : ℕ) : Type 0 where
+  pub begins : from ≤ end
+  pub uncut : LineStarts text end
+  pub room : at + lineRoom * length (linesOf (drop from (take end text))) ≤ length out
+  pub counted : lines + length (linesOf (drop from (take end text))) < 2 ^ 64
 
--- what answering a piece asks of the memory: 64 bytes of the report for each line, 65 to hold a line, of which no more are held; and that the
--- lines can be counted in 64 bits
+-- the running state after lines
+unfoldable pub stateFrom : State → List (List ℕ) → State
+stateFrom s [] = s
+stateFrom s (l ∷ ls) = stateFrom (stateAfter s (parseOf l)) ls
+
+-- lines ls were answered after so many others, from the place `at` on; then `ended` lines are answered, and `to` is the next place
+pub record LinesAnswered (out : Twice (List ℕ)) (at : ℕ) (state : Twice State) (lines : ℕ) (ls : List (List ℕ)) (ended to : ℕ) : Type 0 where
+  pub room : to ≤ at + lineRoom * length ls
+  pub wrote : Wrote (out .entry) at (reportFrom (suc lines) (state .entry) ls) (out .exit) to
+  pub fed : state .exit ≡ stateFrom (state .entry) ls
+  pub counts : ended ≡ lines + length ls
+
+-- what answering a piece asks: room in the report for a line for each byte, since so many may end in it; memory to hold a line, of which no more is
+-- held, and no LF; and that the lines can be counted in 64 bits
 pub record PieceFits (out piece held : List ℕ) (begun : Progress) : Type 0 where
-  pub room : begun .at + 64 * length (linesOf piece) ≤ length out
+  pub room : begun .at + lineRoom * length piece ≤ length out
   pub short : begun .held ≤ heldMost
   pub holds : heldMost ≤ length held
+  pub whole : begun .held ≤ lineEnd (take (begun .held) held)
   pub counted : begun .lines + length piece < 2 ^ 64
 
--- a piece was answered where it was taken in, and else nothing was changed
-pub record PieceAnswered (taken : Bool) (out held : Twice (List ℕ)) (state : Twice State) (begun : Progress) (piece : List ℕ) (ended : Progress) : Type 0 where
-  pub progress : ended ≡ cond taken (progressAfter (keptOf (state .entry) begun (held .entry)) (begun .at) piece) (refused begun)
-  pub wrote : out .exit ≡ cond taken (sets (out .entry) (begun .at) (saidIn (keptOf (state .entry) begun (held .entry)) piece)) (out .entry)
-  pub fed : state .exit ≡ cond taken ((afterPiece (keptOf (state .entry) begun (held .entry)) piece) .state) (state .entry)
-  pub holds : held .exit ≡ cond taken (sets (held .entry) 0 ((afterPiece (keptOf (state .entry) begun (held .entry)) piece) .held)) (held .entry)
+-- the lines that end in `piece` were answered, k being kept before; then so many lines are answered, `to` is the next place in the report, and what
+-- is left of the piece begins at `rest`
+pub record EndedAnswered (out : Twice (List ℕ)) (at : ℕ) (k : Kept) (piece : List ℕ) (rest : ℕ) (s : State) (lines to : ℕ) : Type 0 where
+  pub wrote : Wrote (out .entry) at (saidIn k piece) (out .exit) to
+  pub keeps : kept s lines (take heldMost (drop rest piece)) ≡ afterPiece k piece
 
--- what was held at the end of a text was answered, as if LF ended it
-pub record EndAnswered (out : Twice (List ℕ)) (held : List ℕ) (state : Twice State) (begun : Progress) (to : ℕ) : Type 0 where
-  pub wrote : Wrote (out .entry) (begun .at) (saidAtEnd (keptOf (state .entry) begun held)) (out .exit) to
-  pub fed : state .exit ≡ stateAtEnd (keptOf (state .entry) begun held)
+-- a piece was answered
+pub record PieceAnswered (out held : Twice (List ℕ)) (state : Twice State) (begun : Progress) (piece : List ℕ) (ended : Progress) : Type 0 where
+  pub progress : ended ≡ progressAfter (keptOf (state .entry) begun (held .entry)) (begun .at) piece
+  pub wrote : out .exit ≡ sets (out .entry) (begun .at) (saidIn (keptOf (state .entry) begun (held .entry)) piece)
+  pub fed : state .exit ≡ (afterPiece (keptOf (state .entry) begun (held .entry)) piece) .state
+  pub holds : held .exit ≡ sets (held .entry) 0 ((afterPiece (keptOf (state .entry) begun (held .entry)) piece) .held)

@@ -144,6 +144,9 @@ OnlyText = (s : List ℕ) (r : Record) → parseOf s ≡ Parsed.Record r → s �
 abbrev pub OnlySayable : Type 0
 OnlySayable = (s : List ℕ) (r : Record) → parseOf s ≡ Parsed.Record r → Sayable r
 
--- no line of more than 64 bytes is
+-- no line of more bytes than these is
+abbrev pub longest : ℕ
+longest = 64
+
 abbrev pub LongRefused : Type 0
-LongRefused = (s : List ℕ) → 64 < length s → parseOf s ≡ Parsed.Nothing
+LongRefused = (s : List ℕ) → longest < length s → parseOf s ≡ Parsed.Nothing

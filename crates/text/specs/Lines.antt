@@ -9,6 +9,10 @@ use Rattle.text.specs.Bytes.{indexOf}
 abbrev pub lf : ℕ
 lf = 10
 
+-- "64 bytes for each line": so much report memory is asked for each line of a text, and none of the report is longer
+abbrev pub lineRoom : ℕ
+lineRoom = 64
+
 -- the lines of a text that begins with a byte other than LF, from the lines of what follows the byte
 abbrev pub begunBy : ℕ → List (List ℕ) → List (List ℕ)
 begunBy b [] = (b ∷ []) ∷ []

@@ -9,8 +9,8 @@ use lib.ListN.{length, take}
 use Rattle.theory.specs.declared.state.State.{State}
 use Rattle.theory.specs.feeding.Step.{freshState}
 use Rattle.text.specs.declared.progress.Progress.{Progress}
-use Rattle.text.specs.Lines.{lf}
-use Rattle.text.specs.LineForm.{parseOf}
+use Rattle.text.specs.Lines.{lf, lineRoom, lineEnd}
+use Rattle.text.specs.LineForm.{parseOf, longest}
 use Rattle.text.specs.Report.{saidFor, stateAfter, reportOf}
 
 -- what is kept between pieces: the running state, how many lines are answered, and what is held of the line that has begun
@@ -26,9 +26,9 @@ kept s n h = record { state = s; lines = n; held = h }
 abbrev pub freshKept : Kept
 freshKept = kept freshState 0 []
 
--- so many bytes of a line are held at most: a line of more than 64 is refused, whatever else it says (`LongRefused`)
+-- so many bytes of a line are held at most: a line of more than `longest` is refused, whatever else it says (`LongRefused`)
 abbrev pub heldMost : ℕ
-heldMost = 65
+heldMost = longest + 1
 
 -- what the report has at a byte: LF ends the line that has begun, and it is answered
 unfoldable pub saidAt : Kept → ℕ → List ℕ
@@ -54,10 +54,6 @@ afterPiece k (b ∷ s) = afterPiece (afterByte k b) s
 abbrev pub saidAtEnd : Kept → List ℕ
 saidAtEnd k = cond (eqb (length (k .held)) 0) [] (saidAt k lf)
 
--- the running state after the text's end
-abbrev pub stateAtEnd : Kept → State
-stateAtEnd k = cond (eqb (length (k .held)) 0) (k .state) ((afterByte k lf) .state)
-
 -- what the report has for pieces and for the text's end after them
 unfoldable pub saidInAll : Kept → List (List ℕ) → List ℕ
 saidInAll k [] = saidAtEnd k
@@ -72,6 +68,10 @@ wholeOf (p ∷ ps) = p ++ wholeOf ps
 abbrev pub AnyCut : Type 0
 AnyCut = (pieces : List (List ℕ)) → saidInAll freshKept pieces ≡ reportOf (wholeOf pieces)
 
+-- what is held has no LF, after any piece as before it
+abbrev pub HeldOpen : Type 0
+HeldOpen = (k : Kept) (piece : List ℕ) → lineEnd (k .held) ≡ length (k .held) → lineEnd ((afterPiece k piece) .held) ≡ length ((afterPiece k piece) .held)
+
 -- As memory
 
 -- what is kept, from the progress and the memory that holds the line that has begun
@@ -83,12 +83,16 @@ abbrev pub progressAfter : Kept → ℕ → List ℕ → Progress
 progressAfter k at piece =
     record { lines = (afterPiece k piece) .lines; held = length ((afterPiece k piece) .held); at = at + length (saidIn k piece) }
 
--- a piece of so many bytes is taken in: from `at` on there are 64 bytes of report memory for each of them, since so many lines may end in it;
--- 65 bytes of a line can be held, and no more are; and the lines can be counted in 64 bits
-abbrev pub fits : ℕ → ℕ → ℕ → Progress → Bool
-fits out piece held begun =
+-- n bytes of one line are held: the memory can hold a line, no more bytes of it are held, and no LF is among them
+abbrev pub holdsOpen : List ℕ → ℕ → Bool
+holdsOpen memory n = leb heldMost (length memory) && (leb n heldMost && leb n (lineEnd (take n memory)))
+
+-- a piece of so many bytes is taken in: from `at` on there is room in the report for a line for each of them, since so many may end in it; the line
+-- that has begun is held; and the lines can be counted in 64 bits
+abbrev pub fits : ℕ → ℕ → List ℕ → Progress → Bool
+fits out piece memory begun =
     leb (begun .at) out
-    && (leb piece ((out - begun .at) / 64) && (leb heldMost held && (leb (begun .held) heldMost && leb piece (2 ^ 64 - 1 - begun .lines))))
+    && (leb piece ((out - begun .at) / lineRoom) && (holdsOpen memory (begun .held) && leb piece (2 ^ 64 - 1 - begun .lines)))
 
 -- the answer to a piece that is not: 64 one-bits, as for row 11
 abbrev pub refused : Progress → Progress

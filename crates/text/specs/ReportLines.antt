@@ -4,7 +4,8 @@ use mathlib.Core.List.{List, [], _++_}
 use Rattle.text.specs.Printing.{bytes, decimal, fiveDigits}
 use Rattle.theory.specs.declared.record.Record.{Record}
 use Rattle.theory.specs.declared.answer.Answer.{Answer}
-use Rattle.theory.specs.declared.answer.Answer.the-variants.{Refused, Accepted, Clear, Race, Doubt}
+use Rattle.theory.specs.verdicts.Verdict.{Verdict, Race, Clear, Doubt}
+use Rattle.theory.specs.feeding.Meaning.{Meaning, refuses, takes, judges, meaning}
 
 -- which access it is: "rec=00002 task=0 var=5", by its record number, task and variable
 unfoldable pub accessPart : ℕ → ℕ → ℕ → List ℕ
@@ -20,10 +21,17 @@ accessLine number task variable verdict partner =
 unfoldable pub refusedLine : ℕ → ℕ → List ℕ
 refusedLine line number = bytes "line=" ++ decimal line ++ bytes " refused=" ++ decimal number ++ bytes "\n"
 
--- what the report has for a line: its line number, the record that it said, and what feeding that answered
+-- the word of a verdict
+abbrev pub wordFor : Verdict → List ℕ
+wordFor Race = bytes "race"
+wordFor Clear = bytes "clear"
+wordFor Doubt = bytes "doubt"
+
+-- what the report has for a line: its line number, the record that it said, and what the answer to that means
+abbrev pub lineFor : ℕ → Record → Meaning → List ℕ
+lineFor line r (refuses number) = refusedLine line number
+lineFor line r (takes number) = []
+lineFor line r (judges number verdict partner) = accessLine number (r .task) (r .on) (wordFor verdict) partner
+
 abbrev pub reportLine : ℕ → Record → Answer → List ℕ
-reportLine line r (Refused number) = refusedLine line number
-reportLine line r (Accepted number) = []
-reportLine line r (Clear number) = accessLine (number .0) (r .task) (r .on) (bytes "clear") 0
-reportLine line r (Race number partner) = accessLine (number .0) (r .task) (r .on) (bytes "race") (partner .0)
-reportLine line r (Doubt number partner) = accessLine (number .0) (r .task) (r .on) (bytes "doubt") (partner .0)
+reportLine line r a = lineFor line r (meaning a)

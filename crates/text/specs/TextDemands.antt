@@ -8,17 +8,15 @@ use lib.ListN.{length, drop}
 use Rattle.theory.specs.declared.record.Record.{Record}
 use Rattle.theory.specs.declared.state.State.{State}
 use Rattle.theory.specs.declared.answer.Answer.{Answer}
-use Rattle.theory.specs.declared.answer.Answer.the-variants.{Accepted}
-use Rattle.theory.specs.verdicts.Verdict.{Verdict, Race, Clear, Doubt}
+use Rattle.theory.specs.verdicts.Verdict.{Verdict}
 use Rattle.theory.specs.acceptance.Table.{lastRow}
-use Rattle.theory.specs.acceptance.Control.{refusalIn}
 use Rattle.theory.specs.order.Recording.{accesses}
-use Rattle.theory.specs.feeding.Step.{recordNumber, nextNumber, stepOf, freshState}
-use Rattle.theory.specs.feeding.Feeding.{Says, fed}
+use Rattle.theory.specs.feeding.Meaning.{takes, judges, meaning}
+use Rattle.theory.specs.feeding.Step.{freshState}
+use Rattle.theory.specs.feeding.Feeding.{byClocks, rowFor, numberFor, fed}
 use Rattle.text.specs.Lines.{linesOf}
 use Rattle.text.specs.LineForm.{textOf, Sayable}
-use Rattle.text.specs.Printing.{bytes}
-use Rattle.text.specs.ReportLines.{accessLine, refusedLine, reportLine}
+use Rattle.text.specs.ReportLines.{wordFor, accessLine, refusedLine, reportLine}
 use Rattle.text.specs.Report.{reportOf, countOf, memoryOf}
 
 -- A line
@@ -28,24 +26,19 @@ pub record TextForm (line : List ℕ) (r : Record) : Type 0 where
   pub sayable : Sayable r
   pub is-text : line ≡ textOf r
 
-abbrev pub wordFor : Verdict → List ℕ
-wordFor Race = bytes "race"
-wordFor Clear = bytes "clear"
-wordFor Doubt = bytes "doubt"
-
 -- `LineGot n s line s′ said`: what line number n got, fed to the state s: it left the state s′, and the report has `said` for it
 pub data LineGot (n : ℕ) (s : State) (line : List ℕ) : State → List ℕ → Type 0 where
   -- "A line that yields no record is refused with 1"
   no-record : ((r : Record) → ¬ TextForm line r) → LineGot n s line s (refusedLine n 1)
   -- its record is refused with the number of the first row that applies, and the state stays
-  refused : {r : Record} {k : ℕ} → TextForm line r → refusalIn (s .control) r ≡ k → 1 ≤ k → k ≤ lastRow → LineGot n s line s (refusedLine n k)
+  refused : {r : Record} {k : ℕ} → TextForm line r → rowFor byClocks s r ≡ k → 1 ≤ k → k ≤ lastRow → LineGot n s line s (refusedLine n k)
   -- "One line for an accepted access", with its record number, its verdict and the partner
-  judged : {r : Record} {v : Verdict} {w : ℕ} → TextForm line r → refusalIn (s .control) r ≡ 0 → accesses (r .kind) ≡ true →
-      Says ((stepOf s r) .answer) (nextNumber (s .control)) v w →
-      LineGot n s line ((stepOf s r) .state) (accessLine (nextNumber (s .control)) (r .task) (r .on) (wordFor v) w)
+  judged : {r : Record} {v : Verdict} {w : ℕ} → TextForm line r → rowFor byClocks s r ≡ 0 → accesses (r .kind) ≡ true →
+      meaning (byClocks .answer s r) ≡ judges (numberFor byClocks s) v w →
+      LineGot n s line (byClocks .next s r) (accessLine (numberFor byClocks s) (r .task) (r .on) (wordFor v) w)
   -- "none for other records"
-  taken : {r : Record} → TextForm line r → refusalIn (s .control) r ≡ 0 → accesses (r .kind) ≡ false →
-      (stepOf s r) .answer ≡ Accepted (recordNumber (nextNumber (s .control))) → LineGot n s line ((stepOf s r) .state) []
+  taken : {r : Record} → TextForm line r → rowFor byClocks s r ≡ 0 → accesses (r .kind) ≡ false →
+      meaning (byClocks .answer s r) ≡ takes (numberFor byClocks s) → LineGot n s line (byClocks .next s r) []
 
 -- A text
 

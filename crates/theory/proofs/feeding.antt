@@ -3,3 +3,6 @@ pub mod Simulation
 pub mod Cases
 pub mod Demanded
 pub mod Paths
+pub mod Asked
+pub mod Matching
+pub mod Unused

@@ -1,3 +1,4 @@
 -- Slots keep accesses, and their numbers tell the latest that conflict
 pub mod Slots
+pub mod Accesses
 pub mod Numbers

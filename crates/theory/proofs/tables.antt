@@ -2,6 +2,7 @@
 pub mod Rows
 pub mod Words
 pub mod Bits
+pub mod MaskBits
 pub mod Acts
 pub mod Marks
 pub mod Nodes
@@ -10,6 +11,7 @@ pub mod Exact
 pub mod ClockTables
 pub mod SetTables
 pub mod Ranges
+pub mod Onward
 pub mod Reckoned
 pub mod Masked
 pub mod Finds

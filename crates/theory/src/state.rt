@@ -1,31 +1,53 @@
 use crate::answer::Answer;
 use crate::kinds::ASKERS;
+use crate::limits::FLAGS;
+use crate::limits::SEMAPHORES;
+use crate::limits::TASKS;
+use crate::limits::VARIABLES;
 
 // The tables that a state is made of, by their sizes. crates/theory/specs says which cells hold what.
 
 // Each task's phase (0 unseen, 1 live, 2 ended), then the count of accepted records.
-pub const CONTROL_CELLS: usize = 17;
+pub const COUNT: usize = TASKS as usize;
+
+pub const CONTROL_CELLS: usize = COUNT + 1;
 
 pub type Control = [u32; CONTROL_CELLS];
 
-// The kept accesses, by variable, task and kind.
-pub const HISTORY_CELLS: usize = ASKERS * 64 * 16;
+// The kept accesses, by the kind that asks, variable and task.
+pub const HISTORY_CELLS: usize = ASKERS * VARIABLES as usize * TASKS as usize;
 
 pub type History = [u32; HISTORY_CELLS];
 
-// A row for each node, and one for who has acted; a column for each task.
-pub const CLOCK_CELLS: usize = 82 * 16;
+// The rows of clocks and sets: each task's next act, the semaphores, the flags, the hub, and one for who has acted.
+pub const FIRST_SEMAPHORE: usize = TASKS as usize;
+
+pub const FIRST_FLAG: usize = FIRST_SEMAPHORE + SEMAPHORES as usize;
+
+pub const HUB: usize = FIRST_FLAG + FLAGS as usize;
+
+pub const ACTED: usize = HUB + 1;
+
+pub const ROWS: usize = ACTED + 1;
+
+// Clocks have a column for each task.
+pub const COLUMNS: usize = TASKS as usize;
+
+pub const CLOCK_CELLS: usize = ROWS * COLUMNS;
 
 pub type Clocks = [u32; CLOCK_CELLS];
 
-// The same rows; a bit for each kept access, 32 to a word.
-pub const SLOT_WORDS: usize = HISTORY_CELLS / 32;
+// Sets have a bit for each kept access, so many to a word.
+pub const WORD_BITS: usize = 32;
 
-pub const SET_CELLS: usize = 82 * SLOT_WORDS;
+pub const SLOT_WORDS: usize = HISTORY_CELLS / WORD_BITS;
+
+pub const SET_CELLS: usize = ROWS * SLOT_WORDS;
 
 pub type Sets = [u32; SET_CELLS];
 
-// The running state: the clocks of the recording as it arrived, and those of the fullest filling.
+// The running state: the clocks of the recording as it arrived, and those of the fullest filling. A host in C may lend one whole.
+#[repr(C)]
 pub struct State {
     pub control: Control,
     pub last: History,

@@ -10,7 +10,7 @@ use Rattle.theory.specs.declared.state.State.{State}
 use Rattle.theory.specs.order.Limits.{tasks, records}
 use Rattle.theory.specs.order.Recording.{Op, start, join, kind, lossMark, seriesOf}
 use Rattle.theory.specs.acceptance.Table.{Proper, NamesTask}
-use Rattle.theory.specs.acceptance.Control.{countIn, standingIn, refusalIn}
+use Rattle.theory.specs.acceptance.Control.{countIn, controlStanding, controlRefusal}
 use Rattle.theory.specs.declared.masks.Masks.{Masks}
 use Rattle.theory.specs.tables.Reckonings.{masksBy}
 use Rattle.theory.specs.feeding.Step.{masksUnless, setStepBy, stepBy}
@@ -21,9 +21,9 @@ pub record Accepts (control : List ℕ) (r : Record) : Type 0 where
   pub room : countIn control < records
   pub proper : Proper (r .kind) (r .task) (r .on)
 
-pub accepts : (control : List ℕ) (r : Record) (n : ℕ) → n ≡ refusalIn control r → n ≡ 0 → Accepts control r
+pub accepts : (control : List ℕ) (r : Record) (n : ℕ) → n ≡ controlRefusal control r → n ≡ 0 → Accepts control r
 accepts control r n e z =
-    let p = allowed (standingIn control) r (sym e ∙ z) in
+    let p = allowed (controlStanding control) r (sym e ∙ z) in
     record { room = p .room; proper = record { act-fits = λ q. p .act q .fits; mark-names = λ q. p .mark q .some } }
 
 -- a proper start or join names a task

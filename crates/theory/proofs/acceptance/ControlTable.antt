@@ -14,8 +14,8 @@ use Rattle.theory.specs.order.Limits.{tasks}
 use Rattle.theory.specs.tables.Turns.{turns}
 use Rattle.theory.specs.order.Recording.{Op, Event, act, lost, kind, kinds, lossMark, seriesOf}
 use Rattle.theory.specs.fillings.Completion.{names}
-use Rattle.theory.specs.acceptance.Table.{Phase, isLive, isUnseen, phaseAfter, phaseFrom, phase, Fitting, hasKind, anyBelow, Standing, _when_, firstRow, refusalBy, standing, refusal}
-use Rattle.theory.specs.acceptance.Control.{liveIn, unseenIn, countIn, standingIn, refusalIn, counted, controlAfter}
+use Rattle.theory.specs.acceptance.Table.{Phase, isLive, isUnseen, phaseAfter, phaseFrom, phase, Fitting, hasKind, anyBelow, Standing, _when_, firstRow, tableRow, standing, refusal}
+use Rattle.theory.specs.acceptance.Control.{liveIn, unseenIn, countIn, controlStanding, controlRefusal, counted, controlAfter, controlCells}
 use Rattle.theory.specs.feeding.Step.{freshControl}
 use Rattle.theory.proofs.basics.Reflects.{Reflects, right, wrong, equal, at-most}
 use Rattle.theory.proofs.acceptance.Rows.{OfAct, actRows, markRows, act-rows, mark-rows}
@@ -24,20 +24,20 @@ use Rattle.theory.proofs.order.Ops.{Role, a-take, a-give, a-look, a-set
 -- Definition
 
 pub record ExactControl (es : List Event) (control : List ℕ) : Type 0 where
-  pub size : length control ≡ 17
+  pub size : length control ≡ controlCells
   pub count : countIn control ≡ length es
-  pub live : (t : ℕ) → t < 16 → liveIn control t ≡ isLive (phase es t)
-  pub unseen : (t : ℕ) → t < 16 → unseenIn control t ≡ isUnseen (phase es t)
+  pub live : (t : ℕ) → t < tasks → liveIn control t ≡ isLive (phase es t)
+  pub unseen : (t : ℕ) → t < tasks → unseenIn control t ≡ isUnseen (phase es t)
 
 -- The fresh table
 
-fresh-live : (t : ℕ) → t < 16 → liveIn freshControl t ≡ isLive (phase [] t)
+fresh-live : (t : ℕ) → t < tasks → liveIn freshControl t ≡ isLive (phase [] t)
 fresh-live zero h = refl
-fresh-live (suc t) h = rw (getD-replicate {A = ℕ} 16 t 0 0 (omega arith), eqb·suc-zero t)
+fresh-live (suc t) h = rw (getD-replicate {A = ℕ} tasks t 0 0 (omega arith), eqb·suc-zero t)
 
-fresh-unseen : (t : ℕ) → t < 16 → unseenIn freshControl t ≡ isUnseen (phase [] t)
+fresh-unseen : (t : ℕ) → t < tasks → unseenIn freshControl t ≡ isUnseen (phase [] t)
 fresh-unseen zero h = refl
-fresh-unseen (suc t) h = rw (getD-replicate {A = ℕ} 16 t 0 0 (omega arith), eqb·suc-zero t)
+fresh-unseen (suc t) h = rw (getD-replicate {A = ℕ} tasks t 0 0 (omega arith), eqb·suc-zero t)
 
 pub fresh-control : ExactControl [] freshControl
 fresh-control = record { size = refl; count = refl; live = fresh-live; unseen = fresh-unseen }
@@ -58,16 +58,16 @@ record Holds (control : List ℕ) (t : ℕ) (p : Phase) : Type 0 where
   unseen : unseenIn control t ≡ isUnseen p
 
 module _ {es : List Event} {control : List ℕ} (x : ExactControl es control) where
-  held : (t : ℕ) → t < 16 → Holds control t (phase es t)
+  held : (t : ℕ) → t < tasks → Holds control t (phase es t)
   held t h = record { live = x .live t h; unseen = x .unseen t h }
 
   -- the event is counted in a table that holds the phases after it
   noted : (e : Event) (after : List ℕ) → length after ≡ length control → countIn after ≡ countIn control →
-      ((t : ℕ) → t < 16 → Holds after t (phaseAfter e t (phase es t))) → ExactControl (es ++ (e ∷ [])) (counted after)
+      ((t : ℕ) → t < tasks → Holds after t (phaseAfter e t (phase es t))) → ExactControl (es ++ (e ∷ [])) (counted after)
   noted e after s c h =
       record {
-        size = length-set after 16 (countIn after + 1) ∙ (s ∙ x .size);
-        count = getD-set-same after 16 (countIn after + 1) 0 (omega (arith, x .size)) ∙ one-more;
+        size = length-set after tasks (countIn after + 1) ∙ (s ∙ x .size);
+        count = getD-set-same after tasks (countIn after + 1) 0 (omega (arith, x .size)) ∙ one-more;
         live = λ t l. rw (other t l, phase-snoc (cond (eqb t 0) Phase.live Phase.unseen) es e t) (h t l .live);
         unseen = λ t l. rw (other t l, phase-snoc (cond (eqb t 0) Phase.live Phase.unseen) es e t) (h t l .unseen);
       }
@@ -75,24 +75,24 @@ module _ {es : List Event} {control : List ℕ} (x : ExactControl es control) wh
       one-more : countIn after + 1 ≡ length (es ++ (e ∷ []))
       one-more = rw (c, x .count, length-append es (e ∷ []))
 
-      other : (t : ℕ) → t < 16 → getD (set after 16 (countIn after + 1)) t 0 ≡ getD after t 0
-      other t l = getD-set-other after 16 t (countIn after + 1) 0 (λ q. omega arith)
+      other : (t : ℕ) → t < tasks → getD (set after tasks (countIn after + 1)) t 0 ≡ getD after t 0
+      other t l = getD-set-other after tasks t (countIn after + 1) 0 (λ q. omega arith)
 
   -- an event that changes no phase
   same-phases : (e : Event) → ((t : ℕ) (p : Phase) → phaseAfter e t p ≡ p) → ExactControl (es ++ (e ∷ [])) (counted control)
   same-phases e k = noted e control refl refl (λ t h. rw (k t (phase es t)) (held t h))
 
   -- an event after which task n is in phase q, which the table has as v
-  new-phase : (e : Event) (n v : ℕ) (q : Phase) → n < 16 → eqb v 1 ≡ isLive q → eqb v 0 ≡ isUnseen q →
+  new-phase : (e : Event) (n v : ℕ) (q : Phase) → n < tasks → eqb v 1 ≡ isLive q → eqb v 0 ≡ isUnseen q →
       ((t : ℕ) (p : Phase) → phaseAfter e t p ≡ cond (eqb n t) q p) → ExactControl (es ++ (e ∷ [])) (counted (set control n v))
   new-phase e n v q fits l u k =
-      noted e (set control n v) (length-set control n v) (getD-set-other control n 16 v 0 (λ w. omega arith))
+      noted e (set control n v) (length-set control n v) (getD-set-other control n tasks v 0 (λ w. omega arith))
       (λ t h. rw (k t (phase es t)) (decided t h (equal n t)))
     where
       same : getD (set control n v) n 0 ≡ v
       same = getD-set-same control n v 0 (omega (arith, x .size))
 
-      decided : (t : ℕ) → t < 16 → {b : Bool} → Reflects (n ≡ t) b → Holds (set control n v) t (cond b q (phase es t))
+      decided : (t : ℕ) → t < tasks → {b : Bool} → Reflects (n ≡ t) b → Holds (set control n v) t (cond b q (phase es t))
       decided t h (right w) = rw (← w) (record { live = rw same l; unseen = rw same u })
       decided t h (wrong d) =
           let o = getD-set-other control n t v 0 (λ w. d (sym w)) in
@@ -122,10 +122,10 @@ unfolding turns
 any-same zero p q e = refl
 any-same (suc n) p q e = ap₂ _||_ (any-same n p q (λ k h. e k (omega arith))) (e n (omega arith))
 
-module _ (s s′ : Standing) (r : Record) (same-count : s .count ≡ s′ .count) (same-live : (t : ℕ) → t < 16 → s .live t ≡ s′ .live t)
-    (same-unseen : (t : ℕ) → t < 16 → s .unseen t ≡ s′ .unseen t) where
+module _ (s s′ : Standing) (r : Record) (same-count : s .count ≡ s′ .count) (same-live : (t : ℕ) → t < tasks → s .live t ≡ s′ .live t)
+    (same-unseen : (t : ℕ) → t < tasks → s .unseen t ≡ s′ .unseen t) where
   -- a test of `on` counts only where `on` is a task
-  on-task : (o : Op) (p q : ℕ → Bool) → seriesOf (kind o) ≡ 16 → ((t : ℕ) → t < 16 → p t ≡ q t) → r .on < seriesOf (r .kind) →
+  on-task : (o : Op) (p q : ℕ → Bool) → seriesOf (kind o) ≡ tasks → ((t : ℕ) → t < tasks → p t ≡ q t) → r .on < seriesOf (r .kind) →
       (hasKind r o && not (p (r .on))) ≡ (hasKind r o && not (q (r .on)))
   on-task o p q e f h = decided (equal (r .kind) (kind o))
     where
@@ -154,18 +154,18 @@ module _ (s s′ : Standing) (r : Record) (same-count : s .count ≡ s′ .count
       )
 
   -- standings that agree on the tasks refuse the same records
-  refusal-same : refusalBy s r ≡ refusalBy s′ r
+  refusal-same : tableRow s r ≡ tableRow s′ r
   refusal-same = decided (equal (r .kind) lossMark) (at-most (length kinds) (r .kind))
     where
-      unknown : (s : Standing) → length kinds ≤ r .kind → refusalBy s r ≡ 1
-      unknown s h = unfold refusalBy in rw (le-leb (length kinds) (r .kind) h)
+      unknown : (s : Standing) → length kinds ≤ r .kind → tableRow s r ≡ 1
+      unknown s h = unfold tableRow in rw (le-leb (length kinds) (r .kind) h)
 
-      decided : {a b : Bool} → Reflects (r .kind ≡ lossMark) a → Reflects (length kinds ≤ r .kind) b → refusalBy s r ≡ refusalBy s′ r
+      decided : {a b : Bool} → Reflects (r .kind ≡ lossMark) a → Reflects (length kinds ≤ r .kind) b → tableRow s r ≡ tableRow s′ r
       decided (right e) _ = mark-rows s r e ∙ (mark-same ∙ sym (mark-rows s′ r e))
       decided (wrong f) (right h) = unknown s h ∙ sym (unknown s′ h)
       decided (wrong f) (wrong g) =
           let a : OfAct r = record { known = omega arith; no-mark = f } in
           act-rows s r a ∙ (act-same ∙ sym (act-rows s′ r a))
 
-pub same-refusal : {es : List Event} {control : List ℕ} → ExactControl es control → (r : Record) → refusalIn control r ≡ refusal es r
-same-refusal {es} {control} x r = refusal-same (standingIn control) (standing es) r (x .count) (x .live) (x .unseen)
+pub same-refusal : {es : List Event} {control : List ℕ} → ExactControl es control → (r : Record) → controlRefusal control r ≡ refusal es r
+same-refusal {es} {control} x r = refusal-same (controlStanding control) (standing es) r (x .count) (x .live) (x .unseen)

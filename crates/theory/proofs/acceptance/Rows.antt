@@ -14,7 +14,7 @@ use Rattle.theory.specs.order.Limits.{tasks, records}
 use Rattle.theory.specs.tables.Turns.{turns}
 use Rattle.theory.specs.order.Recording.{start, join, kind, kinds, lossMark, seriesOf}
 use Rattle.theory.specs.fillings.Completion.{bit, names}
-use Rattle.theory.specs.acceptance.Table.{hasKind, anyBelow, Standing, Row, _when_, rows, lastRow, firstRow, refusalBy, Fitting}
+use Rattle.theory.specs.acceptance.Table.{hasKind, anyBelow, Standing, Row, _when_, rows, lastRow, firstRow, tableRow, Fitting}
 use Rattle.theory.proofs.basics.Reflects.{Reflects, right, wrong, equal}
 
 -- The series of the kinds
@@ -84,8 +84,8 @@ row-bound n (x ∷ xs) h = decided (x .applies) (row-bound n xs (rows-after n x 
     decided false l = l
 
 -- a refusal's number is that of a row
-pub refusal-bound : (s : Standing) (r : Record) → refusalBy s r ≤ lastRow
-unfolding refusalBy
+pub refusal-bound : (s : Standing) (r : Record) → tableRow s r ≤ lastRow
+unfolding tableRow
 refusal-bound s r = row-bound lastRow (rows s r) refl
 
 -- The rows of acts and of marks
@@ -120,12 +120,12 @@ module _ (s : Standing) (r : Record) where
       ∷ (9 when anyBelow tasks (λ t. names (r .on) t && not (s .live t)))
       ∷ []
 
-  pub act-rows : OfAct r → refusalBy s r ≡ firstRow actRows
-  unfolding refusalBy
+  pub act-rows : OfAct r → tableRow s r ≡ firstRow actRows
+  unfolding tableRow
   act-rows a = simp (lt-leb (length kinds) (r .kind) (a .known), ne-eqb (r .kind) lossMark (a .no-mark), or-false)
 
-  pub mark-rows : r .kind ≡ lossMark → refusalBy s r ≡ firstRow markRows
-  unfolding refusalBy
+  pub mark-rows : r .kind ≡ lossMark → tableRow s r ≡ firstRow markRows
+  unfolding tableRow
   mark-rows e = rw e
 
 -- What is known of a record that no row refuses
@@ -148,9 +148,9 @@ pub record Allowed (s : Standing) (r : Record) : Type 0 where
   pub act : r .kind ≢ lossMark → ActAllowed s (r .kind) (r .task) (r .on)
   pub mark : r .kind ≡ lossMark → MarkAllowed s (r .on)
 
-module _ (s : Standing) (r : Record) (e : refusalBy s r ≡ 0) where
+module _ (s : Standing) (r : Record) (e : tableRow s r ≡ 0) where
   all-fail : Fail (rows s r)
-  unfolding refusalBy
+  unfolding tableRow
   all-fail = none-applies lastRow (rows s r) refl e
 
   known : r .kind < length kinds

@@ -1,149 +1,306 @@
--- Each reckoning on its own says "path" exactly where Order has one, after every list, marks included, as it arrived and in the fullest
--- filling; so the two match. The statements are in specs/feeding/Feeding.antt. Assumes nothing.
-use mathlib.Core.Path.{_≡_, refl, sym, _∙_, ap₂, subst}
-use mathlib.Core.Bool.{Bool, true, false, true≢false}
-use Rattle.theory.proofs.basics.Reflects.{Reflects, right, wrong, by-test}
-use mathlib.Core.Logic.{_↔_}
+-- Each reckoning on its own says "path" exactly where Order has one, of every access that it keeps and the act that comes next, after every list,
+-- marks included, as it arrived and in the fullest filling. The statement is in specs/feeding/Paths.antt. Assumes nothing.
+use mathlib.Core.Path.{_≡_, refl, sym, _∙_, ap, subst}
+use mathlib.Core.Bool.{Bool, true, false, not, true≢false}
+use mathlib.Core.Logic.{_↔_, _⊎_, inl, inr}
 use mathlib.Core.List.{List, [], _∷_, _++_}
-use Prim.Native.Nat.{ℕ, zero, suc, _<_}
+use Prim.Native.Nat.{ℕ, suc, _≤_, _<_, zero-le}
+use native.Mathlib.Nat.{le-refl}
+use native.Mathlib.Omega.{arith}
+use borrow.Author.Tests.{le-ltb}
 use lib.Dec.{T}
-use lib.ListN.{length}
+use lib.ListN.{length, length-append}
 use Rattle.theory.specs.declared.record.Record.{Record}
 use Rattle.theory.specs.declared.state.State.{State}
 use Rattle.theory.specs.declared.state.SetState.{SetState}
-use Rattle.theory.specs.order.Limits.{tasks}
-use Rattle.theory.specs.order.Recording.{Op, Event, act, kind, eventOf, accesses, isAccess}
-use Rattle.theory.specs.acceptance.Table.{refusal, recording}
-use Rattle.theory.specs.verdicts.Verdict.{Latest, ApartAsArrived, ApartInAll}
-use Rattle.theory.specs.tables.Reckonings.{clockApart, setApart, maskOf, masksBy, clockMasks, setMasks}
-use Rattle.theory.specs.feeding.Step.{masksUnless, apartByClocks, apartBySets, freshState, freshSets}
-use Rattle.theory.specs.feeding.Feeding.{afterAll, byClocks, bySets, SaysPaths, ClockPaths, SetPaths, ReckoningsMatch}
-use Rattle.theory.proofs.order.Places.{Ends, Occurs}
-use Rattle.theory.proofs.order.Leads.{Leads}
-use Rattle.theory.specs.fillings.Completion.{fillWith, arrived, full, filling}
-use Rattle.theory.proofs.fillings.Reach.{arrived-nothing}
-use Rattle.theory.proofs.fillings.Bounds.{apart-as-arrived, apart-in-all}
-use Rattle.theory.proofs.verdicts.Search.{Candidate, candidate-latest, candidate-far, far-candidate}
-use Rattle.theory.proofs.order.Ops.{event-act, on-series, access-on, other-tests}
-use Rattle.theory.proofs.tables.Reckoned.{clock-sound, clock-complete, set-sound, set-complete}
-use Rattle.theory.proofs.feeding.Simulation.{Shape, an-act, a-mark, shape-of, Represents, RepresentsSets, after-all, clocks-simulate, sets-simulate}
-use Rattle.theory.proofs.feeding.Demanded.{clocks-demanded, sets-demanded}
-use Rattle.theory.proofs.tables.Bits.{mask-ext}
-use Rattle.theory.proofs.tables.Finds.{same-test}
-use Rattle.theory.proofs.acceptance.ControlTable.{same-refusal}
+use Rattle.theory.specs.order.Limits.{tasks, variables}
+use Rattle.theory.specs.order.Recording.{Op, Event, act, lost, At, here, there, kind, opOf, eventOf, isAccess, acts}
+use Rattle.theory.specs.order.Path.{HappensBefore, rule, clashes}
+use Rattle.theory.specs.fillings.Completion.{Filling, arrived, full, filling, fillWith, fullest, rounds, nothing}
+use Rattle.theory.specs.acceptance.Table.{isAct, refusal, recording, recordedAfter}
+use Rattle.theory.specs.tables.Rows.{cell}
+use Rattle.theory.specs.history.History.{asker, askAt, latestSlot, latestNumber}
+use Rattle.theory.specs.feeding.Paths.{Reckoning, clocks, sets, leftBy, Kept, inFullest, ExactAt, SaysPaths, acquiring, ExactPaths}
+use Rattle.theory.proofs.basics.Reflects.{Reflects, right, wrong, by-test, equal, at-most, both, passed}
+use Rattle.theory.proofs.order.Leads.{Leads, leads-survives, leads-as-arrived, filled-with}
+use Rattle.theory.proofs.order.Places.{Ends, Occurs, first, next, leads-path, path-leads}
+use Rattle.theory.proofs.order.Carry.{Node, due, Acquires, own, by-take, by-look, by-join, Releases, own-next}
+use Rattle.theory.proofs.order.Ops.{event-act, opOf-kind, access-on}
+use Rattle.theory.proofs.fillings.Reach.{Reach, reach-start, reach-next, leads-reach, arrived-nothing}
+use Rattle.theory.proofs.fillings.Between.{filled-path}
+use Rattle.theory.proofs.fillings.Came.{Snoc, old, new, occurs-snoc, occurs-old, occurs-new, occurs-short}
 use Rattle.theory.proofs.verdicts.Examples.{ends-middle}
+use Rattle.theory.proofs.history.Slots.{InSlot, in-slot, ExactHistory, slot-one, clash-access}
+use Rattle.theory.proofs.history.Numbers.{Ranged, asker-below, asker-op, latest-below}
+use Rattle.theory.proofs.tables.Reckoned.{acts-reach, Tells, clock-tells, set-tells}
+use Rattle.theory.proofs.feeding.Simulation.{Shape, an-act, a-mark, shape-of, Represents, RepresentsSets, Simulates, after-all, clocks-simulate, sets-simulate}
 
--- Candidates by paths
+through : {P Q R : Type 0} → P ↔ Q → R ↔ Q → P ↔ R
+through a b = (λ p. b .1 (a .0 p), λ r. a .1 (b .0 r))
 
-module _ (es : List Event) (p : Op) (t v : ℕ) where
-  at-end : Ends (es ++ (act p t v ∷ [])) (length es) es (act p t v)
+-- Places
+
+at-occurs-after : {es : List Event} {i : ℕ} {e : Event} → At es i e → (after : List Event) × Occurs es i e after
+at-occurs-after here = (_, first)
+at-occurs-after (there a) = let (after, o) = at-occurs-after a in (after, next o)
+
+occurs-after-at : {es after : List Event} {i : ℕ} {e : Event} → Occurs es i e after → At es i e
+occurs-after-at first = here
+occurs-after-at (next o) = there (occurs-after-at o)
+
+-- What is kept, by its number
+
+clash-asker : (o p : Op) → T (clashes o p) → T (isAccess p)
+unfolding rule
+clash-asker o p c = passed (both (by-test (isAccess p)) (by-test (rule o p))) (passed (both (by-test (isAccess o)) (by-test _)) c .1) .0
+
+module _ (p : Op) {v u : ℕ} (a : T (isAccess p)) (hv : v < variables) (hu : u < tasks) where
+  -- the slot that an access of op p asks is for the accesses that clash with it
+  slot-clash : {e : Event} → InSlot (latestSlot (kind p) v u) e → (o : Op) × (e ≡ act o u v) × T (clashes o p)
+  slot-clash (in-slot {o = o} {u = u′} {v = v′} b h c hu′ hv′ e) =
+      let (ea, ev, eu) = slot-one {a = askAt (kind p)} {a′ = b} hv hv′ hu hu′ e in
+      let q : asker b ≡ p = subst (λ (k : ℕ). asker k ≡ p) ea (asker-op p a) in
+      (o, (λ i. act o (sym eu i) (sym ev i)), subst (λ (x : Op). T (clashes o x)) q c)
+
+  clash-slot : (o : Op) → T (clashes o p) → InSlot (latestSlot (kind p) v u) (act o u v)
+  clash-slot o c = in-slot (askAt (kind p)) (asker-below p) (subst (λ (q : Op). T (clashes o q)) (sym (asker-op p a)) c) hu hv refl
+
+  module _ {es : List Event} {last : List ℕ} (h : ExactHistory es last) where
+    -- an access that clashes stands below the number
+    below-number : {j : ℕ} {o : Op} → At es j (act o u v) → T (clashes o p) → j < latestNumber last (kind p) v u
+    below-number {j} {o} x c =
+        let (after, q) = at-occurs-after x in
+        h .held (latestSlot (kind p) v u) j (latest-below p hv hu) .1
+        (record { j = j; e = act o u v; after = after; recent = le-refl j; occurs = q; inside = clash-slot o c })
+
+    number-kept : {i : ℕ} → latestNumber last (kind p) v u ≡ suc i → Kept es p v u i
+    number-kept {i} n =
+        let d = h .held (latestSlot (kind p) v u) i (latest-below p hv hu) .0 (omega arith) in
+        let (o, e, c) = slot-clash (d .inside) in
+        let x : At es (d .j) (act o u v) = subst (At es (d .j)) e (occurs-after-at (d .occurs)) in
+        let l = below-number x c in
+        let r = d .recent in
+        let q : d .j ≡ i = omega arith in
+        record { op = o; at = subst (λ (k : ℕ). At es k (act o u v)) q x; clash = c; latest = λ j o′ y c′. let m = below-number y c′ in omega arith }
+
+    kept-number : {i : ℕ} → Kept es p v u i → latestNumber last (kind p) v u ≡ suc i
+    kept-number {i} k = decided (at-most (suc (suc i)) (latestNumber last (kind p) v u)) (below-number (k .at) (k .clash))
+      where
+        decided : {b : Bool} → Reflects (suc i < latestNumber last (kind p) v u) b → i < latestNumber last (kind p) v u → latestNumber last (kind p) v u ≡ suc i
+        decided (right l) m =
+            let d = h .held (latestSlot (kind p) v u) (suc i) (latest-below p hv hu) .0 l in
+            let (o, e, c) = slot-clash (d .inside) in
+            let y = k .latest (d .j) o (subst (At es (d .j)) e (occurs-after-at (d .occurs))) c in
+            let r = d .recent in
+            absurd (omega arith)
+        decided (wrong f) m = omega arith
+
+-- Paths to the act that comes next, by what has been reached
+
+-- to an act that acquires nothing beside its own task
+acquires-own : {q : Op} {t n : ℕ} {m : Node} → acquiring q ≡ false → Acquires m (act q t n) → m ≡ due t
+acquires-own e own = refl
+acquires-own e by-take = absurd (true≢false e)
+acquires-own e by-look = absurd (true≢false e)
+acquires-own e by-join = absurd (true≢false e)
+
+module _ {w : Filling} {e : Event} (after : List Event) {q : Op} {t n : ℕ} where
+  leads-before : acquiring q ≡ false → Leads e (fillWith (filling w) after) (act q t n) ↔ Reach w e after (due t)
+  leads-before f = (
+    λ l. let (m, r, h) = leads-reach {w = w} {e = e} .0 l in subst (Reach w e after) (acquires-own f h) r,
+    λ r. leads-reach {w = w} {e = e} .1 (due t, r, own),
+  )
+
+  -- to any act, once it is fed: what it acquired has come to its task's next act
+  leads-after : Leads e (fillWith (filling w) after) (act q t n) ↔ Reach w e (after ++ (act q t n ∷ [])) (due t)
+  leads-after = (
+    λ l. let (m, r, h) = leads-reach {w = w} {e = e} .0 l in reach-next after (act q t n) .1 (inr (m, r, (h, own-next))),
+    λ r. from (reach-next after (act q t n) .0 r),
+  )
+    where
+      from : Reach w e after (due t) ⊎ ((m : Node) × Reach w e after m × (Acquires m (act q t n) × Releases (act q t n) (due t))) → Leads e (fillWith (filling w) after) (act q t n)
+      from (inl r) = leads-reach {w = w} {e = e} .1 (due t, r, own)
+      from (inr (m, r, (h, _))) = leads-reach {w = w} {e = e} .1 (m, r, h)
+
+-- the task of an act
+abbrev task-of : Event → ℕ
+task-of (act o t n) = t
+task-of (lost mask) = 0
+
+-- what stands after the kept access
+abbrev later : {es : List Event} {p : Op} {v u i : ℕ} → Kept es p v u i → List Event
+later k = at-occurs-after (k .at) .0
+
+stands-at : {es : List Event} {p : Op} {v u i : ℕ} (k : Kept es p v u i) → Occurs es i (act (k .op) u v) (later k)
+stands-at k = at-occurs-after (k .at) .1
+
+asks : {es : List Event} {p : Op} {v u i : ℕ} → Kept es p v u i → T (isAccess p)
+asks {p = p} k = clash-asker (k .op) p (k .clash)
+
+module _ (w : Filling) {es : List Event} {last : List ℕ} (p q : Op) (t n : ℕ) {v u i : ℕ} (h : ExactHistory es last) (hv : v < variables) (hu : u < tasks)
+    (k : Kept es p v u i) where
+  abbrev Path : Type 0
+  Path = Leads (act (k .op) u v) (fillWith (filling w) (later k)) (act q t n)
+
+  said-before : {apart : Bool} → Tells w es last p t v u apart → acquiring q ≡ false → T (not apart) ↔ Path
+  said-before x f = through (x .tells (stands-at k) acts (kept-number p (asks k) hv hu h k)) (leads-before (later k) f)
+
+  -- once the act is fed: the access is kept still, or the act is kept in its place, which is one of the same task
+  module _ {last′ : List ℕ} {apart : Bool} (h′ : ExactHistory (es ++ (act q t n ∷ [])) last′) (x : Tells w (es ++ (act q t n ∷ [])) last′ p t v u apart) where
+    replaced : ¬ (latestNumber last′ (kind p) v u ≡ suc i) → InSlot (latestSlot (kind p) v u) (act q t n)
+    replaced f =
+        let l = below-number p (asks k) hv hu h′ (occurs-after-at (occurs-old (act q t n) (stands-at k))) (k .clash) in
+        let d = h′ .held (latestSlot (kind p) v u) (suc i) (latest-below p hv hu) .0 (omega arith) in
+        of (occurs-snoc es (d .occurs)) (d .recent) (d .inside)
+      where
+        of : {j : ℕ} {e : Event} {after : List Event} → Snoc es (act q t n) j e after → suc i ≤ j → InSlot (latestSlot (kind p) v u) e → InSlot (latestSlot (kind p) v u) (act q t n)
+        of (old {j = j} o) l y =
+            let (op, e, c) = slot-clash p (asks k) hv hu y in
+            let m = k .latest j op (subst (At es j) e (occurs-after-at o)) c in
+            absurd (omega arith)
+        of new l y = y
+
+    said-anew : (o : Op) → act q t n ≡ act o u v → T (clashes o p) → T (not apart) ↔ Path
+    said-anew o e c = (λ y. leads-reach {w = w} .1 (due t, subst (λ (m : ℕ). Reach w (act (k .op) u v) (later k) (due m)) (sym same) (acts-reach acts), own), λ l. told .1 begun)
+      where
+        same : t ≡ u
+        same = ap task-of e
+
+        stands : Occurs (es ++ (act q t n ∷ [])) (length es) (act o u v) []
+        stands = subst (λ (f : Event). Occurs (es ++ (act q t n ∷ [])) (length es) f []) e (occurs-new es)
+
+        number : latestNumber last′ (kind p) v u ≡ suc (length es)
+        number =
+            kept-number p (asks k) hv hu h′
+            (record {
+              op = o;
+              at = occurs-after-at stands;
+              clash = c;
+              latest = λ j o′ y c′. let l = occurs-short (at-occurs-after y .1) in omega (arith, length-append es (act q t n ∷ []));
+            })
+
+        told : T (not apart) ↔ Reach w (act o u v) [] (due t)
+        told = x .tells stands acts number
+
+        begun : Reach w (act o u v) [] (due t)
+        begun = subst (λ (m : ℕ). Reach w (act o u v) [] (due m)) (sym same) (reach-start .1 own-next)
+
+    said-after : T (not apart) ↔ Path
+    said-after = decided (equal (latestNumber last′ (kind p) v u) (suc i))
+      where
+        decided : {b : Bool} → Reflects (latestNumber last′ (kind p) v u ≡ suc i) b → T (not apart) ↔ Path
+        decided (right e) = through (x .tells (occurs-old (act q t n) (stands-at k)) acts e) (leads-after (later k))
+        decided (wrong f) = let (o, e, c) = slot-clash p (asks k) hv hu (replaced f) in said-anew o e c
+
+-- The same over the recording, as it arrived and in the fullest filling
+
+module _ {es after : List Event} {i : ℕ} {o q : Op} {t u v n : ℕ} (x : Occurs es i (act o u v) after) where
+  at-end : Ends (es ++ (act q t n ∷ [])) (length es) es (act q t n)
   at-end = ends-middle es []
 
-  arrived-candidate : {u : ℕ} → ((i : ℕ) × Candidate (filling arrived) (act p t v) es u i)
-      ↔ ((i : ℕ) × Latest (es ++ (act p t v ∷ [])) u i (length es) × ApartAsArrived (es ++ (act p t v ∷ [])) (length es) i)
-  arrived-candidate = (
-    λ c. (c .0, candidate-latest _ (ApartAsArrived _ _) at-end agree (c .1), candidate-far _ (ApartAsArrived _ _) at-end agree (c .1)),
-    λ l. (l .0, far-candidate _ (ApartAsArrived _ _) at-end agree (l .1) (l .2)),
-  )
-    where
-      agree : (i : ℕ) (o : Op) (u n : ℕ) (mid : List Event) → Occurs es i (act o u n) mid →
-          ApartAsArrived (es ++ (act p t v ∷ [])) (length es) i ↔ (¬ Leads (act o u n) (fillWith (filling arrived) mid) (act p t v))
-      agree i o u n mid s =
-          subst (λ (g : ℕ → List Event). ApartAsArrived (es ++ (act p t v ∷ [])) (length es) i ↔ (¬ Leads (act o u n) (fillWith g mid) (act p t v))) (sym arrived-nothing)
-          (apart-as-arrived at-end s)
+  path-arrived : HappensBefore (es ++ (act q t n ∷ [])) i (length es) ↔ Leads (act o u v) (fillWith (filling arrived) after) (act q t n)
+  path-arrived =
+      subst (λ (g : ℕ → List Event). HappensBefore (es ++ (act q t n ∷ [])) i (length es) ↔ Leads (act o u v) (fillWith g after) (act q t n)) (sym arrived-nothing)
+      (λ y. leads-survives (filled-with nothing after) (path-leads at-end x y), λ l. leads-path at-end x (leads-as-arrived (filled-with nothing after) l))
 
-  full-candidate : {u : ℕ} → ((i : ℕ) × Candidate (filling full) (act p t v) es u i)
-      ↔ ((i : ℕ) × Latest (es ++ (act p t v ∷ [])) u i (length es) × ApartInAll (es ++ (act p t v ∷ [])) (length es) i)
-  full-candidate = (
-    λ c. (c .0, candidate-latest _ (ApartInAll _ _) at-end agree (c .1), candidate-far _ (ApartInAll _ _) at-end agree (c .1)),
-    λ l. (l .0, far-candidate _ (ApartInAll _ _) at-end agree (l .1) (l .2)),
-  )
-    where
-      agree : (i : ℕ) (o : Op) (u n : ℕ) (mid : List Event) → Occurs es i (act o u n) mid →
-          ApartInAll (es ++ (act p t v ∷ [])) (length es) i ↔ (¬ Leads (act o u n) (fillWith (filling full) mid) (act p t v))
-      agree i o u n mid s = apart-in-all at-end s
+  path-fullest : HappensBefore (fullest (es ++ (act q t n ∷ []))) (inFullest (es ++ (act q t n ∷ [])) i) (inFullest (es ++ (act q t n ∷ [])) (length es))
+      ↔ Leads (act o u v) (fillWith (filling full) after) (act q t n)
+  path-fullest = filled-path rounds at-end x
 
--- Both reckonings
+-- A reckoning whose state is exact for a recording
 
-clocks-now : (rs : List Record) → Represents (recording rs) (afterAll byClocks freshState rs)
-clocks-now rs = after-all clocks-simulate [] freshState rs (clocks-simulate .begins)
+record Exactly {S : Type 0} (x : Reckoning S) (es : List Event) (s : S) : Type 0 where
+  last : List ℕ
+  numbers : (k v u : ℕ) → x .number s k v u ≡ latestNumber last k v u
+  none : (k t v u : ℕ) → x .number s k v u ≡ 0 → (x .apart s k t v u ≡ false) × (x .apartInFull s k t v u ≡ false)
+  history : ExactHistory es last
+  ranged : Ranged es
+  as-arrived : (p : Op) (t v u : ℕ) → T (isAccess p) → t < tasks → v < variables → u < tasks → Tells arrived es last p t v u (x .apart s (kind p) t v u)
+  in-full : (p : Op) (t v u : ℕ) → T (isAccess p) → t < tasks → v < variables → u < tasks → Tells full es last p t v u (x .apartInFull s (kind p) t v u)
 
-sets-now : (rs : List Record) → RepresentsSets (recording rs) (afterAll bySets freshSets rs)
-sets-now rs = after-all sets-simulate [] freshSets rs (sets-simulate .begins)
-
-says : {es : List Event} (o : Op) (t n : ℕ) {asArrived inFull : ℕ → Bool} →
-    ((u : ℕ) → u < tasks → T (asArrived u) ↔ ((i : ℕ) × Candidate (filling arrived) (act o t n) es u i)) →
-    ((u : ℕ) → u < tasks → T (inFull u) ↔ ((i : ℕ) × Candidate (filling full) (act o t n) es u i)) →
-    SaysPaths es (act o t n) asArrived inFull
-says {es} o t n a b =
+clocks-exactly : {es : List Event} {s : State} → Represents es s → Exactly clocks es s
+clocks-exactly {s = s} x =
     record {
-      as-arrived = λ u h. (λ x. arrived-candidate es o t n .0 (a u h .0 x), λ y. a u h .1 (arrived-candidate es o t n .1 y));
-      in-full = λ u h. (λ x. full-candidate es o t n .0 (b u h .0 x), λ y. b u h .1 (full-candidate es o t n .1 y));
+      last = s .last;
+      numbers = λ k v u. refl;
+      none = λ k t v u e. (rw (e, le-ltb (cell tasks (s .clocks) t u) 0 zero-le), rw (e, le-ltb (cell tasks (s .fullclocks) t u) 0 zero-le));
+      history = x .base .history;
+      ranged = x .base .ranged;
+      as-arrived = λ p t v u a ht hv hu. clock-tells p (x .base .history) ht hv hu (x .clocks .as-arrived);
+      in-full = λ p t v u a ht hv hu. clock-tells p (x .base .history) ht hv hu (x .clocks .in-full);
     }
 
-access-op : (o : Op) → accesses (kind o) ≡ true → T (isAccess o)
-access-op o e = decided (by-test (isAccess o))
-  where
-    decided : {b : Bool} → Reflects (T (isAccess o)) b → T (isAccess o)
-    decided (right a) = a
-    decided (wrong n) = absurd (true≢false (sym e ∙ other-tests o n))
+sets-exactly : {es : List Event} {s : SetState} → RepresentsSets es s → Exactly sets es s
+sets-exactly {s = s} x =
+    record {
+      last = s .last;
+      numbers = λ k v u. refl;
+      none = λ k t v u e. (rw e, rw e);
+      history = x .base .history;
+      ranged = x .base .ranged;
+      as-arrived = λ p t v u a ht hv hu. set-tells p (x .base .history) ht hv hu (x .sets .as-arrived);
+      in-full = λ p t v u a ht hv hu. set-tells p (x .base .history) ht hv hu (x .sets .in-full);
+    }
 
-pub clock-paths : ClockPaths
-clock-paths rs r e k = of-shape (shape-of (recording rs) r e) k (clocks-now rs)
-  where
-    of-shape : {es : List Event} {s : State} {r : Record} → Shape es r → accesses (r .kind) ≡ true → Represents es s →
-        SaysPaths es (eventOf r) (clockApart (s .clocks) (s .last) (r .kind) (r .task) (r .on)) (clockApart (s .fullclocks) (s .last) (r .kind) (r .task) (r .on))
-    of-shape {es} {s} (an-act o t n q) k x =
-        let a = access-op o k in
-        let hv = access-on o a (on-series o (q .fits)) in
-        rw (event-act o t n)
-        (says o t n
-        (λ u h. (λ y. let (i, c, _) = clock-sound o t n (x .clocks .as-arrived) (x .base .history) a (q .fits .task-fits) hv u h y in (i, c), λ c. clock-complete o t n (x .clocks .as-arrived) (x .base .history) a (q .fits .task-fits) hv u (c .0) h (c .1)))
-        (λ u h. (λ y. let (i, c, _) = clock-sound o t n (x .clocks .in-full) (x .base .history) a (q .fits .task-fits) hv u h y in (i, c), λ c. clock-complete o t n (x .clocks .in-full) (x .base .history) a (q .fits .task-fits) hv u (c .0) h (c .1))))
-    of-shape (a-mark t n m) k x = absurd (true≢false (sym k))
+-- the numbers of a kept access are in their ranges
+kept-ranged : {es : List Event} {p : Op} {v u i : ℕ} → Ranged es → Kept es p v u i → (u < tasks) × (v < variables)
+kept-ranged {p = p} r k =
+    let (hu, hv) = r .in-range _ (k .op) _ _ _ (stands-at k) in
+    (hu, access-on (k .op) (clash-access (k .op) p (k .clash)) hv)
 
-pub set-paths : SetPaths
-set-paths rs r e k = of-shape (shape-of (recording rs) r e) k (sets-now rs)
-  where
-    of-shape : {es : List Event} {s : SetState} {r : Record} → Shape es r → accesses (r .kind) ≡ true → RepresentsSets es s →
-        SaysPaths es (eventOf r) (setApart (s .sets) (s .last) (r .kind) (r .task) (r .on)) (setApart (s .fullsets) (s .last) (r .kind) (r .task) (r .on))
-    of-shape {es} {s} (an-act o t n q) k x =
-        let a = access-op o k in
-        let hv = access-on o a (on-series o (q .fits)) in
-        rw (event-act o t n)
-        (says o t n
-        (λ u h. (λ y. let (i, c, _) = set-sound o t n (x .sets .as-arrived) (x .base .history) a (q .fits .task-fits) hv u h y in (i, c), λ c. set-complete o t n (x .sets .as-arrived) (x .base .history) a (q .fits .task-fits) hv u (c .0) h (c .1)))
-        (λ u h. (λ y. let (i, c, _) = set-sound o t n (x .sets .in-full) (x .base .history) a (q .fits .task-fits) hv u h y in (i, c), λ c. set-complete o t n (x .sets .in-full) (x .base .history) a (q .fits .task-fits) hv u (c .0) h (c .1))))
-    of-shape (a-mark t n m) k x = absurd (true≢false (sym k))
+-- so it says paths of an act that comes next, before that is fed and after
+module _ {S : Type 0} {x : Reckoning S} {es : List Event} {s : S} (y : Exactly x es s) (q : Op) (t n : ℕ) (ht : t < tasks) where
+  paths-before : acquiring q ≡ false → (p : Op) (v u i : ℕ) → Kept es p v u i →
+      ExactAt (es ++ (act q t n ∷ [])) i (length es) (x .apart s (kind p) t v u) (x .apartInFull s (kind p) t v u)
+  paths-before f p v u i k =
+      let (hu, hv) = kept-ranged (y .ranged) k in
+      record {
+        as-arrived = through (said-before arrived p q t n (y .history) hv hu k (y .as-arrived p t v u (asks k) ht hv hu) f) (path-arrived (stands-at k));
+        in-fullest = through (said-before full p q t n (y .history) hv hu k (y .in-full p t v u (asks k) ht hv hu) f) (path-fullest (stands-at k));
+      }
 
--- Clocks and sets match, since each says "path" where Order has one
+  paths-after : {s′ : S} → Exactly x (es ++ (act q t n ∷ [])) s′ → (p : Op) (v u i : ℕ) → Kept es p v u i →
+      ExactAt (es ++ (act q t n ∷ [])) i (length es) (x .apart s′ (kind p) t v u) (x .apartInFull s′ (kind p) t v u)
+  paths-after z p v u i k =
+      let (hu, hv) = kept-ranged (y .ranged) k in
+      record {
+        as-arrived = through (said-after arrived p q t n (y .history) hv hu k (z .history) (z .as-arrived p t v u (asks k) ht hv hu)) (path-arrived (stands-at k));
+        in-fullest = through (said-after full p q t n (y .history) hv hu k (z .history) (z .in-full p t v u (asks k) ht hv hu)) (path-fullest (stands-at k));
+      }
 
-same-masks : {es : List Event} {f : Event} {a b c d : ℕ → Bool} → SaysPaths es f a b → SaysPaths es f c d → masksBy (maskOf b) (maskOf a) ≡ masksBy (maskOf d) (maskOf c)
-same-masks {a = a} {b} {c} {d} x y =
-    ap₂ masksBy
-    (mask-ext b d (λ u h. same-test (λ p. y .in-full u h .1 (x .in-full u h .0 p)) (λ q. x .in-full u h .1 (y .in-full u h .0 q))))
-    (mask-ext a c (λ u h. same-test (λ p. y .as-arrived u h .1 (x .as-arrived u h .0 p)) (λ q. x .as-arrived u h .1 (y .as-arrived u h .0 q))))
+-- After every list
 
-pub reckonings-match : ReckoningsMatch
-reckonings-match rs = record { answers = clocks-demanded .by-table rs ∙ sym (sets-demanded .by-table rs); paths = paths }
-  where
-    paths : (r : Record) → apartByClocks (afterAll byClocks freshState rs) r ≡ apartBySets (afterAll bySets freshSets rs) r
-    paths r =
-        rw (
-          same-refusal (clocks-now rs .base .control-exact) r,
-          same-refusal (sets-now rs .base .control-exact) r,
-        )
-        (decided (refusal (recording rs) r) refl (accesses (r .kind)) refl)
-      where
-        s : State
-        s = afterAll byClocks freshState rs
+module _ {S : Type 0} {x : Reckoning S} {R : List Event → S → Type 0} (simulates : Simulates (x .checker) R) (exactly : (es : List Event) (s : S) → R es s → Exactly x es s) where
+  represents : (rs : List Record) → R (recording rs) (leftBy x rs)
+  represents rs = after-all simulates [] (x .checker .fresh) rs (simulates .begins)
 
-        s′ : SetState
-        s′ = afterAll bySets freshSets rs
+  next-exactly : (rs : List Record) (r : Record) → refusal (recording rs) r ≡ 0 → Exactly x (recording rs ++ (eventOf r ∷ [])) (x .checker .next (leftBy x rs) r)
+  next-exactly rs r e =
+      exactly _ _ (subst (λ (n : ℕ). R (recordedAfter (recording rs) r n) (x .checker .next (leftBy x rs) r)) e (simulates .steps (recording rs) (leftBy x rs) r (represents rs) .1))
 
-        decided : (n : ℕ) → refusal (recording rs) r ≡ n → (b : Bool) → accesses (r .kind) ≡ b →
-            masksUnless n (clockMasks (s .clocks) (s .fullclocks) (s .last) (r .kind) (r .task) (r .on))
-            ≡ masksUnless n (setMasks (s′ .sets) (s′ .fullsets) (s′ .last) (r .kind) (r .task) (r .on))
-        decided (suc n) e b q = refl
-        decided zero e true q = rw q (same-masks (clock-paths rs r e q) (set-paths rs r e q))
-        decided zero e false q = rw q
+  exact-paths : ExactPaths x
+  exact-paths rs =
+      record {
+        keeps = λ p v u i a hv hu. (λ e. number-kept p a hv hu (now .history) (sym (now .numbers (kind p) v u) ∙ e), λ k. now .numbers (kind p) v u ∙ kept-number p a hv hu (now .history) k);
+        keeps-none = now .none;
+        before = λ r e a f. before (shape-of (recording rs) r e) a f;
+        after = λ r e a. after (shape-of (recording rs) r e) a (next-exactly rs r e);
+      }
+    where
+      now : Exactly x (recording rs) (leftBy x rs)
+      now = exactly _ _ (represents rs)
+
+      before : {r : Record} → Shape (recording rs) r → isAct r ≡ true → acquiring (opOf (r .kind)) ≡ false → SaysPaths x (leftBy x rs) (recording rs) r
+      before (an-act q t n a) b f = rw (event-act q t n) (paths-before now q t n (a .fits .task-fits) (rw (opOf-kind q) at f))
+      before (a-mark t n m) b f = absurd (true≢false (sym b))
+
+      after : {r : Record} → Shape (recording rs) r → isAct r ≡ true → Exactly x (recording rs ++ (eventOf r ∷ [])) (x .checker .next (leftBy x rs) r) →
+          SaysPaths x (x .checker .next (leftBy x rs) r) (recording rs) r
+      after (an-act q t n a) b z = rw (event-act q t n) (paths-after now q t n (a .fits .task-fits) (rw (event-act q t n) at z))
+      after (a-mark t n m) b z = absurd (true≢false (sym b))
+
+pub clock-paths : ExactPaths clocks
+clock-paths = exact-paths clocks-simulate (λ es s. clocks-exactly)
+
+pub set-paths : ExactPaths sets
+set-paths = exact-paths sets-simulate (λ es s. sets-exactly)

@@ -1,7 +1,7 @@
 -- Feeding answers what the recording so far says: of the clocks and of the sets. Assumes nothing.
 use mathlib.Core.Path.{_≡_, refl, sym, _∙_, ap, subst}
 use mathlib.Core.Bool.{Bool, true, false}
-use mathlib.Core.List.{List, [], _∷_, _++_}
+use mathlib.Core.List.{List, [], _∷_, _++_, map}
 use Prim.Native.Nat.{ℕ, zero, suc, _+_, _/_, _%_, _^_, _<_}
 use native.Mathlib.Nat.{pow-suc}
 use native.Mathlib.Omega.{arith}
@@ -14,13 +14,14 @@ use Rattle.theory.specs.declared.state.State.{State}
 use Rattle.theory.specs.declared.state.SetState.{SetState}
 use Rattle.theory.specs.order.Recording.{Op, Event, act, lost, kind, lossMark, eventOf, isAccess}
 use Rattle.theory.specs.fillings.Completion.{names, Named, arrived, full, Filling}
-use Rattle.theory.specs.acceptance.Table.{isLive, phase, Standing, standing, refusal, recordedAfter, fedAfter}
+use Rattle.theory.specs.acceptance.Table.{isLive, phase, Standing, standing, refusal, recordedAfter, extended}
 use Rattle.theory.specs.acceptance.Control.{controlAfter}
 use Rattle.theory.specs.history.History.{slots, lastAfter}
 use Rattle.theory.specs.tables.Reckonings.{clocksBy, setsBy, clockMask, setMask, clockMasks, setMasks}
+use Rattle.theory.specs.feeding.Meaning.{meaning}
 use Rattle.theory.specs.feeding.Step.{nextNumber, answeredBy, stepOf, stepBy, setStepOf, setStepBy, freshControl, freshState, freshSets}
 use Rattle.theory.specs.verdicts.Search.{partner}
-use Rattle.theory.specs.feeding.Feeding.{Checker, fedTo, afterAll, byClocks, bySets, acceptedAnswer, answerBy, answerTo, answersFrom}
+use Rattle.theory.specs.feeding.Feeding.{Checker, replies, afterAll, byClocks, bySets, acceptedAnswer, answerBy, answerTo, answersFrom}
 use Rattle.theory.proofs.basics.Reflects.{Reflects, right, wrong, by-test, equal, is-true}
 use Rattle.theory.proofs.acceptance.Rows.{ActAllowed, MarkAllowed, Allowed, allowed}
 use Rattle.theory.proofs.order.Ops.{op-of, no-mark, event-act, on-series, access-on, access-tests, other-tests}
@@ -152,14 +153,14 @@ is-false {b} n = decided (by-test b)
     decided (wrong m) = refl
 
 clock-answer : {es : List Event} {control last clocks fullclocks : List ℕ} {r : Record} → Base es control last → Clocks es clocks fullclocks → Shape es r →
-    answeredBy last (r .kind) (r .on) (nextNumber control) (clockMasks clocks fullclocks last (r .kind) (r .task) (r .on)) ≡ acceptedAnswer es (eventOf r)
+    meaning (answeredBy last (r .kind) (r .on) (nextNumber control) (clockMasks clocks fullclocks last (r .kind) (r .task) (r .on))) ≡ acceptedAnswer es (eventOf r)
 clock-answer {es} {control} {last} {clocks} {fullclocks} b x (an-act o t n a) = rw (event-act o t n) (decided (by-test (isAccess o)))
   where
     number : nextNumber control ≡ suc (length es)
     number = next-number (b .control-exact)
 
     decided : {c : Bool} → Reflects (T (isAccess o)) c →
-        answeredBy last (kind o) n (nextNumber control) (clockMasks clocks fullclocks last (kind o) t n) ≡ acceptedAnswer es (act o t n)
+        meaning (answeredBy last (kind o) n (nextNumber control) (clockMasks clocks fullclocks last (kind o) t n)) ≡ acceptedAnswer es (act o t n)
     decided (right c) =
         rw (access-tests o c, is-true (by-test (isAccess o)) c, number)
         (judged-found last (kind o) n (suc (length es)) (clockMask fullclocks last (kind o) t n) (clockMask clocks last (kind o) t n) (act o t n) es
@@ -169,14 +170,14 @@ clock-answer {es} {control} {last} {clocks} {fullclocks} b x (an-act o t n a) = 
 clock-answer b x (a-mark t n m) = rw (next-number (b .control-exact))
 
 set-answer : {es : List Event} {control last sets fullsets : List ℕ} {r : Record} → Base es control last → Sets es sets fullsets → Shape es r →
-    answeredBy last (r .kind) (r .on) (nextNumber control) (setMasks sets fullsets last (r .kind) (r .task) (r .on)) ≡ acceptedAnswer es (eventOf r)
+    meaning (answeredBy last (r .kind) (r .on) (nextNumber control) (setMasks sets fullsets last (r .kind) (r .task) (r .on))) ≡ acceptedAnswer es (eventOf r)
 set-answer {es} {control} {last} {sets} {fullsets} b x (an-act o t n a) = rw (event-act o t n) (decided (by-test (isAccess o)))
   where
     number : nextNumber control ≡ suc (length es)
     number = next-number (b .control-exact)
 
     decided : {c : Bool} → Reflects (T (isAccess o)) c →
-        answeredBy last (kind o) n (nextNumber control) (setMasks sets fullsets last (kind o) t n) ≡ acceptedAnswer es (act o t n)
+        meaning (answeredBy last (kind o) n (nextNumber control) (setMasks sets fullsets last (kind o) t n)) ≡ acceptedAnswer es (act o t n)
     decided (right c) =
         rw (access-tests o c, is-true (by-test (isAccess o)) c, number)
         (judged-found last (kind o) n (suc (length es)) (setMask fullsets last (kind o) t n) (setMask sets last (kind o) t n) (act o t n) es
@@ -199,15 +200,15 @@ pub record RepresentsSets (es : List Event) (s : SetState) : Type 0 where
 -- represents the recording with the record, if that was accepted
 pub record Simulates {S : Type 0} (c : Checker S) (R : List Event → S → Type 0) : Type 0 where
   pub begins : R [] (c .fresh)
-  pub steps : (es : List Event) (s : S) (r : Record) → R es s → (c .answer s r ≡ answerTo es r) × R (recordedAfter es r (refusal es r)) (c .next s r)
+  pub steps : (es : List Event) (s : S) (r : Record) → R es s → (meaning (c .answer s r) ≡ answerTo es r) × R (recordedAfter es r (refusal es r)) (c .next s r)
 
-pub fed-to : {S : Type 0} {c : Checker S} {R : List Event → S → Type 0} → Simulates c R → (es : List Event) (s : S) (rs : List Record) → R es s → fedTo c s rs ≡ answersFrom es rs
+pub fed-to : {S : Type 0} {c : Checker S} {R : List Event → S → Type 0} → Simulates c R → (es : List Event) (s : S) (rs : List Record) → R es s → map meaning (replies c s rs) ≡ answersFrom es rs
 fed-to x es s [] h = refl
 fed-to {c = c} x es s (r ∷ rs) h =
     let (e, y) = x .steps es s r h in
     rw (e, fed-to x (recordedAfter es r (refusal es r)) (c .next s r) rs y)
 
-pub after-all : {S : Type 0} {c : Checker S} {R : List Event → S → Type 0} → Simulates c R → (es : List Event) (s : S) (rs : List Record) → R es s → R (fedAfter es rs) (afterAll c s rs)
+pub after-all : {S : Type 0} {c : Checker S} {R : List Event → S → Type 0} → Simulates c R → (es : List Event) (s : S) (rs : List Record) → R es s → R (extended es rs) (afterAll c s rs)
 after-all x es s [] h = h
 after-all {c = c} x es s (r ∷ rs) h = after-all x (recordedAfter es r (refusal es r)) (c .next s r) rs (x .steps es s r h .1)
 
@@ -220,10 +221,10 @@ pub clocks-simulate : Simulates byClocks Represents
 unfolding stepOf freshState
 clocks-simulate = record { begins = record { base = fresh-base; clocks = record { as-arrived = fresh-clocks; in-full = fresh-clocks } }; steps = steps }
   where
-    steps : (es : List Event) (s : State) (r : Record) → Represents es s → (byClocks .answer s r ≡ answerTo es r) × Represents (recordedAfter es r (refusal es r)) (byClocks .next s r)
+    steps : (es : List Event) (s : State) (r : Record) → Represents es s → (meaning (byClocks .answer s r) ≡ answerTo es r) × Represents (recordedAfter es r (refusal es r)) (byClocks .next s r)
     steps es s r x = rw (same-refusal (x .base .control-exact) r) (decided (refusal es r) refl)
       where
-        decided : (n : ℕ) → refusal es r ≡ n → ((stepBy n s r) .answer ≡ answerBy es r n) × Represents (recordedAfter es r n) ((stepBy n s r) .state)
+        decided : (n : ℕ) → refusal es r ≡ n → (meaning ((stepBy n s r) .answer) ≡ answerBy es r n) × Represents (recordedAfter es r n) ((stepBy n s r) .state)
         decided zero e =
             let h = shape-of es r e in
             (clock-answer (x .base) (x .clocks) h, record { base = base-next (x .base) h; clocks = clocks-next (x .base) (x .clocks) h })
@@ -233,10 +234,10 @@ pub sets-simulate : Simulates bySets RepresentsSets
 unfolding setStepOf freshSets
 sets-simulate = record { begins = record { base = fresh-base; sets = record { as-arrived = fresh-sets; in-full = fresh-sets } }; steps = steps }
   where
-    steps : (es : List Event) (s : SetState) (r : Record) → RepresentsSets es s → (bySets .answer s r ≡ answerTo es r) × RepresentsSets (recordedAfter es r (refusal es r)) (bySets .next s r)
+    steps : (es : List Event) (s : SetState) (r : Record) → RepresentsSets es s → (meaning (bySets .answer s r) ≡ answerTo es r) × RepresentsSets (recordedAfter es r (refusal es r)) (bySets .next s r)
     steps es s r x = rw (same-refusal (x .base .control-exact) r) (decided (refusal es r) refl)
       where
-        decided : (n : ℕ) → refusal es r ≡ n → ((setStepBy n s r) .answer ≡ answerBy es r n) × RepresentsSets (recordedAfter es r n) ((setStepBy n s r) .state)
+        decided : (n : ℕ) → refusal es r ≡ n → (meaning ((setStepBy n s r) .answer) ≡ answerBy es r n) × RepresentsSets (recordedAfter es r n) ((setStepBy n s r) .state)
         decided zero e =
             let h = shape-of es r e in
             (set-answer (x .base) (x .sets) h, record { base = base-next (x .base) h; sets = sets-next (x .base .seen) (x .sets) h })

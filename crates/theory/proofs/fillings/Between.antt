@@ -5,12 +5,12 @@ use mathlib.Core.List.{List, [], _∷_, _++_}
 use Prim.Native.Nat.{ℕ, zero, suc, _+_, _≤_, zero-le, suc-le-suc}
 use native.Mathlib.Nat.{le-of-suc-le-suc, not-suc-le-zero, zero-add, suc-add}
 use native.Mathlib.Omega.{arith}
-use lib.ListN.{length}
-use Rattle.theory.specs.order.Recording.{Op, Event, act}
+use lib.ListN.{length, take, length-append}
+use Rattle.theory.specs.order.Recording.{Op, Event, act, At, here, there}
 use Rattle.theory.specs.order.Path.{HappensBefore}
 use Rattle.theory.specs.fillings.Completion.{Filler, Every, Filled, done, keep, fill, Completion, place, fillWith}
 use Rattle.theory.proofs.order.Leads.{Leads, Is, is, filled-is, filled-with}
-use Rattle.theory.proofs.order.Places.{Ends, ends, onward, Occurs, first, next, leads-path, path-leads}
+use Rattle.theory.proofs.order.Places.{Ends, ends, onward, ends-at, Occurs, first, next, occurs-at, leads-path, path-leads}
 
 -- What stands between
 
@@ -79,6 +79,25 @@ module _ (g : ℕ → List Event) (fillers : (mask : ℕ) → Every (Filler mask
   completes-between {es} {i = i} {k = k} d o =
       let b = between (filled-with g es) d o in
       (λ q. rw (← filled-is (b .filled)) (path-leads (b .to) (b .from) (rw (place-map allowed (filled-with g es) i, place-map allowed (filled-with g es) k) at q)), λ q. rw (place-map allowed (filled-with g es) i, place-map allowed (filled-with g es) k) (leads-path (b .to) (b .from) (rw (← filled-is (b .filled)) at q)))
+
+-- Places by what comes before them
+
+-- an arrived record stands behind all that comes before it, filled in
+place-behind : {g : ℕ → List Event} {es fs : List Event} {i : ℕ} {e : Event} (c : Filled (Is g) es fs) → At es i e → place c i ≡ length (fillWith g (take i es))
+place-behind (keep c) here = refl
+place-behind (keep c) (there a) = ap suc (place-behind c a)
+place-behind (fill is c) here = refl
+place-behind {g} (fill {mask = mask} is c) (there {es = es} {i = i} a) = rw (place-behind c a, length-append (g mask) (fillWith g (take i es)))
+
+-- a path between two of them where g fills each mark
+pub filled-path : (g : ℕ → List Event) {es before mid : List Event} {i k : ℕ} {o p : Op} {t u n m : ℕ} → Ends es k before (act p u m) → Occurs before i (act o t n) mid →
+    HappensBefore (fillWith g es) (length (fillWith g (take i es))) (length (fillWith g (take k es))) ↔ Leads (act o t n) (fillWith g mid) (act p u m)
+filled-path g {es} d o =
+    let c = filled-with g es in
+    let b = between c d o in
+    let ei = place-behind c (occurs-at d o) in
+    let ek = place-behind c (ends-at d) in
+    (λ q. rw (← filled-is (b .filled)) (path-leads (b .to) (b .from) (rw (ei, ek) q)), λ q. rw (← ei, ← ek) (leads-path (b .to) (b .from) (rw (filled-is (b .filled)) q)))
 
 -- Places keep their order
 

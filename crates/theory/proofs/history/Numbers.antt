@@ -11,8 +11,9 @@ use borrow.Author.Tests.{ltb-true}
 use lib.Dec.{T, ltb}
 use lib.ListN.{length}
 use Rattle.theory.specs.order.Recording.{Op, Event, act, lost, series, kind, about, accessNumber, Kind, of-op, of-mark, _is_, ActsIn, acts, isAccess}
-use Rattle.theory.specs.order.Path.{clashes, Conflict, conflict}
+use Rattle.theory.specs.order.Path.{clashes, Conflict, conflict, Against}
 use Rattle.theory.specs.history.History.{askers, asker, askAt, slots, latestSlot, latestNumber}
+use Rattle.theory.specs.order.Limits.{tasks, variables}
 use Rattle.theory.proofs.basics.Reflects.{Reflects, right, wrong, at-most, by-test, is-true, passed}
 use Rattle.theory.proofs.order.Places.{Occurs, first, next}
 use Rattle.theory.proofs.order.Tests.{Again}
@@ -25,22 +26,22 @@ use Rattle.theory.proofs.order.Ops.{opOf-kind, same-op, each-op}
 
 -- the acts of a recording have numbers in their ranges
 pub record Ranged (es : List Event) : Type 0 where
-  pub in-range : (j : ℕ) (o : Op) (u n : ℕ) (after : List Event) → Occurs es j (act o u n) after → (u < 16) × (n < series o)
+  pub in-range : (j : ℕ) (o : Op) (u n : ℕ) (after : List Event) → Occurs es j (act o u n) after → (u < tasks) × (n < series o)
 
 pub fresh-ranged : Ranged []
 fresh-ranged = record { in-range = λ j o u n after q. elim q [ ] }
 
-pub ranged-act : {es : List Event} (o : Op) {t n : ℕ} → t < 16 → n < series o → Ranged es → Ranged (es ++ (act o t n ∷ []))
+pub ranged-act : {es : List Event} (o : Op) {t n : ℕ} → t < tasks → n < series o → Ranged es → Ranged (es ++ (act o t n ∷ []))
 ranged-act {es} o {t} {n} ht hn r = record { in-range = λ j p u m after q. cases (occurs-snoc es q) }
   where
-    cases : {j : ℕ} {p : Op} {u m : ℕ} {after : List Event} → Snoc es (act o t n) j (act p u m) after → (u < 16) × (m < series p)
+    cases : {j : ℕ} {p : Op} {u m : ℕ} {after : List Event} → Snoc es (act o t n) j (act p u m) after → (u < tasks) × (m < series p)
     cases (old q) = r .in-range _ _ _ _ _ q
     cases new = (ht, hn)
 
 pub ranged-mark : {es : List Event} (mask : ℕ) → Ranged es → Ranged (es ++ (lost mask ∷ []))
 ranged-mark {es} mask r = record { in-range = λ j p u m after q. cases (occurs-snoc es q) }
   where
-    cases : {j : ℕ} {p : Op} {u m : ℕ} {after : List Event} → Snoc es (lost mask) j (act p u m) after → (u < 16) × (m < series p)
+    cases : {j : ℕ} {p : Op} {u m : ℕ} {after : List Event} → Snoc es (lost mask) j (act p u m) after → (u < tasks) × (m < series p)
     cases (old q) = r .in-range _ _ _ _ _ q
 
 -- Conflicting accesses by slots
@@ -60,10 +61,10 @@ asker-op p a = rw (opOf-kind p) (passed (same-op (asker (accessNumber ((about p)
     is-asker (of-op o) = not (isAccess o) || asker (accessNumber ((about o) .access)) is o
     is-asker of-mark = true
 
-pub latest-below : (p : Op) {v u : ℕ} → v < 64 → u < 16 → latestSlot (kind p) v u < slots
+pub latest-below : (p : Op) {v u : ℕ} → v < variables → u < tasks → latestSlot (kind p) v u < slots
 latest-below p hv hu = slot-below (asker-below p) hv hu
 
-module _ {p : Op} {t v u : ℕ} (ap : T (isAccess p)) (hv : v < 64) (hu : u < 16) where
+module _ {p : Op} {t v u : ℕ} (ap : T (isAccess p)) (hv : v < variables) (hu : u < tasks) where
   slot-conflict : u ≢ t → {e : Event} → InSlot (latestSlot (kind p) v u) e → ActsIn u e × Conflict e (act p t v)
   slot-conflict apart (in-slot {o = o} {u = u′} {v = v′} a h c hu′ hv′ e) =
       let (ea, ev, eu) = slot-one {a = askAt (kind p)} {a′ = a} hv hv′ hu hu′ e in
@@ -77,13 +78,12 @@ module _ {p : Op} {t v u : ℕ} (ap : T (isAccess p)) (hv : v < 64) (hu : u < 16
 
 -- The number of the latest
 
--- task u's access at place j conflicts with f
-pub record ConflictAt (es : List Event) (u : ℕ) (f : Event) (j : ℕ) : Type 0 where
+-- f is held against task u's access at place j
+pub record AgainstAt (es : List Event) (u : ℕ) (f : Event) (j : ℕ) : Type 0 where
   pub e : Event
   pub after : List Event
   pub occurs : Occurs es j e after
-  pub acting : ActsIn u e
-  pub conflict : Conflict e f
+  pub against : Against u e after f
 
 -- what is true of the event at a place, and of what follows it, is true of the one known to be there
 pub occurs-same : (P : Event → List Event → Type 0) {es after after′ : List Event} {i : ℕ} {e e′ : Event} → Occurs es i e after → Occurs es i e′ after′ →
@@ -91,19 +91,19 @@ pub occurs-same : (P : Event → List Event → Type 0) {es after after′ : Lis
 occurs-same P first first x = x
 occurs-same P (next o) (next q) x = occurs-same P o q x
 
-module _ {es : List Event} {last : List ℕ} {p : Op} {t v u : ℕ} (h : ExactHistory es last) (ap : T (isAccess p)) (hv : v < 64) (hu : u < 16) (apart : u ≢ t) where
-  number-conflicts : (m : ℕ) → (m < latestNumber last (kind p) v u) ↔ ((j : ℕ) × (m ≤ j) × ConflictAt es u (act p t v) j)
+module _ {es : List Event} {last : List ℕ} {p : Op} {t v u : ℕ} (h : ExactHistory es last) (ap : T (isAccess p)) (hv : v < variables) (hu : u < tasks) (apart : u ≢ t) where
+  number-conflicts : (m : ℕ) → (m < latestNumber last (kind p) v u) ↔ ((j : ℕ) × (m ≤ j) × AgainstAt es u (act p t v) j)
   number-conflicts m = (to, from)
     where
-      to : m < latestNumber last (kind p) v u → (j : ℕ) × (m ≤ j) × ConflictAt es u (act p t v) j
+      to : m < latestNumber last (kind p) v u → (j : ℕ) × (m ≤ j) × AgainstAt es u (act p t v) j
       to l =
           let d = h .held (latestSlot (kind p) v u) m (latest-below p hv hu) .0 l in
           let (a, q) = slot-conflict ap hv hu apart (d .inside) in
-          (d .j, d .recent, record { e = d .e; after = d .after; occurs = d .occurs; acting = a; conflict = q })
+          (d .j, d .recent, record { e = d .e; after = d .after; occurs = d .occurs; against = record { by = a; conflict = q } })
 
-      from : (j : ℕ) × (m ≤ j) × ConflictAt es u (act p t v) j → m < latestNumber last (kind p) v u
+      from : (j : ℕ) × (m ≤ j) × AgainstAt es u (act p t v) j → m < latestNumber last (kind p) v u
       from (j, l, x) =
-          let q = conflict-slot ap hv hu (x .acting) (x .conflict) in
+          let q = conflict-slot ap hv hu (x .against .by) (x .against .conflict) in
           h .held (latestSlot (kind p) v u) m (latest-below p hv hu) .1 (record { j = j; e = x .e; after = x .after; recent = l; occurs = x .occurs; inside = q })
 
   -- no conflicting access stands after the one that the number tells
@@ -111,7 +111,7 @@ module _ {es : List Event} {last : List ℕ} {p : Op} {t v u : ℕ} (h : ExactHi
   none-later {i} {j} n l o s =
       let (k, x, after′, q, (a, c)) = some-occurs s in
       let (k′, m, r) = occurs-after o q in
-      let b : k′ < latestNumber last (kind p) v u = number-conflicts k′ .1 (k′, le-refl _, record { e = x; after = after′; occurs = r; acting = a; conflict = c }) in
+      let b : k′ < latestNumber last (kind p) v u = number-conflicts k′ .1 (k′, le-refl _, record { e = x; after = after′; occurs = r; against = record { by = a; conflict = c } }) in
       omega arith
 
   pub number-final : {i : ℕ} → latestNumber last (kind p) v u ≡ suc i → Final u (act p t v) es i
@@ -121,15 +121,15 @@ module _ {es : List Event} {last : List ℕ} {p : Op} {t v u : ℕ} (h : ExactHi
       let k : j < latestNumber last (kind p) v u = number-conflicts j .1 (j, le-refl _, x) in
       let q : j ≡ i = omega arith in
       subst (Final u (act p t v) es) q
-      (record { x = x .e; after = x .after; occurs = x .occurs; acting = x .acting; conflict = x .conflict; none = none-later n m (x .occurs) })
+      (record { x = x .e; after = x .after; occurs = x .occurs; against = x .against; none = none-later n m (x .occurs) })
 
   pub final-number : {i : ℕ} → Final u (act p t v) es i → latestNumber last (kind p) v u ≡ suc i
   final-number {i} f =
-      let a : i < latestNumber last (kind p) v u = number-conflicts i .1 (i, le-refl _, record { e = f .x; after = f .after; occurs = f .occurs; acting = f .acting; conflict = f .conflict }) in
+      let a : i < latestNumber last (kind p) v u = number-conflicts i .1 (i, le-refl _, record { e = f .x; after = f .after; occurs = f .occurs; against = f .against }) in
       decided (at-most (suc (suc i)) (latestNumber last (kind p) v u)) a
     where
       decided : {b : Bool} → Reflects (suc i < latestNumber last (kind p) v u) b → i < latestNumber last (kind p) v u → latestNumber last (kind p) v u ≡ suc i
       decided (right l) a =
           let (j, m, x) = number-conflicts (suc i) .0 l in
-          absurd (f .none (some-after (f .occurs) (x .occurs) m (x .acting, x .conflict)))
+          absurd (f .none (some-after (f .occurs) (x .occurs) m (x .against .by, x .against .conflict)))
       decided (wrong l) a = omega arith

@@ -13,7 +13,7 @@ use Rattle.theory.specs.tables.Turns.{turns}
 use Rattle.theory.specs.order.Recording.{Op, kind, Kind, of-op, of-mark, kinds, kindAt, accessBy, accesses, lossMark, seriesOf}
 use Rattle.theory.specs.order.Path.{clashes}
 use Rattle.theory.specs.acceptance.Table.{anyBelow}
-use Rattle.theory.specs.history.History.{askers, asker, askAt, clashBy}
+use Rattle.theory.specs.history.History.{askers, asker, askAt, kindClashes}
 use Rattle.theory.proofs.basics.Reflects.{Reflects, right, wrong, at-most}
 use Rattle.theory.proofs.acceptance.Rows.{none-below}
 
@@ -64,10 +64,10 @@ no-access-else k n = negated (accesses k) (rw (none-is askers k n) at (each-numb
     beyond k h = rw (ap accessBy (kind-above k h)) (or-true (isOneOf askers k))
 
 -- what is no access clashes with nothing
-pub no-clash : (k : ℕ) (p : Op) → accesses k ≡ false → false ≡ clashBy (kindAt k) p
+pub no-clash : (k : ℕ) (p : Op) → accesses k ≡ false → false ≡ kindClashes (kindAt k) p
 no-clash k p e = of (kindAt k) e
   where
-    of : (x : Kind) → accessBy x ≡ false → false ≡ clashBy x p
+    of : (x : Kind) → accessBy x ≡ false → false ≡ kindClashes x p
     of (of-op o) e = rw e
     of of-mark e = refl
 

@@ -12,18 +12,19 @@ use lib.ListN.{set}
 use Rattle.theory.specs.history.History.{slots}
 use Rattle.theory.specs.tables.Turns.{turns}
 use Rattle.theory.specs.fillings.Completion.{bit}
-use Rattle.theory.specs.tables.Rows.{cell, joinRow, alsoReleased, flow, noteActed}
-use Rattle.theory.specs.tables.Reckonings.{slotWords, clockOwn, hasSlot, withBit, withoutBit, clearSlot, addSlot}
+use Rattle.theory.specs.tables.Rows.{cell, joinRow, alsoReleased, flow, noteActed, hub, rowCount, actedRow, tableRows}
+use Rattle.theory.specs.tables.Reckonings.{slotWords, clockOwn, hasSlot, withBit, withoutBit, clearSlot, addSlot, slotWord, slotPlace}
+use Rattle.theory.specs.order.Limits.{tasks}
 use Rattle.theory.proofs.basics.Reflects.{Reflects, right, wrong, equal}
 use Rattle.theory.proofs.tables.Rows.{Sized, Same, Joins, Knows, sized-set, sized-turns, sized-join, cell-set-same, cell-set-other, join-self, join-cell-other, join-knows}
 use Rattle.theory.proofs.tables.Words.{with-bit, without-bit}
 
 -- Rows
 
-also-below : (asked : Bool) (released task : ℕ) → task < 16 → alsoReleased asked released task < 82
-also-below asked released task h = of (ltb released 16 || not asked)
+also-below : (asked : Bool) (released task : ℕ) → task < tasks → alsoReleased asked released task < tableRows
+also-below asked released task h = of (ltb released tasks || not asked)
   where
-    of : (p : Bool) → cond p task 80 < 82
+    of : (p : Bool) → cond p task hub < tableRows
     of true = omega arith
     of false = omega arith
 
@@ -32,7 +33,7 @@ unfolding flow
 sized-flow s j asked acquired released task = sized-join (sized-join (sized-join s j _ _) j _ _) j _ _
 
 -- order over an act: its task's next act and the rows that it releases to know what the next act or the acquired row knew, and all rows what they knew
-pub flow-knows : {j : ℕ → ℕ → ℕ} {P : ℕ → Type 0} → Joins j P → (asked : Bool) {w : ℕ} {b : List ℕ} {acquired released task r c : ℕ} → Sized w b → released < 82 → task < 16 → c < w →
+pub flow-knows : {j : ℕ → ℕ → ℕ} {P : ℕ → Type 0} → Joins j P → (asked : Bool) {w : ℕ} {b : List ℕ} {acquired released task r c : ℕ} → Sized w b → released < tableRows → task < tasks → c < w →
     Knows P w (flow j w asked acquired released task b) r c
     ↔ (Knows P w b r c ⊎ (((r ≡ task) ⊎ ((r ≡ released) ⊎ (r ≡ alsoReleased asked released task))) × (Knows P w b task c ⊎ Knows P w b acquired c)))
 unfolding flow
@@ -78,21 +79,21 @@ flow-knows {j} {P} joins asked {w} {b} {acquired} {released} {task} {r} {c} s k 
     from (inr (inr (inr e), a)) = on-third .1 (inr (e, on-second task .1 (inl (known .1 a))))
 
 -- nothing is released to the row of what has acted
-pub flow-acted : (j : ℕ → ℕ → ℕ) (asked : Bool) {w : ℕ} {b : List ℕ} (acquired : ℕ) {released task c : ℕ} → Sized w b → released < 80 → task < 16 → c < w →
-    cell w (flow j w asked acquired released task b) 81 c ≡ cell w b 81 c
+pub flow-acted : (j : ℕ → ℕ → ℕ) (asked : Bool) {w : ℕ} {b : List ℕ} (acquired : ℕ) {released task c : ℕ} → Sized w b → released < hub → task < tasks → c < w →
+    cell w (flow j w asked acquired released task b) actedRow c ≡ cell w b actedRow c
 unfolding flow
 flow-acted j asked {w} {b} acquired {released} {task} {c} s k l n =
-    join-cell-other j (sized-join (sized-join s j _ _) j _ _) _ _ 81 c n (λ e. apart (ltb released 16 || not asked) e)
-    ∙ (join-cell-other j (sized-join s j _ _) _ _ 81 c n (λ e. omega arith) ∙ join-cell-other j s _ _ 81 c n (λ e. omega arith))
+    join-cell-other j (sized-join (sized-join s j _ _) j _ _) _ _ actedRow c n (λ e. apart (ltb released tasks || not asked) e)
+    ∙ (join-cell-other j (sized-join s j _ _) _ _ actedRow c n (λ e. omega arith) ∙ join-cell-other j s _ _ actedRow c n (λ e. omega arith))
   where
-    apart : (p : Bool) → ¬ (81 ≡ cond p task 80)
+    apart : (p : Bool) → ¬ (actedRow ≡ cond p task hub)
     apart true e = omega arith
     apart false e = omega arith
 
 -- order over an act that acquires from and releases to no other row changes nothing
-pub flow-alone : {j : ℕ → ℕ → ℕ} → Same j → (w : ℕ) (asked : Bool) (t : ℕ) (b : List ℕ) → t < 16 → b ≡ flow j w asked t t t b
+pub flow-alone : {j : ℕ → ℕ → ℕ} → Same j → (w : ℕ) (asked : Bool) (t : ℕ) (b : List ℕ) → t < tasks → b ≡ flow j w asked t t t b
 unfolding flow
-flow-alone s w asked t b h = rw (lt-ltb t 16 h, ← join-self s w t b, ← join-self s w t b) (join-self s w t b)
+flow-alone s w asked t b h = rw (lt-ltb t tasks h, ← join-self s w t b, ← join-self s w t b) (join-self s w t b)
 
 -- That a task has acted
 
@@ -100,127 +101,127 @@ pub sized-note : {w : ℕ} {b : List ℕ} → Sized w b → (task : ℕ) → Siz
 sized-note s task = sized-set s _ _
 
 -- the other rows are as they were
-pub note-other : (w : ℕ) (b : List ℕ) (task r c : ℕ) → task < w → c < w → ¬ (r ≡ 81) → cell w (noteActed w task b) r c ≡ cell w b r c
-note-other w b task r c h l n = cell-set-other w b 81 task 1 r c h l (λ x. n (x .0))
+pub note-other : (w : ℕ) (b : List ℕ) (task r c : ℕ) → task < w → c < w → ¬ (r ≡ actedRow) → cell w (noteActed w task b) r c ≡ cell w b r c
+note-other w b task r c h l n = cell-set-other w b actedRow task 1 r c h l (λ x. n (x .0))
 
-pub note-cell : {w : ℕ} {b : List ℕ} → Sized w b → (task t : ℕ) → task < w → t < w → cell w (noteActed w task b) 81 t ≡ cond (eqb t task) 1 (cell w b 81 t)
+pub note-cell : {w : ℕ} {b : List ℕ} → Sized w b → (task t : ℕ) → task < w → t < w → cell w (noteActed w task b) actedRow t ≡ cond (eqb t task) 1 (cell w b actedRow t)
 note-cell {w} {b} s task t h l = decided (equal t task)
   where
-    decided : {p : Bool} → Reflects (t ≡ task) p → cell w (noteActed w task b) 81 t ≡ cond p 1 (cell w b 81 t)
-    decided (right e) = rw e (cell-set-same s 81 task 1 (omega arith) h)
-    decided (wrong n) = cell-set-other w b 81 task 1 81 t h l (λ x. n (x .1))
+    decided : {p : Bool} → Reflects (t ≡ task) p → cell w (noteActed w task b) actedRow t ≡ cond p 1 (cell w b actedRow t)
+    decided (right e) = rw e (cell-set-same s actedRow task 1 (omega arith) h)
+    decided (wrong n) = cell-set-other w b actedRow task 1 actedRow t h l (λ x. n (x .1))
 
 -- Clocks: an act's own cell has its number
 
-pub sized-clock-own : {b : List ℕ} → Sized 16 b → (task number : ℕ) → Sized 16 (clockOwn task number b)
+pub sized-clock-own : {b : List ℕ} → Sized tasks b → (task number : ℕ) → Sized tasks (clockOwn task number b)
 sized-clock-own s task number = sized-note (sized-set s _ _) task
 
-pub clock-own-same : {b : List ℕ} → Sized 16 b → (task number : ℕ) → task < 16 → cell 16 (clockOwn task number b) task task ≡ number
+pub clock-own-same : {b : List ℕ} → Sized tasks b → (task number : ℕ) → task < tasks → cell tasks (clockOwn task number b) task task ≡ number
 clock-own-same {b} s task number h =
-    note-other 16 (set b (task * 16 + task) number) task task task h h (λ e. omega arith) ∙ cell-set-same s task task number (omega arith) h
+    note-other tasks (set b (task * tasks + task) number) task task task h h (λ e. omega arith) ∙ cell-set-same s task task number (omega arith) h
 
-pub clock-own-other : (b : List ℕ) (task number r c : ℕ) → task < 16 → c < 16 → r < 81 → ¬ ((r ≡ task) × (c ≡ task)) →
-    cell 16 (clockOwn task number b) r c ≡ cell 16 b r c
+pub clock-own-other : (b : List ℕ) (task number r c : ℕ) → task < tasks → c < tasks → r < rowCount → ¬ ((r ≡ task) × (c ≡ task)) →
+    cell tasks (clockOwn task number b) r c ≡ cell tasks b r c
 clock-own-other b task number r c h l m f =
-    note-other 16 (set b (task * 16 + task) number) task r c h l (λ e. omega arith) ∙ cell-set-other 16 b task task number r c h l f
+    note-other tasks (set b (task * tasks + task) number) task r c h l (λ e. omega arith) ∙ cell-set-other tasks b task task number r c h l f
 
-pub clock-own-acted : {b : List ℕ} → Sized 16 b → (task number t : ℕ) → task < 16 → t < 16 → cell 16 (clockOwn task number b) 81 t ≡ cond (eqb t task) 1 (cell 16 b 81 t)
+pub clock-own-acted : {b : List ℕ} → Sized tasks b → (task number t : ℕ) → task < tasks → t < tasks → cell tasks (clockOwn task number b) actedRow t ≡ cond (eqb t task) 1 (cell tasks b actedRow t)
 clock-own-acted {b} s task number t h l =
     note-cell (sized-set s _ _) task t h l
-    ∙ ap (cond (eqb t task) 1) (cell-set-other 16 b task task number 81 t h l (λ x. omega (arith, x .0)))
+    ∙ ap (cond (eqb t task) 1) (cell-set-other tasks b task task number actedRow t h l (λ x. omega (arith, x .0)))
 
 -- Sets: an access begins its slot afresh, with its own row
 
 -- two slots of one word stand at two places in it
-apart-places : {s s′ : ℕ} → s′ ≢ s → s′ / 32 ≡ s / 32 → ¬ (s′ % 32 ≡ s % 32)
+apart-places : {s s′ : ℕ} → s′ ≢ s → slotWord s′ ≡ slotWord s → ¬ (slotPlace s′ ≡ slotPlace s)
 apart-places n e f = n (omega arith)
 
 module _ {b : List ℕ} (t : Sized slotWords b) (s : ℕ) (m : s < slots) where
   abbrev Cleared : ℕ → List ℕ
-  Cleared n = turns n (λ r x. set x (r * slotWords + s / 32) (withoutBit (s % 32) (cell slotWords x r (s / 32)))) b
+  Cleared n = turns n (λ r x. set x (r * slotWords + slotWord s) (withoutBit (slotPlace s) (cell slotWords x r (slotWord s)))) b
 
   sized-cleared : (n : ℕ) → Sized slotWords (Cleared n)
   sized-cleared n = sized-turns n (λ q x z. sized-set z _ _) t
 
   -- rows that the turns have not come to, and other words
-  clear-later : (n r c : ℕ) → c < slotWords → ¬ ((r < n) × (c ≡ s / 32)) → cell slotWords (Cleared n) r c ≡ cell slotWords b r c
+  clear-later : (n r c : ℕ) → c < slotWords → ¬ ((r < n) × (c ≡ slotWord s)) → cell slotWords (Cleared n) r c ≡ cell slotWords b r c
   unfolding turns
   clear-later zero r c l f = refl
   clear-later (suc n) r c l f =
-      cell-set-other slotWords (Cleared n) n (s / 32) _ r c (omega arith) l (λ x. f (omega (arith, x .0), x .1))
+      cell-set-other slotWords (Cleared n) n (slotWord s) _ r c (omega arith) l (λ x. f (omega (arith, x .0), x .1))
       ∙ clear-later n r c l (λ x. f (omega arith, x .1))
 
-  clear-same : (n r : ℕ) → n ≤ 81 → r < n → cell slotWords (Cleared n) r (s / 32) ≡ withoutBit (s % 32) (cell slotWords b r (s / 32))
+  clear-same : (n r : ℕ) → n ≤ rowCount → r < n → cell slotWords (Cleared n) r (slotWord s) ≡ withoutBit (slotPlace s) (cell slotWords b r (slotWord s))
   unfolding turns
   clear-same zero r k h = absurd (omega arith)
   clear-same (suc n) r k h = decided (equal r n) (clear-same n r (omega arith))
     where
-      decided : {p : Bool} → Reflects (r ≡ n) p → (r < n → cell slotWords (Cleared n) r (s / 32) ≡ withoutBit (s % 32) (cell slotWords b r (s / 32))) →
-          cell slotWords (set (Cleared n) (n * slotWords + s / 32) (withoutBit (s % 32) (cell slotWords (Cleared n) n (s / 32)))) r (s / 32) ≡ withoutBit (s % 32) (cell slotWords b r (s / 32))
+      decided : {p : Bool} → Reflects (r ≡ n) p → (r < n → cell slotWords (Cleared n) r (slotWord s) ≡ withoutBit (slotPlace s) (cell slotWords b r (slotWord s))) →
+          cell slotWords (set (Cleared n) (n * slotWords + slotWord s) (withoutBit (slotPlace s) (cell slotWords (Cleared n) n (slotWord s)))) r (slotWord s) ≡ withoutBit (slotPlace s) (cell slotWords b r (slotWord s))
       decided (right e) f =
-          rw e (cell-set-same (sized-cleared n) n (s / 32) _ (omega arith) (omega arith) ∙ ap (withoutBit (s % 32)) (clear-later n n (s / 32) (omega arith) (λ x. omega (arith, x .0))))
+          rw e (cell-set-same (sized-cleared n) n (slotWord s) _ (omega arith) (omega arith) ∙ ap (withoutBit (slotPlace s)) (clear-later n n (slotWord s) (omega arith) (λ x. omega (arith, x .0))))
       decided (wrong d) f =
-          cell-set-other slotWords (Cleared n) n (s / 32) _ r (s / 32) (omega arith) (omega arith) (λ x. d (x .0)) ∙ f (omega arith)
+          cell-set-other slotWords (Cleared n) n (slotWord s) _ r (slotWord s) (omega arith) (omega arith) (λ x. d (x .0)) ∙ f (omega arith)
 
   sized-clear : Sized slotWords (clearSlot s b)
   unfolding clearSlot
-  sized-clear = sized-cleared 81
+  sized-clear = sized-cleared rowCount
 
-  clear-gone : (r : ℕ) → r < 81 → hasSlot (clearSlot s b) r s ≡ false
+  clear-gone : (r : ℕ) → r < rowCount → hasSlot (clearSlot s b) r s ≡ false
   unfolding clearSlot
-  clear-gone r h = rw (clear-same 81 r (omega arith) h, without-bit (s % 32) (s % 32) (cell slotWords b r (s / 32)) (omega arith) (omega arith), eq-eqb (s % 32) (s % 32) refl)
+  clear-gone r h = rw (clear-same rowCount r (omega arith) h, without-bit (slotPlace s) (slotPlace s) (cell slotWords b r (slotWord s)) (omega arith) (omega arith), eq-eqb (slotPlace s) (slotPlace s) refl)
 
-  clear-kept : (r s′ : ℕ) → r < 81 → s′ < slots → s′ ≢ s → hasSlot (clearSlot s b) r s′ ≡ hasSlot b r s′
+  clear-kept : (r s′ : ℕ) → r < rowCount → s′ < slots → s′ ≢ s → hasSlot (clearSlot s b) r s′ ≡ hasSlot b r s′
   unfolding clearSlot
-  clear-kept r s′ h l n = decided (equal (s′ / 32) (s / 32))
+  clear-kept r s′ h l n = decided (equal (slotWord s′) (slotWord s))
     where
-      decided : {p : Bool} → Reflects (s′ / 32 ≡ s / 32) p → hasSlot (Cleared 81) r s′ ≡ hasSlot b r s′
+      decided : {p : Bool} → Reflects (slotWord s′ ≡ slotWord s) p → hasSlot (Cleared rowCount) r s′ ≡ hasSlot b r s′
       decided (right e) =
-          rw (e, clear-same 81 r (omega arith) h, without-bit (s % 32) (s′ % 32) (cell slotWords b r (s / 32)) (omega arith) (omega arith), ne-eqb (s′ % 32) (s % 32) (apart-places n e))
-      decided (wrong d) = ap (λ (x : ℕ). bit x (s′ % 32)) (clear-later 81 r (s′ / 32) (omega arith) (λ x. d (x .1)))
+          rw (e, clear-same rowCount r (omega arith) h, without-bit (slotPlace s) (slotPlace s′) (cell slotWords b r (slotWord s)) (omega arith) (omega arith), ne-eqb (slotPlace s′) (slotPlace s) (apart-places n e))
+      decided (wrong d) = ap (λ (x : ℕ). bit x (slotPlace s′)) (clear-later rowCount r (slotWord s′) (omega arith) (λ x. d (x .1)))
 
-  clear-acted : (c : ℕ) → c < slotWords → cell slotWords (clearSlot s b) 81 c ≡ cell slotWords b 81 c
+  clear-acted : (c : ℕ) → c < slotWords → cell slotWords (clearSlot s b) actedRow c ≡ cell slotWords b actedRow c
   unfolding clearSlot
-  clear-acted c l = clear-later 81 81 c l (λ x. omega (arith, x .0))
+  clear-acted c l = clear-later rowCount actedRow c l (λ x. omega (arith, x .0))
 
-module _ {b : List ℕ} (t : Sized slotWords b) (r₀ s : ℕ) (k : r₀ < 16) (m : s < slots) where
+module _ {b : List ℕ} (t : Sized slotWords b) (r₀ s : ℕ) (k : r₀ < tasks) (m : s < slots) where
   add-same : hasSlot (addSlot r₀ s b) r₀ s ≡ true
   add-same = rw (
-    cell-set-same t r₀ (s / 32) (withBit (s % 32) (cell slotWords b r₀ (s / 32))) (omega arith) (omega arith),
-    with-bit (s % 32) (s % 32) (cell slotWords b r₀ (s / 32)) (omega arith) (omega arith),
-    eq-eqb (s % 32) (s % 32) refl,
+    cell-set-same t r₀ (slotWord s) (withBit (slotPlace s) (cell slotWords b r₀ (slotWord s))) (omega arith) (omega arith),
+    with-bit (slotPlace s) (slotPlace s) (cell slotWords b r₀ (slotWord s)) (omega arith) (omega arith),
+    eq-eqb (slotPlace s) (slotPlace s) refl,
   )
 
   add-row : (r c : ℕ) → c < slotWords → ¬ (r ≡ r₀) → cell slotWords (addSlot r₀ s b) r c ≡ cell slotWords b r c
-  add-row r c l n = cell-set-other slotWords b r₀ (s / 32) _ r c (omega arith) l (λ x. n (x .0))
+  add-row r c l n = cell-set-other slotWords b r₀ (slotWord s) _ r c (omega arith) l (λ x. n (x .0))
 
   add-kept : (r s′ : ℕ) → s′ < slots → s′ ≢ s → hasSlot (addSlot r₀ s b) r s′ ≡ hasSlot b r s′
-  add-kept r s′ l n = decided (equal r r₀) (equal (s′ / 32) (s / 32))
+  add-kept r s′ l n = decided (equal r r₀) (equal (slotWord s′) (slotWord s))
     where
-      decided : {p q : Bool} → Reflects (r ≡ r₀) p → Reflects (s′ / 32 ≡ s / 32) q → hasSlot (addSlot r₀ s b) r s′ ≡ hasSlot b r s′
-      decided (wrong d) _ = ap (λ (x : ℕ). bit x (s′ % 32)) (add-row r (s′ / 32) (omega arith) d)
-      decided (right e) (wrong d) = ap (λ (x : ℕ). bit x (s′ % 32)) (cell-set-other slotWords b r₀ (s / 32) _ r (s′ / 32) (omega arith) (omega arith) (λ x. d (x .1)))
+      decided : {p q : Bool} → Reflects (r ≡ r₀) p → Reflects (slotWord s′ ≡ slotWord s) q → hasSlot (addSlot r₀ s b) r s′ ≡ hasSlot b r s′
+      decided (wrong d) _ = ap (λ (x : ℕ). bit x (slotPlace s′)) (add-row r (slotWord s′) (omega arith) d)
+      decided (right e) (wrong d) = ap (λ (x : ℕ). bit x (slotPlace s′)) (cell-set-other slotWords b r₀ (slotWord s) _ r (slotWord s′) (omega arith) (omega arith) (λ x. d (x .1)))
       decided (right e) (right f) = rw (
         e,
         f,
-        cell-set-same t r₀ (s / 32) (withBit (s % 32) (cell slotWords b r₀ (s / 32))) (omega arith) (omega arith),
-        with-bit (s % 32) (s′ % 32) (cell slotWords b r₀ (s / 32)) (omega arith) (omega arith),
-        ne-eqb (s′ % 32) (s % 32) (apart-places n f),
+        cell-set-same t r₀ (slotWord s) (withBit (slotPlace s) (cell slotWords b r₀ (slotWord s))) (omega arith) (omega arith),
+        with-bit (slotPlace s) (slotPlace s′) (cell slotWords b r₀ (slotWord s)) (omega arith) (omega arith),
+        ne-eqb (slotPlace s′) (slotPlace s) (apart-places n f),
       )
 
 -- at its own row the slot is there, at the others it is not, and the other slots are as they were
-module _ {b : List ℕ} (t : Sized slotWords b) (task s : ℕ) (h : task < 16) (m : s < slots) where
+module _ {b : List ℕ} (t : Sized slotWords b) (task s : ℕ) (h : task < tasks) (m : s < slots) where
   pub sized-afresh : Sized slotWords (addSlot task s (clearSlot s b))
   sized-afresh = sized-set (sized-clear t s m) _ _
 
   pub afresh-own : hasSlot (addSlot task s (clearSlot s b)) task s ≡ true
   afresh-own = add-same (sized-clear t s m) task s h m
 
-  pub afresh-cleared : (r : ℕ) → r < 81 → r ≢ task → hasSlot (addSlot task s (clearSlot s b)) r s ≡ false
-  afresh-cleared r l n = ap (λ (x : ℕ). bit x (s % 32)) (add-row (sized-clear t s m) task s h m r (s / 32) (omega arith) n) ∙ clear-gone t s m r l
+  pub afresh-cleared : (r : ℕ) → r < rowCount → r ≢ task → hasSlot (addSlot task s (clearSlot s b)) r s ≡ false
+  afresh-cleared r l n = ap (λ (x : ℕ). bit x (slotPlace s)) (add-row (sized-clear t s m) task s h m r (slotWord s) (omega arith) n) ∙ clear-gone t s m r l
 
-  pub afresh-other : (r s′ : ℕ) → r < 81 → s′ < slots → s′ ≢ s → hasSlot (addSlot task s (clearSlot s b)) r s′ ≡ hasSlot b r s′
+  pub afresh-other : (r s′ : ℕ) → r < rowCount → s′ < slots → s′ ≢ s → hasSlot (addSlot task s (clearSlot s b)) r s′ ≡ hasSlot b r s′
   afresh-other r s′ l k n = add-kept (sized-clear t s m) task s h m r s′ k n ∙ clear-kept t s m r s′ l k n
 
-  pub afresh-acted : (c : ℕ) → c < slotWords → cell slotWords (addSlot task s (clearSlot s b)) 81 c ≡ cell slotWords b 81 c
-  afresh-acted c l = add-row (sized-clear t s m) task s h m 81 c l (λ e. omega arith) ∙ clear-acted t s m c l
+  pub afresh-acted : (c : ℕ) → c < slotWords → cell slotWords (addSlot task s (clearSlot s b)) actedRow c ≡ cell slotWords b actedRow c
+  afresh-acted c l = add-row (sized-clear t s m) task s h m actedRow c l (λ e. omega arith) ∙ clear-acted t s m c l

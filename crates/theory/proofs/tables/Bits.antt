@@ -10,6 +10,7 @@ use lib.Bits.{bitOr, or-block, or-shifted-r, or-zero-r}
 use lib.Pow.{pow-mono, pow-lt}
 use Rattle.theory.specs.tables.Turns.{turns}
 use Rattle.theory.specs.tables.Reckonings.{bitOf, maskOf, lowestTask}
+use Rattle.theory.specs.order.Limits.{tasks}
 
 -- a mask of i bits with one more
 mask-next : (i m b : ℕ) → m < 2 ^ i → b ≤ 1 → b + 2 * m < 2 ^ (i + 1)
@@ -29,7 +30,7 @@ trailing-lt (suc k) n h l = decided (n % 2) refl (trailing-lt k (n / 2))
 
 -- the highest n of the 16 tasks that pass the test, as a mask: bit k is that of task 16 - n + k
 abbrev upper : (ℕ → Bool) → ℕ → ℕ
-upper p n = turns n (λ i m. bitOf (p (15 - i)) + 2 * m) 0
+upper p n = turns n (λ i m. bitOf (p (tasks - 1 - i)) + 2 * m) 0
 
 bit-le : (b : Bool) → bitOf b ≤ 1
 bit-le true = omega arith
@@ -38,7 +39,7 @@ bit-le false = omega arith
 upper-lt : (p : ℕ → Bool) (n : ℕ) → upper p n < 2 ^ n
 unfolding turns
 upper-lt p zero = omega arith
-upper-lt p (suc n) = rw (add-one n) at (mask-next n (upper p n) (bitOf (p (15 - n))) (upper-lt p n) (bit-le (p (15 - n))))
+upper-lt p (suc n) = rw (add-one n) at (mask-next n (upper p n) (bitOf (p (tasks - 1 - n))) (upper-lt p n) (bit-le (p (tasks - 1 - n))))
 
 -- one more bit below a mask
 trailing-next : (n b m : ℕ) → b ≤ 1 → trailingZeros (suc n) (b + 2 * m) ≡ under b (trailingZeros n m)
@@ -50,64 +51,64 @@ trailing-next n b m h =
 
 -- a count of zeros in a mask of the highest n tasks: the tasks below it fail, and that at it passes
 record Lowest (p : ℕ → Bool) (n z : ℕ) : Type 0 where
-  below : (k : ℕ) → k < z → p (16 - n + k) ≡ false
-  here : z < n → p (16 - n + z) ≡ true
+  below : (k : ℕ) → k < z → p (tasks - n + k) ≡ false
+  here : z < n → p (tasks - n + z) ≡ true
 
-lowest-next : (p : ℕ → Bool) (n z : ℕ) (b : Bool) → n < 16 → p (15 - n) ≡ b → Lowest p n z → Lowest p (suc n) (under (bitOf b) z)
+lowest-next : (p : ℕ → Bool) (n z : ℕ) (b : Bool) → n < tasks → p (tasks - 1 - n) ≡ b → Lowest p n z → Lowest p (suc n) (under (bitOf b) z)
 lowest-next p n z true h e l =
-    record { below = λ k i. absurd (omega arith); here = λ i. let q : 16 - suc n + 0 ≡ 15 - n = omega arith in rw q e }
-lowest-next p n z false h e l = record { below = below; here = λ i. let q : 16 - suc n + suc z ≡ 16 - n + z = omega arith in rw q (l .here (omega arith)) }
+    record { below = λ k i. absurd (omega arith); here = λ i. let q : tasks - suc n + 0 ≡ tasks - 1 - n = omega arith in rw q e }
+lowest-next p n z false h e l = record { below = below; here = λ i. let q : tasks - suc n + suc z ≡ tasks - n + z = omega arith in rw q (l .here (omega arith)) }
   where
-    below : (k : ℕ) → k < suc z → p (16 - suc n + k) ≡ false
-    below zero i = let q : 16 - suc n + 0 ≡ 15 - n = omega arith in rw q e
-    below (suc k) i = let q : 16 - suc n + suc k ≡ 16 - n + k = omega arith in rw q (l .below k (omega arith))
+    below : (k : ℕ) → k < suc z → p (tasks - suc n + k) ≡ false
+    below zero i = let q : tasks - suc n + 0 ≡ tasks - 1 - n = omega arith in rw q e
+    below (suc k) i = let q : tasks - suc n + suc k ≡ tasks - n + k = omega arith in rw q (l .below k (omega arith))
 
-lowest : (p : ℕ → Bool) (n : ℕ) → n ≤ 16 → Lowest p n (trailingZeros n (upper p n))
+lowest : (p : ℕ → Bool) (n : ℕ) → n ≤ tasks → Lowest p n (trailingZeros n (upper p n))
 unfolding turns
 lowest p zero h = record { below = λ k i. absurd (none i); here = λ i. absurd (omega arith) }
   where
     none : {k : ℕ} → k < trailingZeros zero 0 → ⊥
     none i = omega (arith, trailing-of-zero 0)
 lowest p (suc n) h =
-    rw (trailing-next n (bitOf (p (15 - n))) (upper p n) (bit-le (p (15 - n))))
-    (lowest-next p n (trailingZeros n (upper p n)) (p (15 - n)) (omega arith) refl (lowest p n (omega arith)))
+    rw (trailing-next n (bitOf (p (tasks - 1 - n))) (upper p n) (bit-le (p (tasks - 1 - n))))
+    (lowest-next p n (trailingZeros n (upper p n)) (p (tasks - 1 - n)) (omega arith) refl (lowest p n (omega arith)))
 
-lowest-of : (p : ℕ → Bool) → Lowest p 16 (lowestTask (maskOf p))
+lowest-of : (p : ℕ → Bool) → Lowest p tasks (lowestTask (maskOf p))
 unfolding maskOf
-lowest-of p = lowest p 16 (omega arith)
+lowest-of p = lowest p tasks (omega arith)
 
 -- no task passes the test of an empty mask
-pub mask-none : (p : ℕ → Bool) → maskOf p ≡ 0 → (u : ℕ) → u < 16 → p u ≡ false
+pub mask-none : (p : ℕ → Bool) → maskOf p ≡ 0 → (u : ℕ) → u < tasks → p u ≡ false
 mask-none p e u h =
-    let z : lowestTask (maskOf p) ≡ 16 = rw e (trailing-of-zero 16) in
-    let q : 16 - 16 + u ≡ u = omega arith in
+    let z : lowestTask (maskOf p) ≡ tasks = rw e (trailing-of-zero tasks) in
+    let q : tasks - tasks + u ≡ u = omega arith in
     rw q at (lowest-of p .below u (omega arith))
 
 -- the lowest task of any other is the lowest that passes
 pub mask-lowest : (p : ℕ → Bool) → ¬ (maskOf p ≡ 0) →
-    (lowestTask (maskOf p) < 16) × (p (lowestTask (maskOf p)) ≡ true) × ((u : ℕ) → u < lowestTask (maskOf p) → p u ≡ false)
+    (lowestTask (maskOf p) < tasks) × (p (lowestTask (maskOf p)) ≡ true) × ((u : ℕ) → u < lowestTask (maskOf p) → p u ≡ false)
 mask-lowest p n =
-    let h : lowestTask (maskOf p) < 16 = trailing-lt 16 (maskOf p) n (mask-lt p) in (
+    let h : lowestTask (maskOf p) < tasks = trailing-lt tasks (maskOf p) n (mask-lt p) in (
       h,
       rw (from-zero (lowestTask (maskOf p))) at (lowest-of p .here h),
       λ u i. rw (from-zero u) at (lowest-of p .below u i),
     )
   where
-    from-zero : (u : ℕ) → 16 - 16 + u ≡ u
+    from-zero : (u : ℕ) → tasks - tasks + u ≡ u
     from-zero u = omega arith
 
-    mask-lt : (p : ℕ → Bool) → maskOf p < 2 ^ 16
-    mask-lt p = unfold maskOf in upper-lt p 16
+    mask-lt : (p : ℕ → Bool) → maskOf p < 2 ^ tasks
+    mask-lt p = unfold maskOf in upper-lt p tasks
 
-upper-ext : (p q : ℕ → Bool) → ((u : ℕ) → u < 16 → p u ≡ q u) → (n : ℕ) → upper p n ≡ upper q n
+upper-ext : (p q : ℕ → Bool) → ((u : ℕ) → u < tasks → p u ≡ q u) → (n : ℕ) → upper p n ≡ upper q n
 unfolding turns
 upper-ext p q e zero = refl
-upper-ext p q e (suc n) = rw (e (15 - n) (omega arith), upper-ext p q e n)
+upper-ext p q e (suc n) = rw (e (tasks - 1 - n) (omega arith), upper-ext p q e n)
 
 -- tests that agree on the tasks have one mask
-pub mask-ext : (p q : ℕ → Bool) → ((u : ℕ) → u < 16 → p u ≡ q u) → maskOf p ≡ maskOf q
+pub mask-ext : (p q : ℕ → Bool) → ((u : ℕ) → u < tasks → p u ≡ q u) → maskOf p ≡ maskOf q
 unfolding maskOf
-mask-ext p q e = upper-ext p q e 16
+mask-ext p q e = upper-ext p q e tasks
 
 -- The mask as a sum
 
@@ -132,15 +133,15 @@ module _ {p : ℕ → Bool} where
   unfolding turns
   one-sum {u} {m} {b = b} s e t = record { room = rw e (sum-lt u m b (s .room)); is = rw (add-one u) (rw (e, t, s .is)) }
 
-  pub sum-fits : {u m : ℕ} → Summed p u m → u ≤ 16 → m < 65536
-  sum-fits {u} s h = let q : 2 ^ u ≤ 2 ^ 16 = pow-mono h in omega (arith, s .room)
+  pub sum-fits : {u m : ℕ} → Summed p u m → u ≤ tasks → m < 2 ^ tasks
+  sum-fits {u} s h = let q : 2 ^ u ≤ 2 ^ tasks = pow-mono h in omega (arith, s .room)
 
 -- the highest n tasks above the sum of the others make the whole mask
-sums-upper : (p : ℕ → Bool) (k n : ℕ) → n + k ≡ 16 → upper p n * 2 ^ k + sums p k ≡ upper p 16
+sums-upper : (p : ℕ → Bool) (k n : ℕ) → n + k ≡ tasks → upper p n * 2 ^ k + sums p k ≡ upper p tasks
 unfolding turns
-sums-upper p zero n e = let q : n ≡ 16 = omega arith in rw q (omega arith)
+sums-upper p zero n e = let q : n ≡ tasks = omega arith in rw q (omega arith)
 sums-upper p (suc k) n e =
-    let q : 15 - n ≡ k = omega arith in
+    let q : tasks - 1 - n ≡ k = omega arith in
     shifted (upper p n) (2 ^ k) (bitOf (p k)) (sums p k) (pow-suc 2 k)
     ∙ (rw q at (sums-upper p k (suc n) (omega arith)))
   where
@@ -151,10 +152,10 @@ upper-none : (p : ℕ → Bool) → upper p 0 ≡ 0
 unfolding turns
 upper-none p = refl
 
-sums-all : (p : ℕ → Bool) (n : ℕ) → n ≡ 16 → sums p n ≡ upper p 16
+sums-all : (p : ℕ → Bool) (n : ℕ) → n ≡ tasks → sums p n ≡ upper p tasks
 sums-all p n e = let z : upper p 0 * 2 ^ n ≡ 0 = rw (upper-none p) (zero-mul (2 ^ n)) in omega (arith, sums-upper p n 0 (omega arith))
 
-pub all-sums : {p : ℕ → Bool} {u m : ℕ} → Summed p u m → u ≤ 16 → 16 ≤ u → m ≡ maskOf p
+pub all-sums : {p : ℕ → Bool} {u m : ℕ} → Summed p u m → u ≤ tasks → tasks ≤ u → m ≡ maskOf p
 unfolding maskOf
 all-sums {p} {u} s h l = s .is ∙ sums-all p u (omega arith)
 
@@ -164,36 +165,36 @@ all-sums {p} {u} s h l = s .is ∙ sums-all p u (omega arith)
 pub record Gathered (p : ℕ → Bool) (u x : ℕ) : Type 0 where
   pub m : ℕ
   pub summed : Summed p u m
-  pub twice : x ≡ m * 2 ^ 16 + m
+  pub twice : x ≡ m * 2 ^ tasks + m
 
 module _ {p : ℕ → Bool} where
   pub no-weights : Gathered p 0 0
   no-weights = record { m = 0; summed = no-sum; twice = refl }
 
-  pub one-weight : {u x r : ℕ} {b : Bool} → u < 16 → Gathered p u x → r ≡ bitOf b * (2 ^ u * 2 ^ 16 + 2 ^ u) → b ≡ p u → Gathered p (u + 1) (bitOr x r)
+  pub one-weight : {u x r : ℕ} {b : Bool} → u < tasks → Gathered p u x → r ≡ bitOf b * (2 ^ u * 2 ^ tasks + 2 ^ u) → b ≡ p u → Gathered p (u + 1) (bitOr x r)
   one-weight {u} {x} {r} {b} h g e t = record { m = g .m + bitOf b * 2 ^ u; summed = one-sum (g .summed) refl t; twice = rw (g .twice, e) (of b) }
     where
-      room : g .m < 2 ^ 16
+      room : g .m < 2 ^ tasks
       room = sum-fits (g .summed) (omega arith)
 
-      weight : 2 ^ u < 2 ^ 16
+      weight : 2 ^ u < 2 ^ tasks
       weight = pow-lt h
 
-      of : (b : Bool) → bitOr (g .m * 2 ^ 16 + g .m) (bitOf b * (2 ^ u * 2 ^ 16 + 2 ^ u)) ≡ (g .m + bitOf b * 2 ^ u) * 2 ^ 16 + (g .m + bitOf b * 2 ^ u)
+      of : (b : Bool) → bitOr (g .m * 2 ^ tasks + g .m) (bitOf b * (2 ^ u * 2 ^ tasks + 2 ^ u)) ≡ (g .m + bitOf b * 2 ^ u) * 2 ^ tasks + (g .m + bitOf b * 2 ^ u)
       of true =
-          let one : 1 * (2 ^ u * 2 ^ 16 + 2 ^ u) ≡ 2 ^ u * 2 ^ 16 + 2 ^ u = omega arith in
+          let one : 1 * (2 ^ u * 2 ^ tasks + 2 ^ u) ≡ 2 ^ u * 2 ^ tasks + 2 ^ u = omega arith in
           let joined : bitOr (g .m) (2 ^ u) ≡ g .m + 1 * 2 ^ u = single in
-          rw (one, or-block 16 (g .m) (2 ^ u) (g .m) (2 ^ u) room weight, joined)
+          rw (one, or-block tasks (g .m) (2 ^ u) (g .m) (2 ^ u) room weight, joined)
         where
           single : bitOr (g .m) (2 ^ u) ≡ g .m + 1 * 2 ^ u
           single = let q : bitOr (g .m) (1 * 2 ^ u) ≡ 1 * 2 ^ u + g .m = or-shifted-r 1 u (g .m) (g .summed .room) in let z : 1 * 2 ^ u ≡ 2 ^ u = omega arith in rw (← z) (q ∙ omega arith)
       of false =
-          let none : 0 * (2 ^ u * 2 ^ 16 + 2 ^ u) ≡ 0 = zero-mul (2 ^ u * 2 ^ 16 + 2 ^ u) in
+          let none : 0 * (2 ^ u * 2 ^ tasks + 2 ^ u) ≡ 0 = zero-mul (2 ^ u * 2 ^ tasks + 2 ^ u) in
           let same : g .m + 0 * 2 ^ u ≡ g .m = omega (arith, zero-mul (2 ^ u)) in
-          rw (none, same) (or-zero-r (g .m * 2 ^ 16 + g .m))
+          rw (none, same) (or-zero-r (g .m * 2 ^ tasks + g .m))
 
-  pub all-weights : {u x : ℕ} → Gathered p u x → u ≤ 16 → 16 ≤ u → x % 2 ^ 16 ≡ maskOf p
+  pub all-weights : {u x : ℕ} → Gathered p u x → u ≤ tasks → tasks ≤ u → x % 2 ^ tasks ≡ maskOf p
   all-weights {u} {x} g h l =
       let room = sum-fits (g .summed) h in
-      let low : x % 2 ^ 16 ≡ g .m = omega (arith, g .twice) in
+      let low : x % 2 ^ tasks ≡ g .m = omega (arith, g .twice) in
       low ∙ all-sums (g .summed) h l

@@ -10,8 +10,9 @@ use lib.Dec.{T}
 use lib.ListN.{length, replicate}
 use Rattle.theory.specs.order.Recording.{Op, Event, act, lost, series, kind, ActsIn, acts}
 use Rattle.theory.specs.fillings.Completion.{Filling, fills}
-use Rattle.theory.specs.tables.Rows.{mark, cell}
+use Rattle.theory.specs.tables.Rows.{mark, cell, hub, cellCount}
 use Rattle.theory.specs.tables.Reckonings.{clockOwn, clockAct}
+use Rattle.theory.specs.order.Limits.{tasks}
 use Rattle.theory.proofs.basics.Reflects.{Reflects, right, wrong, equal, at-most, both}
 use Rattle.theory.proofs.order.Carry.{Node, due, Releases}
 use Rattle.theory.proofs.tables.Rows.{Sized, Joins, Knows, knows-same, same-max, sized-fresh}
@@ -33,9 +34,9 @@ abbrev pub Past : ℕ → ℕ → Type 0
 Past i x = i < x
 
 pub record ExactClocks (w : Filling) (es : List Event) (b : List ℕ) : Type 0 where
-  pub sized : Sized 16 b
-  pub column : (u i : ℕ) → u < 16 → Exact (Past i) w (OfTask u) es 16 b i u
-  pub acting : ExactActed w es 16 b
+  pub sized : Sized tasks b
+  pub column : (u i : ℕ) → u < tasks → Exact (Past i) w (OfTask u) es tasks b i u
+  pub acting : ExactActed w es tasks b
 
 -- the greater of two numbers is above what one of them is above
 joins-max : (i : ℕ) → Joins max (Past i)
@@ -58,18 +59,18 @@ keeps u x e after = (λ a. (tt, a), λ a. a .1)
 acting-one : {u t n : ℕ} {o : Op} → ActsIn u (act o t n) → u ≡ t
 acting-one acts = refl
 
-module _ {w : Filling} {es : List Event} {b : List ℕ} {t n number : ℕ} (o : Op) (x : ExactClocks w es b) (ht : t < 16) (hn : n < series o)
+module _ {w : Filling} {es : List Event} {b : List ℕ} {t n number : ℕ} (o : Op) (x : ExactClocks w es b) (ht : t < tasks) (hn : n < series o)
     (numbered : number ≡ suc (length es)) where
   -- at the own cell the number is the act's, elsewhere nothing changed
-  owned : (u i : ℕ) → u < 16 → Owned (Past i) w (OfTask u) (Unit {0}) es (act o t n) t 16 (clockOwn t number b) i u
+  owned : (u i : ℕ) → u < tasks → Owned (Past i) w (OfTask u) (Unit {0}) es (act o t n) t tasks (clockOwn t number b) i u
   owned u i hu = record { cells = λ m r. decided m r (both (equal (row m) t) (equal u t)); hub = hub-kept }
     where
       decided : {c : Bool} (m : Node) → InRange m → Reflects ((row m ≡ t) × (u ≡ t)) c →
-          Knows (Past i) 16 (clockOwn t number b) (row m) u ↔ ((Unit {0} × Came w (OfTask u) es i m) ⊎ (Newly (OfTask u) es (act o t n) i × (m ≡ due t)))
+          Knows (Past i) tasks (clockOwn t number b) (row m) u ↔ ((Unit {0} × Came w (OfTask u) es i m) ⊎ (Newly (OfTask u) es (act o t n) i × (m ≡ due t)))
       decided m r (right (e, q)) =
           (λ a. let h : i < number = rw (own-cell) at (a .knows) in inr ((omega arith, rw q acts), row-one r (due-in ht) e), λ y. record { knows = rw own-cell (below y) })
         where
-          own-cell : cell 16 (clockOwn t number b) (row m) u ≡ number
+          own-cell : cell tasks (clockOwn t number b) (row m) u ≡ number
           own-cell = rw (e, q) (clock-own-same (x .sized) t number ht)
 
           below : (Unit {0} × Came w (OfTask u) es i m) ⊎ (Newly (OfTask u) es (act o t n) i × (m ≡ due t)) → i < number
@@ -77,19 +78,19 @@ module _ {w : Filling} {es : List Event} {b : List ℕ} {t n number : ℕ} (o : 
           below (inr ((h, a), e)) = omega arith
       decided m r (wrong apart) = (λ a. inl (tt, x .column u i hu .cells m r .0 (other .0 a)), λ y. other .1 (before y))
         where
-          other : Knows (Past i) 16 (clockOwn t number b) (row m) u ↔ Knows (Past i) 16 b (row m) u
+          other : Knows (Past i) tasks (clockOwn t number b) (row m) u ↔ Knows (Past i) tasks b (row m) u
           other = let h = row-below r in knows-same (clock-own-other b t number (row m) u ht hu (omega arith) apart)
 
-          before : (Unit {0} × Came w (OfTask u) es i m) ⊎ (Newly (OfTask u) es (act o t n) i × (m ≡ due t)) → Knows (Past i) 16 b (row m) u
+          before : (Unit {0} × Came w (OfTask u) es i m) ⊎ (Newly (OfTask u) es (act o t n) i × (m ≡ due t)) → Knows (Past i) tasks b (row m) u
           before (inl (_, d)) = x .column u i hu .cells m r .1 d
           before (inr ((h, a), e)) = absurd (apart (ap row e, acting-one a))
 
-      hub-kept : T (fills w) → Knows (Past i) 16 (clockOwn t number b) 80 u ↔ (Unit {0} × ToObject w (OfTask u) es i)
+      hub-kept : T (fills w) → Knows (Past i) tasks (clockOwn t number b) hub u ↔ (Unit {0} × ToObject w (OfTask u) es i)
       hub-kept f =
-          let q = knows-same {P = Past i} (clock-own-other b t number 80 u ht hu (omega arith) (λ y. omega (arith, y .0))) in
+          let q = knows-same {P = Past i} (clock-own-other b t number hub u ht hu (omega arith) (λ y. omega (arith, y .0))) in
           (λ a. (tt, x .column u i hu .hub f .0 (q .0 a)), λ y. q .1 (x .column u i hu .hub f .1 (y .1)))
 
-  own-acting : ExactActed w (es ++ (act o t n ∷ [])) 16 (clockOwn t number b)
+  own-acting : ExactActed w (es ++ (act o t n ∷ [])) tasks (clockOwn t number b)
   own-acting = acted-act o t n (λ u hu. clock-own-acted (x .sized) t number u ht hu) (x .acting)
 
   pub clocks-act : ((u : ℕ) → Releases (act o t n) (due u) → (u ≡ t) ⊎ (¬ Acted w u es)) → ExactClocks w (es ++ (act o t n ∷ [])) (clockAct (fills w) (kind o) t n number b)
@@ -102,7 +103,7 @@ module _ {w : Filling} {es : List Event} {b : List ℕ} {t n number : ℕ} (o : 
 
 -- Marks
 
-pub clocks-mark : {w : Filling} {es : List Event} {b : List ℕ} (mask : ℕ) → (¬ (w mask ≡ 0) → T (fills w)) → Filled-in (w mask) → ExactClocks w es b → ExactClocks w (es ++ (lost mask ∷ [])) (mark max 16 (w mask) b)
+pub clocks-mark : {w : Filling} {es : List Event} {b : List ℕ} (mask : ℕ) → (¬ (w mask ≡ 0) → T (fills w)) → Filled-in (w mask) → ExactClocks w es b → ExactClocks w (es ++ (lost mask ∷ [])) (mark max tasks (w mask) b)
 clocks-mark {w} mask asked f x =
     record {
       sized = sized-mark (x .sized) max (w mask);
@@ -112,5 +113,5 @@ clocks-mark {w} mask asked f x =
 
 -- The fresh table
 
-pub fresh-clocks : {w : Filling} → ExactClocks w [] (replicate 1312 0)
-fresh-clocks = record { sized = sized-fresh 16; column = λ u i hu. fresh-exact (joins-max i .nothing) hu; acting = fresh-acted 16 (omega arith) }
+pub fresh-clocks : {w : Filling} → ExactClocks w [] (replicate (cellCount tasks) 0)
+fresh-clocks = record { sized = sized-fresh tasks; column = λ u i hu. fresh-exact (joins-max i .nothing) hu; acting = fresh-acted tasks (omega arith) }

@@ -11,7 +11,8 @@ use lib.Dec.{T, ltb, eqb, lit<}
 use lib.ListN.{replicate}
 use Rattle.theory.specs.order.Recording.{Op, Event, act, lost, series, kind}
 use Rattle.theory.specs.fillings.Completion.{bit, Named, Filling, fills}
-use Rattle.theory.specs.tables.Rows.{cell, joinsActed, acquiredRow, releasedRow, alsoReleased, onward, isReleased, mix, mark}
+use Rattle.theory.specs.tables.Rows.{hub, cell, joinsActed, acquiredRow, releasedRow, alsoReleased, onward, isReleased, mix, mark, actedRow, tableRows}
+use Rattle.theory.specs.order.Limits.{tasks, flags}
 use Rattle.theory.proofs.order.Carry.{Node, due, acted, semaphore, flag, Acquires, own, Releases, own-next}
 use Rattle.theory.proofs.fillings.Fullest.{Acquired, Released, named-task}
 use Rattle.theory.proofs.fillings.Reach.{nobody-named, acquired-due, acquired-acted, acquired-semaphore, acquired-flag, released-due, released-acted, released-semaphore, released-flag}
@@ -35,17 +36,17 @@ ToObject w Chosen es i = (m : Node) × Object m × Came w Chosen es i m
 -- column c: P is what its cells know where order has come from place i or later
 pub record Exact (P : ℕ → Type 0) (w : Filling) (Chosen : Event → List Event → Type 0) (es : List Event) (width : ℕ) (b : List ℕ) (i c : ℕ) : Type 0 where
   pub cells : (n : Node) → InRange n → Knows P width b (row n) c ↔ Came w Chosen es i n
-  pub hub : T (fills w) → Knows P width b 80 c ↔ ToObject w Chosen es i
+  pub hub : T (fills w) → Knows P width b hub c ↔ ToObject w Chosen es i
   pub ended : Ended w Chosen es i
 
 -- what it is to be after an act's own part: what stays of what had come, and the act itself at its task's next act
 pub record Owned (P : ℕ → Type 0) (w : Filling) (Chosen : Event → List Event → Type 0) (Stays : Type 0) (es : List Event) (x : Event) (t width : ℕ) (b : List ℕ) (i c : ℕ) : Type 0 where
   pub cells : (n : Node) → InRange n → Knows P width b (row n) c ↔ ((Stays × Came w Chosen es i n) ⊎ (Newly Chosen es x i × (n ≡ due t)))
-  pub hub : T (fills w) → Knows P width b 80 c ↔ (Stays × ToObject w Chosen es i)
+  pub hub : T (fills w) → Knows P width b hub c ↔ (Stays × ToObject w Chosen es i)
 
 -- the row of what has acted is exact if it says which tasks have
 pub record ExactActed (w : Filling) (es : List Event) (width : ℕ) (b : List ℕ) : Type 0 where
-  pub flags : (t : ℕ) → t < 16 → (0 < cell width b 81 t) ↔ Acted w t es
+  pub flags : (t : ℕ) → t < tasks → (0 < cell width b actedRow t) ↔ Acted w t es
 
 -- Acts
 
@@ -55,7 +56,7 @@ Released-row asked t released r = (r ≡ t) ⊎ ((r ≡ released) ⊎ (r ≡ als
 
 module _ {P : ℕ → Type 0} {j : ℕ → ℕ → ℕ} {w : Filling} {Chosen : Event → List Event → Type 0} {Stays : Type 0} {es : List Event} {o : Op} {t n width i c : ℕ} {b : List ℕ}
     (joins : Joins j P) (keeps : (e : Event) (after : List Event) → Chosen e (after ++ (act o t n ∷ [])) ↔ (Stays × Chosen e after))
-    (starts : (u : ℕ) → Releases (act o t n) (due u) → (u ≡ t) ⊎ (¬ Acted w u es)) (ht : t < 16) (hn : n < series o) (hc : c < width)
+    (starts : (u : ℕ) → Releases (act o t n) (due u) → (u ≡ t) ⊎ (¬ Acted w u es)) (ht : t < tasks) (hn : n < series o) (hc : c < width)
     (sized : Sized width b) (flagged : ExactActed w (es ++ (act o t n ∷ [])) width b) (ended : Ended w Chosen es i)
     (owned : Owned P w Chosen Stays es (act o t n) t width b i c) where
   -- the row that it reads
@@ -63,24 +64,24 @@ module _ {P : ℕ → Type 0} {j : ℕ → ℕ → ℕ} {w : Filling} {Chosen : 
   acquired = acquiredRow (kind o) t n (joinsActed width b (kind o) n)
 
   abbrev flagOf : Bool
-  flagOf = ltb 0 (cell width b 81 n)
+  flagOf = ltb 0 (cell width b actedRow n)
 
   abbrev Came-on : Node → Type 0
   Came-on m = (Stays × Onward w Chosen es (act o t n) i m) ⊎ (Newly Chosen es (act o t n) i × Releases (act o t n) m)
 
-  released-below : releasedRow (kind o) t n < 80
+  released-below : releasedRow (kind o) t n < hub
   released-below = rw (released-row o t n) (row-below (released-in o ht hn))
 
   -- The rows that it releases to
 
-  also-none : {m : Node} → InRange m → (p : Bool) → row m ≡ cond p t 80 → row m ≡ t
+  also-none : {m : Node} → InRange m → (p : Bool) → row m ≡ cond p t hub → row m ≡ t
   also-none r true e = e
   also-none r false e = absurd (omega (arith, row-below r))
 
   released-by : {m : Node} → InRange m → Released-row (fills w) t (releasedRow (kind o) t n) (row m) → Releases (act o t n) m
   released-by r (inl e) = subst (Releases (act o t n)) (sym (row-one r (due-in ht) e)) own-next
   released-by r (inr (inl e)) = subst (Releases (act o t n)) (sym (row-one r (released-in o ht hn) (rw (released-row o t n) at e))) (released-releases o t n)
-  released-by r (inr (inr e)) = subst (Releases (act o t n)) (sym (row-one r (due-in ht) (also-none r (ltb (releasedRow (kind o) t n) 16 || not (fills w)) e))) own-next
+  released-by r (inr (inr e)) = subst (Releases (act o t n)) (sym (row-one r (due-in ht) (also-none r (ltb (releasedRow (kind o) t n) tasks || not (fills w)) e))) own-next
 
   by-released : {m : Node} → InRange m → Releases (act o t n) m → Released-row (fills w) t (releasedRow (kind o) t n) (row m)
   by-released r x = cases r (releases-cases x)
@@ -94,10 +95,10 @@ module _ {P : ℕ → Type 0} {j : ℕ → ℕ → ℕ} {w : Filling} {Chosen : 
       cases r (inr (inr e)) = inr (inl (rw (e, released-row o t n)))
 
   -- the hub is released to where an object is
-  hub-released : T (fills w) → {m : Node} → Object m → Releases (act o t n) m → Released-row (fills w) t (releasedRow (kind o) t n) 80
+  hub-released : T (fills w) → {m : Node} → Object m → Releases (act o t n) m → Released-row (fills w) t (releasedRow (kind o) t n) hub
   hub-released f m x = cases m (releases-cases x)
     where
-      cases : {m : Node} → Object m → (m ≡ due t) ⊎ ((m ≡ acted t) ⊎ (m ≡ releasedNode o t n)) → Released-row (fills w) t (releasedRow (kind o) t n) 80
+      cases : {m : Node} → Object m → (m ≡ due t) ⊎ ((m ≡ acted t) ⊎ (m ≡ releasedNode o t n)) → Released-row (fills w) t (releasedRow (kind o) t n) hub
       cases m (inl e) = absurd (none (subst Object e m))
         where
           none : Object (due t) → ⊥
@@ -106,16 +107,16 @@ module _ {P : ℕ → Type 0} {j : ℕ → ℕ → ℕ} {w : Filling} {Chosen : 
         where
           none : Object (acted t) → ⊥
           none q = elim q [ ]
-      cases m (inr (inr e)) = inr (inr (rw (le-ltb (releasedRow (kind o) t n) 16 (rw (released-row o t n) (object-row (subst Object e m))), is-true (by-test (fills w)) f)))
+      cases m (inr (inr e)) = inr (inr (rw (le-ltb (releasedRow (kind o) t n) tasks (rw (released-row o t n) (object-row (subst Object e m))), is-true (by-test (fills w)) f)))
 
-  released-hub : Released-row (fills w) t (releasedRow (kind o) t n) 80 → Object (releasedNode o t n)
+  released-hub : Released-row (fills w) t (releasedRow (kind o) t n) hub → Object (releasedNode o t n)
   released-hub (inl e) = absurd (omega arith)
   released-hub (inr (inl e)) = let h = released-below in absurd (omega arith)
-  released-hub (inr (inr e)) = decided (at-most 16 (releasedRow (kind o) t n))
+  released-hub (inr (inr e)) = decided (at-most tasks (releasedRow (kind o) t n))
     where
-      decided : {p : Bool} → Reflects (16 ≤ releasedRow (kind o) t n) p → Object (releasedNode o t n)
+      decided : {p : Bool} → Reflects (tasks ≤ releasedRow (kind o) t n) p → Object (releasedNode o t n)
       decided (right h) = released-object o ht hn (rw (released-row o t n) at h)
-      decided (wrong f) = let q : 80 ≡ t = rw (lt-ltb (releasedRow (kind o) t n) 16 (omega arith)) at e in absurd (omega arith)
+      decided (wrong f) = let q : hub ≡ t = rw (lt-ltb (releasedRow (kind o) t n) tasks (omega arith)) at e in absurd (omega arith)
 
   -- What it acquires
 
@@ -130,13 +131,13 @@ module _ {P : ℕ → Type 0} {j : ℕ → ℕ → ℕ} {w : Filling} {Chosen : 
   from-joined : {m : Node} → Acquires (acted n) (act o t n) → flagOf ≡ true → Releases (act o t n) m → Knows P width b n c → Came-on m
   from-joined {m} h f x a = cases (owned .cells (due n) (due-in l) .0 a)
     where
-      l : n < 16
+      l : n < tasks
       l = joined-in h hn
 
-      raised : 0 < cell width b 81 n
-      raised = decided (at-most 1 (cell width b 81 n)) f
+      raised : 0 < cell width b actedRow n
+      raised = decided (at-most 1 (cell width b actedRow n)) f
         where
-          decided : {p : Bool} → Reflects (1 ≤ cell width b 81 n) p → p ≡ true → 0 < cell width b 81 n
+          decided : {p : Bool} → Reflects (1 ≤ cell width b actedRow n) p → p ≡ true → 0 < cell width b actedRow n
           decided (right q) e = q
           decided (wrong g) e = absurd (subst T (sym e) tt)
 
@@ -169,7 +170,7 @@ module _ {P : ℕ → Type 0} {j : ℕ → ℕ → ℕ} {w : Filling} {Chosen : 
           let l = joined-in k hn in
           let a : Came w Chosen es i (acted n) = subst (Came w Chosen es i) (e ∙ q) d in
           let raised = flagged .flags n l .1 (snoc-some (act o t n) (ended .acting n a)) in
-          rw (read-row o t n width b, lt-ltb 0 (cell width b 81 n) raised, r) (owned .cells (due n) (due-in l) .1 (inl (s, came-acted a)))
+          rw (read-row o t n width b, lt-ltb 0 (cell width b actedRow n) raised, r) (owned .cells (due n) (due-in l) .1 (inl (s, came-acted a)))
 
       cases : (p ≡ due t) ⊎ (p ≡ acquiredNode o t n) → Knows P width b t c ⊎ Knows P width b acquired c
       cases (inl e) = inl (owned .cells (due t) (due-in ht) .1 (inl (s, subst (Came w Chosen es i) e d)))
@@ -182,7 +183,7 @@ module _ {P : ℕ → Type 0} {j : ℕ → ℕ → ℕ} {w : Filling} {Chosen : 
   exact-act =
       record {
         cells = λ m r. (λ a. came-next es (act o t n) keeps .1 (to m r (flowed (row m) .0 a)), λ d. flowed (row m) .1 (from m r (came-next es (act o t n) keeps .0 d)));
-        hub = λ f. (λ a. to-hub f (flowed 80 .0 a), λ d. flowed 80 .1 (from-hub f (d .0) (d .1) (came-next es (act o t n) keeps .0 (d .2))));
+        hub = λ f. (λ a. to-hub f (flowed hub .0 a), λ d. flowed hub .1 (from-hub f (d .0) (d .1) (came-next es (act o t n) keeps .0 (d .2))));
         ended = ended-act keeps starts ended;
       }
     where
@@ -203,11 +204,11 @@ module _ {P : ℕ → Type 0} {j : ℕ → ℕ → ℕ} {w : Filling} {Chosen : 
       from m r (inl (s, inr (p, d, (h, x)))) = inr (by-released r x, came-source s h d)
       from m r (inr (d, x)) = inr (by-released r x, own-source d)
 
-      to-hub : T (fills w) → Knows P width b 80 c ⊎ (Released-row (fills w) t (releasedRow (kind o) t n) 80 × (Knows P width b t c ⊎ Knows P width b acquired c)) → ToObject w Chosen (es ++ (act o t n ∷ [])) i
+      to-hub : T (fills w) → Knows P width b hub c ⊎ (Released-row (fills w) t (releasedRow (kind o) t n) hub × (Knows P width b t c ⊎ Knows P width b acquired c)) → ToObject w Chosen (es ++ (act o t n ∷ [])) i
       to-hub f (inl a) = let (s, (m, k, d)) = owned .hub f .0 a in (m, k, came-next es (act o t n) keeps .1 (inl (s, inl d)))
       to-hub f (inr (q, a)) = (releasedNode o t n, released-hub q, came-next es (act o t n) keeps .1 (source-came (released-releases o t n) a))
 
-      from-hub : T (fills w) → (m : Node) → Object m → Came-on m → Knows P width b 80 c ⊎ (Released-row (fills w) t (releasedRow (kind o) t n) 80 × (Knows P width b t c ⊎ Knows P width b acquired c))
+      from-hub : T (fills w) → (m : Node) → Object m → Came-on m → Knows P width b hub c ⊎ (Released-row (fills w) t (releasedRow (kind o) t n) hub × (Knows P width b t c ⊎ Knows P width b acquired c))
       from-hub f m k (inl (s, inl d)) = inl (owned .hub f .1 (s, (m, k, d)))
       from-hub f m k (inl (s, inr (p, d, (h, x)))) = inr (hub-released f k x, came-source s h d)
       from-hub f m k (inr (d, x)) = inr (hub-released f k x, own-source d)
@@ -244,19 +245,19 @@ module _ {P : ℕ → Type 0} {w : Filling} {Chosen : Event → List Event → T
       }
 
   -- where some are it mixes
-  module _ {j : ℕ → ℕ → ℕ} (joins : Joins j P) (sized : Sized width b) (wide : 16 ≤ width) (hc : c < width) (some : (t : ℕ) × Named (w mask) t) (asked : T (fills w)) (x : Exact P w Chosen es width b i c) where
-    acquired-known : (p : Node) → Acquired (w mask) p → Came w Chosen es i p → Knows P width b 80 c ⊎ NamedKnows P width (w mask) b c 16
+  module _ {j : ℕ → ℕ → ℕ} (joins : Joins j P) (sized : Sized width b) (wide : tasks ≤ width) (hc : c < width) (some : (t : ℕ) × Named (w mask) t) (asked : T (fills w)) (x : Exact P w Chosen es width b i c) where
+    acquired-known : (p : Node) → Acquired (w mask) p → Came w Chosen es i p → Knows P width b hub c ⊎ NamedKnows P width (w mask) b c tasks
     acquired-known (due t) h d = let q = acquired-due .0 h in inr (t, named-task q, named-bit q, x .cells (due t) (due-in (named-task q)) .1 d)
     acquired-known (acted t) h d = absurd (acquired-acted h)
     acquired-known (semaphore s) h d = inl (x .hub asked .1 (semaphore s, a-semaphore (acquired-semaphore .0 h .0), d))
     acquired-known (flag f) h d = inl (x .hub asked .1 (flag f, a-flag (acquired-flag .0 h .0), d))
 
-    known-on : {m : Node} → Released (w mask) m → Knows P width b 80 c ⊎ NamedKnows P width (w mask) b c 16 → Onward w Chosen es (lost mask) i m
+    known-on : {m : Node} → Released (w mask) m → Knows P width b hub c ⊎ NamedKnows P width (w mask) b c tasks → Onward w Chosen es (lost mask) i m
     known-on y (inl a) = let (p, k, d) = x .hub asked .0 a in inr (p, d, (acquired-object some k, y))
     known-on y (inr (t, l, q, a)) = inr (due t, x .cells (due t) (due-in l) .0 a, (acquired-due .1 (bit-named (w mask) t l q), y))
 
     on-known : {m : Node} → Released (w mask) m → (Stays × Onward w Chosen es (lost mask) i m) ⊎ (Newly Chosen es (lost mask) i × Releases (lost mask) m) →
-        Knows P width b 80 c ⊎ NamedKnows P width (w mask) b c 16
+        Knows P width b hub c ⊎ NamedKnows P width (w mask) b c tasks
     on-known {m} y (inl (s, inl d)) = let (p, h, e) = released-acquired m y d in acquired-known p h e
     on-known y (inl (s, inr (p, d, (h, z)))) = acquired-known p h d
     on-known y (inr (d, z)) = absurd (no-releases z)
@@ -278,16 +279,16 @@ module _ {P : ℕ → Type 0} {w : Filling} {Chosen : Event → List Event → T
             same (inl (s, inr (p, d, (h, y)))) = absurd (f (released-test r y))
             same (inr (d, y)) = absurd (no-releases y)
 
-    hub-mixed : Knows P width (mix j width (w mask) b) 80 c ↔ ToObject w Chosen (es ++ (lost mask ∷ [])) i
+    hub-mixed : Knows P width (mix j width (w mask) b) hub c ↔ ToObject w Chosen (es ++ (lost mask ∷ [])) i
     hub-mixed = (λ a. to (e .0 a), λ d. e .1 (from (d .0) (d .1) (came-next es (lost mask) keeps .0 (d .2))))
       where
-        e : Knows P width (mix j width (w mask) b) 80 c ↔ (Knows P width b 80 c ⊎ NamedKnows P width (w mask) b c 16)
+        e : Knows P width (mix j width (w mask) b) hub c ↔ (Knows P width b hub c ⊎ NamedKnows P width (w mask) b c tasks)
         e = mix-hub joins sized (w mask) c wide hc
 
-        to : Knows P width b 80 c ⊎ NamedKnows P width (w mask) b c 16 → ToObject w Chosen (es ++ (lost mask ∷ [])) i
+        to : Knows P width b hub c ⊎ NamedKnows P width (w mask) b c tasks → ToObject w Chosen (es ++ (lost mask ∷ [])) i
         to a = (semaphore 0, a-semaphore (lit< tt), came-next es (lost mask) keeps .1 (inl (stays, known-on (released-semaphore .1 (lit< tt, some)) a)))
 
-        from : (m : Node) → Object m → (Stays × Onward w Chosen es (lost mask) i m) ⊎ (Newly Chosen es (lost mask) i × Releases (lost mask) m) → Knows P width b 80 c ⊎ NamedKnows P width (w mask) b c 16
+        from : (m : Node) → Object m → (Stays × Onward w Chosen es (lost mask) i m) ⊎ (Newly Chosen es (lost mask) i × Releases (lost mask) m) → Knows P width b hub c ⊎ NamedKnows P width (w mask) b c tasks
         from m k (inl (s, inl d)) = inl (x .hub asked .1 (m, k, d))
         from m k (inl (s, inr (p, d, (h, y)))) = acquired-known p h d
         from m k (inr (d, y)) = absurd (no-releases y)
@@ -295,7 +296,7 @@ module _ {P : ℕ → Type 0} {w : Filling} {Chosen : Event → List Event → T
     exact-mix : Exact P w Chosen (es ++ (lost mask ∷ [])) width (mix j width (w mask) b) i c
     exact-mix = record { cells = mixed; hub = λ _. hub-mixed; ended = ended-mark mask keeps stays (x .ended) }
 
-  pub exact-mark : {j : ℕ → ℕ → ℕ} → Joins j P → Sized width b → 16 ≤ width → c < width → (¬ (w mask ≡ 0) → T (fills w)) → Filled-in (w mask) → Exact P w Chosen es width b i c →
+  pub exact-mark : {j : ℕ → ℕ → ℕ} → Joins j P → Sized width b → tasks ≤ width → c < width → (¬ (w mask ≡ 0) → T (fills w)) → Filled-in (w mask) → Exact P w Chosen es width b i c →
       Exact P w Chosen (es ++ (lost mask ∷ [])) width (mark j width (w mask) b) i c
   exact-mark {j} joins sized wide hc asked (nobody e) x = subst (λ (k : ℕ). Exact P w Chosen (es ++ (lost mask ∷ [])) width (mark j width k b) i c) (sym e) (exact-none e x)
   exact-mark joins sized wide hc asked (somebody n some) x = rw (ne-eqb (w mask) 0 n) (exact-mix joins sized wide hc some (asked n) x)
@@ -303,28 +304,28 @@ module _ {P : ℕ → Type 0} {w : Filling} {Chosen : Event → List Event → T
 -- What has acted
 
 module _ {w : Filling} {es : List Event} {width : ℕ} {b b′ : List ℕ} where
-  pub acted-same : ((t : ℕ) → t < 16 → cell width b′ 81 t ≡ cell width b 81 t) → ExactActed w es width b → ExactActed w es width b′
+  pub acted-same : ((t : ℕ) → t < tasks → cell width b′ actedRow t ≡ cell width b actedRow t) → ExactActed w es width b → ExactActed w es width b′
   acted-same e x = record { flags = λ t h. (λ a. x .flags t h .0 (rw (e t h) at a), λ a. rw (e t h) (x .flags t h .1 a)) }
 
   -- an event after which those have acted who had, and those that a test tells
-  acted-next : (y : Event) (p : ℕ → Bool) → ((t : ℕ) → t < 16 → Reflects (ActsAs w t y) (p t)) →
-      ((t : ℕ) → t < 16 → cell width b′ 81 t ≡ cond (p t) 1 (cell width b 81 t)) → ExactActed w es width b → ExactActed w (es ++ (y ∷ [])) width b′
+  acted-next : (y : Event) (p : ℕ → Bool) → ((t : ℕ) → t < tasks → Reflects (ActsAs w t y) (p t)) →
+      ((t : ℕ) → t < tasks → cell width b′ actedRow t ≡ cond (p t) 1 (cell width b actedRow t)) → ExactActed w es width b → ExactActed w (es ++ (y ∷ [])) width b′
   acted-next y p r e x = record { flags = λ t h. (λ a. to t h (r t h) (rw (e t h) at a), λ a. rw (e t h) (from t h (r t h) (some-snoc es a))) }
     where
-      to : (t : ℕ) → t < 16 → {q : Bool} → Reflects (ActsAs w t y) q → 0 < cond q 1 (cell width b 81 t) → Acted w t (es ++ (y ∷ []))
+      to : (t : ℕ) → t < tasks → {q : Bool} → Reflects (ActsAs w t y) q → 0 < cond q 1 (cell width b actedRow t) → Acted w t (es ++ (y ∷ []))
       to t h (right k) a = snoc-last es y k
       to t h (wrong f) a = snoc-some y (x .flags t h .0 a)
 
-      from : (t : ℕ) → t < 16 → {q : Bool} → Reflects (ActsAs w t y) q → Acted w t es ⊎ ActsAs w t y → 0 < cond q 1 (cell width b 81 t)
+      from : (t : ℕ) → t < tasks → {q : Bool} → Reflects (ActsAs w t y) q → Acted w t es ⊎ ActsAs w t y → 0 < cond q 1 (cell width b actedRow t)
       from t h (right k) a = lit< tt
       from t h (wrong f) (inl a) = x .flags t h .1 a
       from t h (wrong f) (inr k) = absurd (f k)
 
-  pub acted-act : (o : Op) (u n : ℕ) → ((t : ℕ) → t < 16 → cell width b′ 81 t ≡ cond (eqb t u) 1 (cell width b 81 t)) → ExactActed w es width b →
+  pub acted-act : (o : Op) (u n : ℕ) → ((t : ℕ) → t < tasks → cell width b′ actedRow t ≡ cond (eqb t u) 1 (cell width b actedRow t)) → ExactActed w es width b →
       ExactActed w (es ++ (act o u n ∷ [])) width b′
   acted-act o u n e x = acted-next (act o u n) (λ t. eqb t u) (λ t h. equal t u) e x
 
-pub acted-mark : {w : Filling} {es : List Event} {width : ℕ} {b : List ℕ} (j : ℕ → ℕ → ℕ) (mask : ℕ) → Sized width b → 16 ≤ width → Filled-in (w mask) → ExactActed w es width b →
+pub acted-mark : {w : Filling} {es : List Event} {width : ℕ} {b : List ℕ} (j : ℕ → ℕ → ℕ) (mask : ℕ) → Sized width b → tasks ≤ width → Filled-in (w mask) → ExactActed w es width b →
     ExactActed w (es ++ (lost mask ∷ [])) width (mark j width (w mask) b)
 acted-mark {w} {es} {width} {b} j mask sized wide (nobody e) x =
     subst (λ (k : ℕ). ExactActed w (es ++ (lost mask ∷ [])) width (mark j width k b)) (sym e)
@@ -336,16 +337,16 @@ acted-mark {w} j mask sized wide (somebody n some) x =
 -- Fresh tables
 
 pub fresh-exact : {P : ℕ → Type 0} {w : Filling} {Chosen : Event → List Event → Type 0} {width i c : ℕ} → ¬ P 0 → c < width →
-    Exact P w Chosen [] width (replicate (82 * width) 0) i c
+    Exact P w Chosen [] width (replicate (tableRows * width) 0) i c
 fresh-exact {width = width} {c = c} n hc =
     record {
       cells = λ m r. (λ a. let h = row-below r in absurd (fresh-none n width (row m) c (omega arith) hc a), λ d. absurd (nowhere (d .occurs)));
-      hub = λ f. (λ a. absurd (fresh-none n width 80 c (omega arith) hc a), λ d. absurd (nowhere (d .2 .occurs)));
+      hub = λ f. (λ a. absurd (fresh-none n width hub c (omega arith) hc a), λ d. absurd (nowhere (d .2 .occurs)));
       ended = record { acting = λ t d. absurd (nowhere (d .occurs)); joined = λ t a d. absurd (nowhere (d .occurs)) };
     }
 
-pub fresh-acted : {w : Filling} (width : ℕ) → 16 ≤ width → ExactActed w [] width (replicate (82 * width) 0)
+pub fresh-acted : {w : Filling} (width : ℕ) → tasks ≤ width → ExactActed w [] width (replicate (tableRows * width) 0)
 fresh-acted width wide = record { flags = λ t h. (λ a. absurd (zero t h a), λ a. absurd (none-acted a)) }
   where
-    zero : (t : ℕ) → t < 16 → ¬ (0 < cell width (replicate (82 * width) 0) 81 t)
-    zero t h a = let k : 0 < 0 = rw (fresh-cell width 81 t (omega arith) (omega arith)) at a in omega arith
+    zero : (t : ℕ) → t < tasks → ¬ (0 < cell width (replicate (tableRows * width) 0) actedRow t)
+    zero t h a = let k : 0 < 0 = rw (fresh-cell width actedRow t (omega arith) (omega arith)) at a in omega arith

@@ -9,7 +9,8 @@ use native.Mathlib.Omega.{arith}
 use lib.Dec.{T, lit<, eqb}
 use Rattle.theory.specs.tables.Turns.{turns}
 use Rattle.theory.specs.fillings.Completion.{bit}
-use Rattle.theory.specs.tables.Rows.{cell, joinRow, rowOf, putRow, isReleased, hub, rowOrHub, gather, spread, noteNamed, mix, mark}
+use Rattle.theory.specs.tables.Rows.{cell, joinRow, rowOf, putRow, isReleased, hub, rowOrHub, gather, spread, noteNamed, mix, mark, actedRow, tableRows}
+use Rattle.theory.specs.order.Limits.{tasks}
 use Rattle.theory.proofs.basics.Reflects.{Reflects, right, wrong, equal}
 use Rattle.theory.proofs.tables.Rows.{Sized, Joins, Knows, knows-same, sized-set, sized-turns, sized-join, sized-put, in-table, one-place, stores-at, stores-other, row-cell, put-same, put-other, join-self, join-cell-other, join-knows}
 
@@ -17,15 +18,15 @@ use Rattle.theory.proofs.tables.Rows.{Sized, Joins, Knows, knows-same, 
 
 pub sized-gather : {w : ℕ} {b : List ℕ} → Sized w b → (j : ℕ → ℕ → ℕ) (mask : ℕ) → Sized w (gather j w mask b)
 unfolding gather
-sized-gather s j mask = sized-turns 16 (λ k x t. sized-join t j _ _) s
+sized-gather s j mask = sized-turns tasks (λ k x t. sized-join t j _ _) s
 
 pub sized-spread : {w : ℕ} {b : List ℕ} → Sized w b → (mask : ℕ) → Sized w (spread w mask b)
 unfolding spread
-sized-spread s mask = sized-turns 80 (λ k x t. sized-put t _ _) s
+sized-spread s mask = sized-turns hub (λ k x t. sized-put t _ _) s
 
 pub sized-mix : {w : ℕ} {b : List ℕ} → Sized w b → (j : ℕ → ℕ → ℕ) (mask : ℕ) → Sized w (mix j w mask b)
 unfolding mix noteNamed
-sized-mix s j mask = sized-turns 16 (λ k x t. sized-set t _ _) (sized-spread (sized-gather s j mask) mask)
+sized-mix s j mask = sized-turns tasks (λ k x t. sized-set t _ _) (sized-spread (sized-gather s j mask) mask)
 
 -- Gathering
 
@@ -44,7 +45,7 @@ module _ (j : ℕ → ℕ → ℕ) {w : ℕ} {b : List ℕ} (s : Sized w b) (mas
 
   gather-kept : (r c : ℕ) → c < w → ¬ (r ≡ hub) → cell w (gather j w mask b) r c ≡ cell w b r c
   unfolding gather
-  gather-kept r c l d = gather-other 16 r c l d
+  gather-kept r c l d = gather-other tasks r c l d
 
 -- one of the first n tasks that the mask names knows it
 abbrev pub NamedKnows : (ℕ → Type 0) → ℕ → ℕ → List ℕ → ℕ → ℕ → Type 0
@@ -63,7 +64,7 @@ module _ {j : ℕ → ℕ → ℕ} {P : ℕ → Type 0} (joins : Joins j P) {w :
     ⊎-elim (λ a. rw (← join-self (joins .alone) w hub x) a) (λ y. absurd (y .1)),
   )
 
-  gather-turn : (n : ℕ) → n < 16 → Knows P w (Gathered j s mask n) hub c ↔ (Knows P w b hub c ⊎ NamedKnows P w mask b c n) →
+  gather-turn : (n : ℕ) → n < tasks → Knows P w (Gathered j s mask n) hub c ↔ (Knows P w b hub c ⊎ NamedKnows P w mask b c n) →
       Knows P w (joinRow j w hub (rowOrHub (bit mask n) n) (Gathered j s mask n)) hub c ↔ (Knows P w b hub c ⊎ NamedKnows P w mask b c (suc n))
   gather-turn n h before = (λ a. to (turn .0 a), from)
     where
@@ -90,15 +91,15 @@ module _ {j : ℕ → ℕ → ℕ} {P : ℕ → Type 0} (joins : Joins j P) {w :
       from (inl a) = turn .1 (inl (before .1 (inl a)))
       from (inr (k, m, t, a)) = from-task k m t a (equal k n)
 
-  gather-turns : (n : ℕ) → n ≤ 16 → Knows P w (Gathered j s mask n) hub c ↔ (Knows P w b hub c ⊎ NamedKnows P w mask b c n)
+  gather-turns : (n : ℕ) → n ≤ tasks → Knows P w (Gathered j s mask n) hub c ↔ (Knows P w b hub c ⊎ NamedKnows P w mask b c n)
   unfolding turns
   gather-turns zero h = (inl, ⊎-elim (λ a. a) (λ x. absurd (omega (arith, x .1))))
   gather-turns (suc n) h = gather-turn n h (gather-turns n (omega arith))
 
   -- the hub comes to know what each named task's next act knows
-  gather-hub : Knows P w (gather j w mask b) hub c ↔ (Knows P w b hub c ⊎ NamedKnows P w mask b c 16)
+  gather-hub : Knows P w (gather j w mask b) hub c ↔ (Knows P w b hub c ⊎ NamedKnows P w mask b c tasks)
   unfolding gather
-  gather-hub = gather-turns 16 (omega arith)
+  gather-hub = gather-turns tasks (omega arith)
 
 -- Spreading
 
@@ -113,7 +114,7 @@ module _ {w : ℕ} {b : List ℕ} (s : Sized w b) (mask c : ℕ) (l : c < w) whe
       decided (right f) = rw f (put-same z hub c (rowOf w hub b) (lit< tt) l ∙ row-cell w hub b c l) ∙ sym (own f)
       decided (wrong f) = put-other w x (rowOf w hub b) hub r c l f ∙ e
 
-  released-turn : {x : List ℕ} (p : Bool) (q : ℕ) → Sized w x → q < 82 → T p → cell w (putRow w (rowOrHub p q) (rowOf w hub b) x) q c ≡ cell w b hub c
+  released-turn : {x : List ℕ} (p : Bool) (q : ℕ) → Sized w x → q < tableRows → T p → cell w (putRow w (rowOrHub p q) (rowOf w hub b) x) q c ≡ cell w b hub c
   released-turn true q z h t = put-same z q c (rowOf w hub b) h l ∙ row-cell w hub b c l
   released-turn false q z h t = absurd t
 
@@ -130,7 +131,7 @@ module _ {w : ℕ} {b : List ℕ} (s : Sized w b) (mask c : ℕ) (l : c < w) whe
       other-turn (isReleased mask n) n r (sized-spreading n) (λ x. d (omega (arith, x .0), rw (x .0) (x .1))) (λ e. rw e)
       (spread-kept n r (λ x. d (omega arith, x .1)))
 
-  spread-released : (n r : ℕ) → n ≤ 80 → r < n → T (isReleased mask r) → cell w (Spread n) r c ≡ cell w b hub c
+  spread-released : (n r : ℕ) → n ≤ hub → r < n → T (isReleased mask r) → cell w (Spread n) r c ≡ cell w b hub c
   unfolding turns
   spread-released zero r k h t = absurd (omega arith)
   spread-released (suc n) r k h t = decided (equal r n) (λ m. spread-released n r (omega arith) m t)
@@ -140,45 +141,45 @@ module _ {w : ℕ} {b : List ℕ} (s : Sized w b) (mask c : ℕ) (l : c < w) whe
       decided (wrong d) f = other-turn (isReleased mask n) n r (sized-spreading n) (λ x. d (x .0)) (λ e. refl) (f (omega arith))
 
   -- a released row has the hub's cells, and the others have their own
-  released-cell : (r : ℕ) → r < 80 → T (isReleased mask r) → cell w (spread w mask b) r c ≡ cell w b hub c
+  released-cell : (r : ℕ) → r < hub → T (isReleased mask r) → cell w (spread w mask b) r c ≡ cell w b hub c
   unfolding spread
-  released-cell r h t = spread-released 80 r (omega arith) h t
+  released-cell r h t = spread-released hub r (omega arith) h t
 
-  untold-cell : (r : ℕ) → ¬ ((r < 80) × T (isReleased mask r)) → cell w (spread w mask b) r c ≡ cell w b r c
+  untold-cell : (r : ℕ) → ¬ ((r < hub) × T (isReleased mask r)) → cell w (spread w mask b) r c ≡ cell w b r c
   unfolding spread
-  untold-cell r d = spread-kept 80 r d
+  untold-cell r d = spread-kept hub r d
 
 -- Named tasks
 
-module _ {w : ℕ} {b : List ℕ} (s : Sized w b) (mask : ℕ) (wide : 16 ≤ w) where
+module _ {w : ℕ} {b : List ℕ} (s : Sized w b) (mask : ℕ) (wide : tasks ≤ w) where
   abbrev noted : ℕ → List ℕ → ℕ
-  noted t x = cond (bit mask t) 1 (cell w x 81 t)
+  noted t x = cond (bit mask t) 1 (cell w x actedRow t)
 
-  named-other : (r c : ℕ) → c < w → ¬ (r ≡ 81) → cell w (noteNamed w mask b) r c ≡ cell w b r c
+  named-other : (r c : ℕ) → c < w → ¬ (r ≡ actedRow) → cell w (noteNamed w mask b) r c ≡ cell w b r c
   unfolding noteNamed
-  named-other r c l d = stores-other (81 * w) noted b 16 (r * w + c) (λ t h e. d (one-place w r 81 c t l (omega arith) e .0))
+  named-other r c l d = stores-other (actedRow * w) noted b tasks (r * w + c) (λ t h e. d (one-place w r actedRow c t l (omega arith) e .0))
 
-  named-cell : (t : ℕ) → t < 16 → cell w (noteNamed w mask b) 81 t ≡ cond (bit mask t) 1 (cell w b 81 t)
+  named-cell : (t : ℕ) → t < tasks → cell w (noteNamed w mask b) actedRow t ≡ cond (bit mask t) 1 (cell w b actedRow t)
   unfolding noteNamed
   named-cell t l =
-      stores-at (81 * w) noted b 16 t l (in-table s (omega arith) (omega arith))
-      ∙ ap (cond (bit mask t) 1) (stores-other (81 * w) noted b t (81 * w + t) (λ c h e. omega arith))
+      stores-at (actedRow * w) noted b tasks t l (in-table s (omega arith) (omega arith))
+      ∙ ap (cond (bit mask t) 1) (stores-other (actedRow * w) noted b t (actedRow * w + t) (λ c h e. omega arith))
 
 -- Marks
 
-module _ {j : ℕ → ℕ → ℕ} {P : ℕ → Type 0} (joins : Joins j P) {w : ℕ} {b : List ℕ} (s : Sized w b) (mask c : ℕ) (wide : 16 ≤ w) (l : c < w) where
+module _ {j : ℕ → ℕ → ℕ} {P : ℕ → Type 0} (joins : Joins j P) {w : ℕ} {b : List ℕ} (s : Sized w b) (mask c : ℕ) (wide : tasks ≤ w) (l : c < w) where
   sized-gathered : Sized w (gather j w mask b)
   sized-gathered = sized-gather s j mask
 
   -- over a mark the hub and each released row know what the hub or a named task's next act knew
-  pub mix-hub : Knows P w (mix j w mask b) hub c ↔ (Knows P w b hub c ⊎ NamedKnows P w mask b c 16)
+  pub mix-hub : Knows P w (mix j w mask b) hub c ↔ (Knows P w b hub c ⊎ NamedKnows P w mask b c tasks)
   unfolding mix
   mix-hub =
       let q = knows-same {P = P} (named-other (sized-spread sized-gathered mask) mask wide hub c l (λ e. omega arith) ∙ untold-cell sized-gathered mask c l hub (λ x. omega (arith, x .0))) in
       let g = gather-hub joins s mask c l in
       (λ a. g .0 (q .0 a), λ a. q .1 (g .1 a))
 
-  pub mix-released : (r : ℕ) → r < 80 → T (isReleased mask r) → Knows P w (mix j w mask b) r c ↔ (Knows P w b hub c ⊎ NamedKnows P w mask b c 16)
+  pub mix-released : (r : ℕ) → r < hub → T (isReleased mask r) → Knows P w (mix j w mask b) r c ↔ (Knows P w b hub c ⊎ NamedKnows P w mask b c tasks)
   unfolding mix
   mix-released r h t =
       let q = knows-same {P = P} (named-other (sized-spread sized-gathered mask) mask wide r c l (λ e. omega arith) ∙ released-cell sized-gathered mask c l r h t) in
@@ -186,7 +187,7 @@ module _ {j : ℕ → ℕ → ℕ} {P : ℕ → Type 0} (joins : Joins j P) {w :
       (λ a. g .0 (q .0 a), λ a. q .1 (g .1 a))
 
   -- and the others what they knew
-  pub mix-untold : (r : ℕ) → r < 80 → ¬ T (isReleased mask r) → Knows P w (mix j w mask b) r c ↔ Knows P w b r c
+  pub mix-untold : (r : ℕ) → r < hub → ¬ T (isReleased mask r) → Knows P w (mix j w mask b) r c ↔ Knows P w b r c
   unfolding mix
   mix-untold r h n =
       knows-same
@@ -194,11 +195,11 @@ module _ {j : ℕ → ℕ → ℕ} {P : ℕ → Type 0} (joins : Joins j P) {w :
       ∙ (untold-cell sized-gathered mask c l r (λ x. n (x .1)) ∙ gather-kept j s mask r c l (λ e. omega arith)))
 
 -- the named tasks have acted, and those that had
-pub mix-acted : {w : ℕ} {b : List ℕ} → Sized w b → (j : ℕ → ℕ → ℕ) (mask t : ℕ) → 16 ≤ w → t < 16 → cell w (mix j w mask b) 81 t ≡ cond (bit mask t) 1 (cell w b 81 t)
+pub mix-acted : {w : ℕ} {b : List ℕ} → Sized w b → (j : ℕ → ℕ → ℕ) (mask t : ℕ) → tasks ≤ w → t < tasks → cell w (mix j w mask b) actedRow t ≡ cond (bit mask t) 1 (cell w b actedRow t)
 unfolding mix
 mix-acted {w} {b} s j mask t wide h =
     named-cell (sized-spread (sized-gather s j mask) mask) mask wide t h
-    ∙ ap (cond (bit mask t) 1) (untold-cell (sized-gather s j mask) mask t (omega arith) 81 (λ x. omega (arith, x .0)) ∙ gather-kept j s mask 81 t (omega arith) (λ e. omega arith))
+    ∙ ap (cond (bit mask t) 1) (untold-cell (sized-gather s j mask) mask t (omega arith) actedRow (λ x. omega (arith, x .0)) ∙ gather-kept j s mask actedRow t (omega arith) (λ e. omega arith))
 
 -- a mark keeps the size
 pub sized-mark : {w : ℕ} {b : List ℕ} → Sized w b → (j : ℕ → ℕ → ℕ) (mask : ℕ) → Sized w (mark j w mask b)

@@ -10,6 +10,7 @@ use lib.Dec.{T, eqb}
 use Rattle.theory.specs.order.Recording.{Event}
 use Rattle.theory.specs.tables.Reckonings.{maskOf, lowestTask}
 use Rattle.theory.specs.verdicts.Search.{Found, partner}
+use Rattle.theory.specs.order.Limits.{tasks}
 use Rattle.theory.proofs.basics.Reflects.{Reflects, right, wrong, equal, at-most, by-test, is-true}
 use Rattle.theory.proofs.verdicts.Latest.{some-after}
 use Rattle.theory.proofs.tables.Bits.{mask-none, mask-lowest}
@@ -29,8 +30,8 @@ candidate-one : {g : ℕ → List Event} {f : Event} {es : List Event} {t i j : 
 candidate-one {i = i} {j = j} c d = decided (at-most (suc i) j) (at-most (suc j) i)
   where
     decided : {a b : Bool} → Reflects (i < j) a → Reflects (j < i) b → i ≡ j
-    decided (right h) q = absurd (c .apart .none (some-after (c .occurs) (d .occurs) h (d .apart .acting, d .apart .conflict)))
-    decided (wrong h) (right l) = absurd (d .apart .none (some-after (d .occurs) (c .occurs) l (c .apart .acting, c .apart .conflict)))
+    decided (right h) q = absurd (c .apart .none (some-after (c .occurs) (d .occurs) h (d .apart .against .by, d .apart .against .conflict)))
+    decided (wrong h) (right l) = absurd (d .apart .none (some-after (d .occurs) (c .occurs) l (c .apart .against .by, c .apart .against .conflict)))
     decided (wrong h) (wrong l) = omega arith
 
 found-same : {x y : Found} → x .task ≡ y .task → x .number ≡ y .number → x ≡ y
@@ -50,8 +51,8 @@ outcome-one {g} {f} {es} (somebody {x = x} i c e low) (somebody {x = y} j d e′
 -- A mask that tells the candidates
 
 module _ {g : ℕ → List Event} {f : Event} {es : List Event} (test : ℕ → Bool) (number : ℕ → ℕ)
-    (sound : (u : ℕ) → u < 16 → T (test u) → (i : ℕ) × Candidate g f es u i × (number u ≡ suc i))
-    (complete : (u i : ℕ) → Candidate g f es u i → (u < 16) × T (test u)) where
+    (sound : (u : ℕ) → u < tasks → T (test u) → (i : ℕ) × Candidate g f es u i × (number u ≡ suc i))
+    (complete : (u i : ℕ) → Candidate g f es u i → (u < tasks) × T (test u)) where
   passing : {u : ℕ} → test u ≡ true → T (test u)
   passing e = subst T (sym e) tt
 
@@ -63,7 +64,7 @@ module _ {g : ℕ → List Event} {f : Event} {es : List Event} (test : ℕ → 
       decided (right e) = nobody (λ t i c. let (l, q) = complete t i c in not-both (is-true (by-test (test t)) q) (mask-none test e t l))
       decided (wrong n) = lowest (mask-lowest test n)
         where
-          lowest : (lowestTask (maskOf test) < 16) × (test (lowestTask (maskOf test)) ≡ true) × ((u : ℕ) → u < lowestTask (maskOf test) → test u ≡ false) →
+          lowest : (lowestTask (maskOf test) < tasks) × (test (lowestTask (maskOf test)) ≡ true) × ((u : ℕ) → u < lowestTask (maskOf test) → test u ≡ false) →
               Outcome g f 1 es (some (record { task = lowestTask (maskOf test); number = number (lowestTask (maskOf test)) }))
           lowest (l, q, below) =
               let (i, c, e) = sound (lowestTask (maskOf test)) l (passing q) in

@@ -9,7 +9,8 @@ use native.Mathlib.Omega.{arith}
 use borrow.Author.Tests.{lt-ltb, le-ltb}
 use lib.Dec.{ltb}
 use Rattle.theory.specs.order.Recording.{Op, take, give, look, set, start, join, act, series, kind, _is_}
-use Rattle.theory.specs.tables.Rows.{cell, actedRow, joinsActed, acquiredRow, releasedRow}
+use Rattle.theory.specs.tables.Rows.{cell, actedRow, joinsActed, acquiredRow, releasedRow, hub, flagRow, semaphoreRow}
+use Rattle.theory.specs.order.Limits.{tasks, semaphores, flags}
 use Rattle.theory.proofs.order.Ops.{Plain, Role, a-take, a-give, a-look, a-set, a-start, a-join, plain, role}
 use Rattle.theory.proofs.order.Carry.{Node, due, acted, semaphore, flag, Acquires, own, by-take, by-look, by-join, Releases, own-next, own-acted, by-give, by-set, by-start}
 
@@ -19,38 +20,38 @@ use Rattle.theory.proofs.order.Carry.{Node, due, acted, semaphore, flag
 abbrev pub row : Node → ℕ
 row (due t) = t
 row (acted t) = t
-row (semaphore s) = 16 + s
-row (flag f) = 48 + f
+row (semaphore s) = semaphoreRow s
+row (flag f) = flagRow f
 
 pub data InRange : Node → Type 0 where
-  due-in : {t : ℕ} → t < 16 → InRange (due t)
-  semaphore-in : {s : ℕ} → s < 32 → InRange (semaphore s)
-  flag-in : {f : ℕ} → f < 32 → InRange (flag f)
+  due-in : {t : ℕ} → t < tasks → InRange (due t)
+  semaphore-in : {s : ℕ} → s < semaphores → InRange (semaphore s)
+  flag-in : {f : ℕ} → f < flags → InRange (flag f)
 
 -- the semaphores and flags
 pub data Object : Node → Type 0 where
-  a-semaphore : {s : ℕ} → s < 32 → Object (semaphore s)
-  a-flag : {f : ℕ} → f < 32 → Object (flag f)
+  a-semaphore : {s : ℕ} → s < semaphores → Object (semaphore s)
+  a-flag : {f : ℕ} → f < flags → Object (flag f)
 
-pub object-row : {n : Node} → Object n → 16 ≤ row n
+pub object-row : {n : Node} → Object n → tasks ≤ row n
 object-row (a-semaphore h) = omega arith
 object-row (a-flag h) = omega arith
 
-pub row-below : {n : Node} → InRange n → row n < 80
+pub row-below : {n : Node} → InRange n → row n < hub
 row-below (due-in h) = omega arith
 row-below (semaphore-in h) = omega arith
 row-below (flag-in h) = omega arith
 
 abbrev pub node : ℕ → Node
-node r = cond (ltb r 16) (due r) (cond (ltb r 48) (semaphore (r - 16)) (flag (r - 48)))
+node r = cond (ltb r tasks) (due r) (cond (ltb r (tasks + semaphores)) (semaphore (r - tasks)) (flag (r - (tasks + semaphores))))
 
 minus : (k n : ℕ) → k + n - k ≡ n
 minus k n = omega arith
 
 pub node-row : {n : Node} → InRange n → node (row n) ≡ n
-node-row (due-in {t = t} h) = rw (lt-ltb t 16 h)
-node-row (semaphore-in {s = s} h) = rw (le-ltb (16 + s) 16 (omega arith), lt-ltb (16 + s) 48 (omega arith), minus 16 s)
-node-row (flag-in {f = f} h) = rw (le-ltb (48 + f) 16 (omega arith), le-ltb (48 + f) 48 (omega arith), minus 48 f)
+node-row (due-in {t = t} h) = rw (lt-ltb t tasks h)
+node-row (semaphore-in {s = s} h) = rw (le-ltb (semaphoreRow s) tasks (omega arith), lt-ltb (semaphoreRow s) (tasks + semaphores) (omega arith), minus tasks s)
+node-row (flag-in {f = f} h) = rw (le-ltb (flagRow f) tasks (omega arith), le-ltb (flagRow f) (tasks + semaphores) (omega arith), minus (tasks + semaphores) f)
 
 -- the row tells the node
 pub row-one : {n m : Node} → InRange n → InRange m → row n ≡ row m → n ≡ m
@@ -96,7 +97,7 @@ released-row o t n = by-role (role o)
     by-role a-join = refl
     by-role (plain x) = rw (x .not-give, x .not-set, x .not-start)
 
-pub read-in : (o : Op) {t n : ℕ} (joins : Bool) → t < 16 → n < series o → InRange (readNode o t n joins)
+pub read-in : (o : Op) {t n : ℕ} (joins : Bool) → t < tasks → n < series o → InRange (readNode o t n joins)
 read-in o {t} {n} joins h l = by-role (role o) joins l
   where
     by-role : {o : Op} → Role o → (joins : Bool) → n < series o → InRange (readNode o t n joins)
@@ -109,7 +110,7 @@ read-in o {t} {n} joins h l = by-role (role o) joins l
     by-role a-join false l = due-in h
     by-role (plain x) joins l = rw (x .not-take, x .not-look, x .not-join) (due-in h)
 
-pub released-in : (o : Op) {t n : ℕ} → t < 16 → n < series o → InRange (releasedNode o t n)
+pub released-in : (o : Op) {t n : ℕ} → t < tasks → n < series o → InRange (releasedNode o t n)
 released-in o {t} {n} h l = by-role (role o) l
   where
     by-role : {o : Op} → Role o → n < series o → InRange (releasedNode o t n)
@@ -170,7 +171,7 @@ acquired-read o t n joins = by-role (role o)
 pub plain-acquired : {o : Op} → Plain o → (t n : ℕ) → acquiredNode o t n ≡ due t
 plain-acquired x t n = rw (x .not-take, x .not-look, x .not-join)
 
-pub joined-in : {o : Op} {t n : ℕ} → Acquires (acted n) (act o t n) → n < series o → n < 16
+pub joined-in : {o : Op} {t n : ℕ} → Acquires (acted n) (act o t n) → n < series o → n < tasks
 joined-in by-join l = l
 
 pub releases-cases : {o : Op} {t n : ℕ} {p : Node} → Releases (act o t n) p → (p ≡ due t) ⊎ ((p ≡ acted t) ⊎ (p ≡ releasedNode o t n))
@@ -181,10 +182,10 @@ releases-cases by-set = inr (inr refl)
 releases-cases by-start = inr (inr refl)
 
 -- a row of an object that an act releases to is that of the object it names
-pub released-object : (o : Op) {t n : ℕ} → t < 16 → n < series o → 16 ≤ row (releasedNode o t n) → Object (releasedNode o t n)
+pub released-object : (o : Op) {t n : ℕ} → t < tasks → n < series o → tasks ≤ row (releasedNode o t n) → Object (releasedNode o t n)
 released-object o {t} {n} h l k = by-role (role o) l k
   where
-    by-role : {o : Op} → Role o → n < series o → 16 ≤ row (releasedNode o t n) → Object (releasedNode o t n)
+    by-role : {o : Op} → Role o → n < series o → tasks ≤ row (releasedNode o t n) → Object (releasedNode o t n)
     by-role a-take l k = absurd (omega arith)
     by-role a-give l k = a-semaphore l
     by-role a-look l k = absurd (omega arith)
@@ -193,5 +194,5 @@ released-object o {t} {n} h l k = by-role (role o) l k
     by-role a-join l k = absurd (omega arith)
     by-role {o} (plain x) l k = absurd (not-object (rw (x .not-give, x .not-set, x .not-start) at k))
       where
-        not-object : 16 ≤ t → ⊥
+        not-object : tasks ≤ t → ⊥
         not-object k = omega arith

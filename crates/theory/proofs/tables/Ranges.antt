@@ -9,11 +9,11 @@ use native.Mathlib.Omega.{arith}
 use lib.Dec.{T, ltb, eqb}
 use lib.ListN.{length}
 use Rattle.theory.specs.order.Limits.{tasks, variables}
-use Rattle.theory.specs.order.Recording.{Op, kind, isAccess, lossMark, Kind, of-op, of-mark, kinds, kindAt, accessBy, accesses, seriesOf}
+use Rattle.theory.specs.order.Recording.{Op, take, give, look, set, start, join, kind, isAccess, lossMark, Kind, of-op, of-mark, kinds, kindAt, accessBy, accesses, seriesOf}
 use Rattle.theory.specs.order.Path.{rule}
-use Rattle.theory.specs.history.History.{clashBy}
+use Rattle.theory.specs.history.History.{kindClashes}
 use Rattle.theory.specs.acceptance.Table.{Fitting, Proper}
-use Rattle.theory.specs.tables.Rows.{cell, actedRow, joinsActed, acquiredRow, releasedRow, onward}
+use Rattle.theory.specs.tables.Rows.{cell, actedRow, joinsActed, acquiredRow, releasedRow, onward, hub, tableRows}
 use Rattle.theory.proofs.basics.Reflects.{Reflects, right, wrong, equal, at-most}
 use Rattle.theory.proofs.order.Ops.{Role, a-take, a-give, a-look, a-set, a-start, a-join, plain, role, op-of, access-kind, access-on, series-op}
 use Rattle.theory.proofs.order.Numbered.{kind-above}
@@ -21,15 +21,15 @@ use Rattle.theory.proofs.tables.Rows.{Same}
 use Rattle.theory.proofs.tables.Acts.{flow-alone}
 
 -- a row that is chosen by a test is in the table if each choice is
-chosen : (b : Bool) (x y : ℕ) → (b ≡ true → x < 80) → y < 80 → cond b x y < 80
+chosen : (b : Bool) (x y : ℕ) → (b ≡ true → x < hub) → y < hub → cond b x y < hub
 chosen true x y h l = h refl
 chosen false x y h l = l
 
 -- one that is chosen by the kind
-of-kind : (k j x y : ℕ) → (k ≡ j → x < 80) → y < 80 → cond (eqb k j) x y < 80
+of-kind : (k j x y : ℕ) → (k ≡ j → x < hub) → y < hub → cond (eqb k j) x y < hub
 of-kind k j x y h l = decided (equal k j)
   where
-    decided : {b : Bool} → Reflects (k ≡ j) b → cond b x y < 80
+    decided : {b : Bool} → Reflects (k ≡ j) b → cond b x y < hub
     decided (right e) = h e
     decided (wrong n) = l
 
@@ -38,27 +38,27 @@ on-below : {k t n : ℕ} (j : ℕ) → Fitting k t n → k ≡ j → n < seriesO
 on-below {n = n} j f e = subst (λ (i : ℕ). n < seriesOf i) e (f .on-fits)
 
 -- the rows that an act acquires and releases to are of tasks and objects
-pub acquired-fits : {k t n : ℕ} {joins : Bool} → Fitting k t n → (joins ≡ true → k ≡ 7) → acquiredRow k t n joins < 80
+pub acquired-fits : {k t n : ℕ} {joins : Bool} → Fitting k t n → (joins ≡ true → k ≡ kind join) → acquiredRow k t n joins < hub
 acquired-fits {k} {t} {n} {joins} f j =
     let h = f .task-fits in
-    of-kind k 2 _ _ (λ e. let l = on-below 2 f e in omega arith)
-    (of-kind k 4 _ _ (λ e. let l = on-below 4 f e in omega arith) (chosen joins n t (λ e. let l = on-below 7 f (j e) in omega arith) (omega arith)))
+    of-kind k (kind take) _ _ (λ e. let l = on-below (kind take) f e in omega arith)
+    (of-kind k (kind look) _ _ (λ e. let l = on-below (kind look) f e in omega arith) (chosen joins n t (λ e. let l = on-below (kind join) f (j e) in omega arith) (omega arith)))
 
-pub released-fits : {k t n : ℕ} → Fitting k t n → releasedRow k t n < 80
+pub released-fits : {k t n : ℕ} → Fitting k t n → releasedRow k t n < hub
 released-fits {k} {t} {n} f =
     let h = f .task-fits in
-    of-kind k 3 _ _ (λ e. let l = on-below 3 f e in omega arith)
-    (of-kind k 5 _ _ (λ e. let l = on-below 5 f e in omega arith) (of-kind k 6 _ _ (λ e. let l = on-below 6 f e in omega arith) (omega arith)))
+    of-kind k (kind give) _ _ (λ e. let l = on-below (kind give) f e in omega arith)
+    (of-kind k (kind set) _ _ (λ e. let l = on-below (kind set) f e in omega arith) (of-kind k (kind start) _ _ (λ e. let l = on-below (kind start) f e in omega arith) (omega arith)))
 
 -- so they are in the table
-pub row-fits : {x y : ℕ} → x ≡ y → y < 80 → x < 82
+pub row-fits : {x y : ℕ} → x ≡ y → y < hub → x < tableRows
 row-fits e h = omega arith
 
 -- an act that joins a task that has acted is a join
-pub joins-kind : (w : ℕ) (b : List ℕ) (k on : ℕ) → joinsActed w b k on ≡ true → k ≡ 7
-joins-kind w b k on e = decided (equal k 7) e
+pub joins-kind : (w : ℕ) (b : List ℕ) (k on : ℕ) → joinsActed w b k on ≡ true → k ≡ kind join
+joins-kind w b k on e = decided (equal k (kind join)) e
   where
-    decided : {c : Bool} → Reflects (k ≡ 7) c → (c && ltb 0 (cell w b actedRow on)) ≡ true → k ≡ 7
+    decided : {c : Bool} → Reflects (k ≡ kind join) c → (c && ltb 0 (cell w b actedRow on)) ≡ true → k ≡ kind join
     decided (right q) e = q
     decided (wrong n) e = absurd (true≢false (sym e))
 
@@ -96,7 +96,7 @@ access-alone w b k t n e =
     by-role a-join a = absurd a
 
 -- so it passes nothing on, in clocks and sets alike
-pub access-onward : {j : ℕ → ℕ → ℕ} → Same j → (w : ℕ) (asked : Bool) (k t n : ℕ) (b : List ℕ) → accesses k ≡ true → t < 16 → b ≡ onward j w asked k t n b
+pub access-onward : {j : ℕ → ℕ → ℕ} → Same j → (w : ℕ) (asked : Bool) (k t n : ℕ) (b : List ℕ) → accesses k ≡ true → t < tasks → b ≡ onward j w asked k t n b
 access-onward s w asked k t n b h l = let a = access-alone w b k t n h in rw (a .0, a .1) (flow-alone s w asked t b l)
 
 -- `on` of an access is a variable
@@ -110,9 +110,9 @@ pub access-proper : {k t n : ℕ} → Proper k t n → accesses k ≡ true → (
 access-proper {k} p e = let f = p .act-fits (access-acts k e) in (f .task-fits, access-fits f e)
 
 -- what clashes with something is an access
-pub clash-access : (k : ℕ) (p : Op) → true ≡ clashBy (kindAt k) p → accesses k ≡ true
+pub clash-access : (k : ℕ) (p : Op) → true ≡ kindClashes (kindAt k) p → accesses k ≡ true
 clash-access k p e = of (kindAt k) e
   where
-    of : (y : Kind) → true ≡ clashBy y p → accessBy y ≡ true
+    of : (y : Kind) → true ≡ kindClashes y p → accessBy y ≡ true
     of (of-op o) e = and-elim-left (isAccess o) (isAccess p && rule o p) (sym e)
     of of-mark e = absurd (true≢false e)

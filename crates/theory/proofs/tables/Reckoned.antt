@@ -1,20 +1,22 @@
 -- Each reckoning on its own says which tasks' latest conflicting access has no path to an access: just where Order has none, in the
 -- recording as it arrived and in the fullest filling. Assumes nothing.
 use mathlib.Core.Path.{_≡_, refl, sym, _∙_, ap, subst}
-use mathlib.Core.Bool.{Bool, _&&_, not}
+use mathlib.Core.Bool.{Bool, false, _&&_, not}
 use mathlib.Core.Logic.{_↔_, _⊎_, inl, inr, _≢_}
 use mathlib.Core.List.{List}
-use Prim.Native.Nat.{ℕ, zero, suc, _≤_, _<_, zero-le, _+_, _*_}
+use Prim.Native.Nat.{ℕ, zero, suc, _<_, zero-le, _+_, _*_}
 use native.Mathlib.Nat.{le-refl}
 use native.Mathlib.Omega.{arith}
 use lib.ListN.{getD}
+use borrow.Author.Tests.{le-ltb}
 use lib.Dec.{T, ltb}
 use Rattle.theory.specs.order.Recording.{Op, Event, act, lost, kind, ActsIn, acts, isAccess}
 use Rattle.theory.specs.order.Path.{Conflict, conflict}
 use Rattle.theory.specs.fillings.Completion.{bit, fillWith, Filling, filling}
 use Rattle.theory.specs.tables.Rows.{cell}
-use Rattle.theory.specs.history.History.{askAt, slot, slots, latestSlot, latestNumber}
+use Rattle.theory.specs.history.History.{askAt, slot, latestSlot, latestNumber}
 use Rattle.theory.specs.tables.Reckonings.{hasSlot, knownSlots, clockApart, setApart, maskOf, setMask, clockMask}
+use Rattle.theory.specs.order.Limits.{tasks, variables}
 use Rattle.theory.proofs.basics.Reflects.{Reflects, right, wrong, by-test, equal, at-most, fails, both, passed, passes}
 use Rattle.theory.proofs.order.Leads.{Leads}
 use Rattle.theory.proofs.order.Carry.{Node, due, Acquires, own, own-next, Carry, pass, move, carry-skip, carry-append}
@@ -74,175 +76,165 @@ occurs-there {es} {after} {e = e} q o = subst (λ (k : ℕ). Occurs es k e after
 -- What a slot keeps
 
 -- a slot of a task keeps accesses of the task
-slot-task : (p : Op) {v u : ℕ} {e : Event} → v < 64 → u < 16 → InSlot (latestSlot (kind p) v u) e → ActsIn u e
+slot-task : (p : Op) {v u : ℕ} {e : Event} → v < variables → u < tasks → InSlot (latestSlot (kind p) v u) e → ActsIn u e
 slot-task p {u = u} hv hu (in-slot {o = o} {u = t} {v = n} a h c ht hn e) =
     subst (λ (y : ℕ). ActsIn u (act o y n)) (slot-one {a = askAt (kind p)} {a′ = a} hv hn hu ht e .2) acts
 
 -- order from an act of a task has come to the task's next act
-acts-reach : {w : Filling} {u : ℕ} {e : Event} {after : List Event} → ActsIn u e → Reach w e after (due u)
+pub acts-reach : {w : Filling} {u : ℕ} {e : Event} {after : List Event} → ActsIn u e → Reach w e after (due u)
 acts-reach {u = u} acts = record { n = due u; released = own-next; carried = carry-skip _ }
 
 -- Candidates by the number
 
 -- the latest conflicting access of task u, by its number and place, with or without a path
-module _ {w : Filling} {es : List Event} {last : List ℕ} {p : Op} {t v u : ℕ} (h : ExactHistory es last) (ap : T (isAccess p)) (hv : v < 64) (hu : u < 16) (apart : u ≢ t) where
+module _ {w : Filling} {es : List Event} {last : List ℕ} {p : Op} {t v u : ℕ} (h : ExactHistory es last) (ap : T (isAccess p)) (hv : v < variables) (hu : u < tasks) (apart : u ≢ t) where
   candidate-of : {i : ℕ} (f : Final u (act p t v) es i) → ¬ Reach w (f .x) (f .after) (due t) → Candidate (filling w) (act p t v) es u i
   candidate-of f n =
       record {
         e = f .x;
         after = f .after;
         occurs = f .occurs;
-        apart = record { acting = f .acting; conflict = f .conflict; none = f .none; unordered = λ l. n (leads-due ap l) };
+        apart = record { against = f .against; none = f .none; unordered = λ l. n (leads-due ap l) };
       }
 
 final-of : {g : ℕ → List Event} {f : Event} {es : List Event} {u i : ℕ} → Candidate g f es u i → Final u f es i
-final-of c = let a = c .apart in record { x = c .e; after = c .after; occurs = c .occurs; acting = a .acting; conflict = a .conflict; none = a .none }
+final-of c = let a = c .apart in record { x = c .e; after = c .after; occurs = c .occurs; against = a .against; none = a .none }
 
 -- a candidate's task is another than the access's
 candidate-apart : {g : ℕ → List Event} {p : Op} {t v : ℕ} {es : List Event} {u i : ℕ} → Candidate g (act p t v) es u i → u ≢ t
-candidate-apart c = of (c .apart .acting) (c .apart .conflict)
+candidate-apart c = of (c .apart .against .by) (c .apart .against .conflict)
   where
     of : {u t v : ℕ} {p : Op} {e : Event} → ActsIn u e → Conflict e (act p t v) → u ≢ t
     of acts (conflict n w) = n
 
--- Clocks
+-- The access that a number tells
 
-module _ {w : Filling} {es : List Event} {b last : List ℕ} (p : Op) (t v : ℕ) (x : ExactClocks w es b) (h : ExactHistory es last) (ap : T (isAccess p)) (ht : t < 16)
-    (hv : v < 64) where
-  -- what the cell of the task's next act and column u says
-  clock-cell : (u i : ℕ) → u < 16 → (i < cell 16 b t u) ↔ Came w (OfTask u) es i (due t)
-  clock-cell u i hu = (λ l. x .column u i hu .cells (due t) (due-in ht) .0 (record { knows = l }), λ c. x .column u i hu .cells (due t) (due-in ht) .1 c .knows)
-
-  clock-test : (u : ℕ) → Reflects (cell 16 b t u < latestNumber last (kind p) v u) (clockApart b last (kind p) t v u)
-  clock-test u = at-most (suc (cell 16 b t u)) (latestNumber last (kind p) v u)
-
-  -- the task knows of its own
-  clock-other : (u i : ℕ) → u < 16 → latestNumber last (kind p) v u ≡ suc i → cell 16 b t u < suc i → u ≢ t
-  clock-other u i hu n l e = let k = clock-cell u i hu .1 (subst (λ (y : ℕ). Came w (OfTask u) es i (due y)) e own-came) in omega arith
-    where
-      own-came : Came w (OfTask u) es i (due u)
-      own-came =
-          let d = h .held (latestSlot (kind p) v u) i (latest-below p hv hu) .0 (omega arith) in
-          let a = slot-task p hv hu (d .inside) in
-          record { j = d .j; e = d .e; after = d .after; recent = d .recent; occurs = d .occurs; chosen = a; reach = acts-reach a }
-
-  pub clock-sound : (u : ℕ) → u < 16 → T (clockApart b last (kind p) t v u) →
-      (i : ℕ) × Candidate (filling w) (act p t v) es u i × (latestNumber last (kind p) v u ≡ suc i)
-  clock-sound u hu a = found (latestNumber last (kind p) v u) refl
-    where
-      test : cell 16 b t u < latestNumber last (kind p) v u
-      test = passed (clock-test u) a
-
-      found : (l : ℕ) → latestNumber last (kind p) v u ≡ l → (i : ℕ) × Candidate (filling w) (act p t v) es u i × (latestNumber last (kind p) v u ≡ suc i)
-      found zero e = let k = test in absurd (omega arith)
-      found (suc i) e =
-          let other = clock-other u i hu e (rw e at test) in
-          let f = number-final h ap hv hu other e in
-          (i, candidate-of {w = w} h ap hv hu other f (λ r. over f r), e)
-        where
-          over : (f : Final u (act p t v) es i) → Reach w (f .x) (f .after) (due t) → ⊥
-          over f r =
-              let c = clock-cell u i hu .1 (record { j = i; e = f .x; after = f .after; recent = le-refl i; occurs = f .occurs; chosen = f .acting; reach = r }) in
-              let k = test in
-              omega arith
-
-  pub clock-complete : (u i : ℕ) → u < 16 → Candidate (filling w) (act p t v) es u i → T (clockApart b last (kind p) t v u)
-  clock-complete u i hu c = passes (clock-test u) (decided (at-most (latestNumber last (kind p) v u) (cell 16 b t u)))
-    where
-      number : latestNumber last (kind p) v u ≡ suc i
-      number = final-number h ap hv hu (candidate-apart c) (final-of c)
-
-      ordered : Came w (OfTask u) es i (due t) → Reach w (c .e) (c .after) (due t)
-      ordered d = by-place (equal i (d .j))
-        where
-          by-place : {q : Bool} → Reflects (i ≡ d .j) q → Reach w (c .e) (c .after) (due t)
-          by-place (right e) = occurs-same (λ e after. Reach w e after (due t)) (c .occurs) (occurs-there e (d .occurs)) (d .reach)
-          by-place (wrong n) = let k = d .recent in reach-older (c .occurs) (d .occurs) (omega arith) (c .apart .acting) (d .chosen) (d .reach)
-
-      decided : {q : Bool} → Reflects (latestNumber last (kind p) v u ≤ cell 16 b t u) q → cell 16 b t u < latestNumber last (kind p) v u
-      decided (right l) = absurd (c .apart .unordered (due-leads ap (ordered (clock-cell u i hu .0 (omega (arith, number))))))
-      decided (wrong l) = omega arith
-
--- Sets
-
-module _ {w : Filling} {es : List Event} {b last : List ℕ} (p : Op) (t v : ℕ) (x : ExactSets w es b) (h : ExactHistory es last) (ap : T (isAccess p)) (ht : t < 16)
-    (hv : v < 64) where
-  set-cell : (s : ℕ) → s < slots → T (hasSlot b t s) ↔ Came w (KeptIn s) es 0 (due t)
-  set-cell s l = (λ k. x .column s l .cells (due t) (due-in ht) .0 (record { knows = k }), λ c. x .column s l .cells (due t) (due-in ht) .1 c .knows)
-
-  set-test : (u : ℕ) → Reflects ((0 < latestNumber last (kind p) v u) × (¬ T (hasSlot b t (latestSlot (kind p) v u)))) (setApart b last (kind p) t v u)
-  set-test u = both (at-most 1 (latestNumber last (kind p) v u)) (fails (by-test (hasSlot b t (latestSlot (kind p) v u))))
-
-  slot-in : (u : ℕ) → u < 16 → latestSlot (kind p) v u < slots
-  slot-in u hu = latest-below p hv hu
-
-  -- the access at the place that the slot's number tells is the one that the slot keeps
-  kept-at : (u i : ℕ) → u < 16 → latestNumber last (kind p) v u ≡ suc i → {e : Event} {after : List Event} → Occurs es i e after → KeptIn (latestSlot (kind p) v u) e after
-  kept-at u i hu n {after = rest} o =
-      let d = h .held (latestSlot (kind p) v u) i (slot-in u hu) .0 (omega arith) in
-      let k = h .held (latestSlot (kind p) v u) (d .j) (slot-in u hu) .1 (record { j = d .j; e = d .e; after = d .after; recent = le-refl _; occurs = d .occurs; inside = d .inside }) in
+module _ {es : List Event} {last : List ℕ} (p : Op) {v u i : ℕ} (h : ExactHistory es last) (hv : v < variables) (hu : u < tasks) (n : latestNumber last (kind p) v u ≡ suc i) where
+  told : (e : Event) × (after : List Event) × Occurs es i e after × InSlot (latestSlot (kind p) v u) e
+  told =
+      let d = h .held (latestSlot (kind p) v u) i (latest-below p hv hu) .0 (omega arith) in
+      let k = h .held (latestSlot (kind p) v u) (d .j) (latest-below p hv hu) .1 (record { j = d .j; e = d .e; after = d .after; recent = le-refl _; occurs = d .occurs; inside = d .inside }) in
       let l = d .recent in
       let q : i ≡ d .j = omega arith in
-      (occurs-same (λ e after. InSlot (latestSlot (kind p) v u) e) o (occurs-there q (d .occurs)) (d .inside), λ s. later (some-occurs s))
+      (d .e, d .after, occurs-there q (d .occurs), d .inside)
+
+  -- it is the one that the slot keeps
+  kept-at : {e : Event} {after : List Event} → Occurs es i e after → KeptIn (latestSlot (kind p) v u) e after
+  kept-at {after = rest} o = let d = told in (occurs-same (λ e after. InSlot (latestSlot (kind p) v u) e) o (d .2) (d .3), λ s. later (some-occurs s))
     where
       later : (j : ℕ) × (e : Event) × (after′ : List Event) × Occurs rest j e after′ × InSlot (latestSlot (kind p) v u) e → ⊥
       later (j, e, after′, q, a) =
           let (j′, m, r) = occurs-after o q in
-          let k = h .held (latestSlot (kind p) v u) j′ (slot-in u hu) .1 (record { j = j′; e = e; after = after′; recent = le-refl _; occurs = r; inside = a }) in
+          let k = h .held (latestSlot (kind p) v u) j′ (latest-below p hv hu) .1 (record { j = j′; e = e; after = after′; recent = le-refl _; occurs = r; inside = a }) in
           omega arith
 
-  set-other : (u i : ℕ) → u < 16 → latestNumber last (kind p) v u ≡ suc i → ¬ T (hasSlot b t (latestSlot (kind p) v u)) → u ≢ t
-  set-other u i hu n f e = f (set-cell (latestSlot (kind p) v u) (slot-in u hu) .1 (subst (λ (y : ℕ). Came w (KeptIn (latestSlot (kind p) v u)) es 0 (due y)) e own-came))
-    where
-      own-came : Came w (KeptIn (latestSlot (kind p) v u)) es 0 (due u)
-      own-came =
-          let d = h .held (latestSlot (kind p) v u) i (slot-in u hu) .0 (omega arith) in
-          let k = h .held (latestSlot (kind p) v u) (d .j) (slot-in u hu) .1 (record { j = d .j; e = d .e; after = d .after; recent = le-refl _; occurs = d .occurs; inside = d .inside }) in
-          let l = d .recent in
-          let q : i ≡ d .j = omega arith in
-          let o = occurs-there q (d .occurs) in
-          record { j = i; e = d .e; after = d .after; recent = zero-le; occurs = o; chosen = kept-at u i hu n o; reach = acts-reach (slot-task p hv hu (d .inside)) }
+-- a slot keeps one access
+one-kept : {es : List Event} {s i j : ℕ} {e f : Event} {after after′ : List Event} → Occurs es i e after → KeptIn s e after → Occurs es j f after′ → KeptIn s f after′ → i ≡ j
+one-kept {i = i} {j = j} o k o′ k′ = decided (equal i j) (at-most (suc i) j)
+  where
+    decided : {c d : Bool} → Reflects (i ≡ j) c → Reflects (i < j) d → i ≡ j
+    decided (right e) l = e
+    decided (wrong n) (right l) = absurd (k .1 (some-after o o′ l (k′ .0)))
+    decided (wrong n) (wrong m) = absurd (k′ .1 (some-after o′ o (omega arith) (k .0)))
 
-  pub set-sound : (u : ℕ) → u < 16 → T (setApart b last (kind p) t v u) →
-      (i : ℕ) × Candidate (filling w) (act p t v) es u i × (latestNumber last (kind p) v u ≡ suc i)
-  set-sound u hu a = found (latestNumber last (kind p) v u) refl
+-- A test that tells whether order from that access has come to task t's next act; where there is none it fails
+
+pub record Tells (w : Filling) (es : List Event) (last : List ℕ) (p : Op) (t v u : ℕ) (apart : Bool) : Type 0 where
+  pub none : latestNumber last (kind p) v u ≡ 0 → apart ≡ false
+  pub tells : {i : ℕ} {e : Event} {after : List Event} → Occurs es i e after → ActsIn u e → latestNumber last (kind p) v u ≡ suc i → T (not apart) ↔ Reach w e after (due t)
+
+-- such a test finds the candidates, for clocks and for sets
+module _ {w : Filling} {es : List Event} {last : List ℕ} {apart : Bool} (p : Op) {t v u : ℕ} (x : Tells w es last p t v u apart) (h : ExactHistory es last) (ap : T (isAccess p))
+    (hv : v < variables) (hu : u < tasks) where
+  pub sound : T apart → (i : ℕ) × Candidate (filling w) (act p t v) es u i × (latestNumber last (kind p) v u ≡ suc i)
+  sound a = found (latestNumber last (kind p) v u) refl
     where
-      test : (0 < latestNumber last (kind p) v u) × (¬ T (hasSlot b t (latestSlot (kind p) v u)))
-      test = passed (set-test u) a
+      unreached : {i : ℕ} {e : Event} {after : List Event} → Occurs es i e after → ActsIn u e → latestNumber last (kind p) v u ≡ suc i → ¬ Reach w e after (due t)
+      unreached o b n r = passed (fails (by-test apart)) (x .tells o b n .1 r) a
+
+      -- order from a task's own has come to its next act
+      other : {i : ℕ} → latestNumber last (kind p) v u ≡ suc i → u ≢ t
+      other n q =
+          let (e, after, o, b) = told p h hv hu n in
+          let c = slot-task p hv hu b in
+          unreached o c n (subst (λ (y : ℕ). Reach w e after (due y)) q (acts-reach c))
 
       found : (l : ℕ) → latestNumber last (kind p) v u ≡ l → (i : ℕ) × Candidate (filling w) (act p t v) es u i × (latestNumber last (kind p) v u ≡ suc i)
-      found zero e = let k = test .0 in absurd (omega arith)
+      found zero e = absurd (subst T (x .none e) a)
       found (suc i) e =
-          let other = set-other u i hu e (test .1) in
-          let f = number-final h ap hv hu other e in
-          (i, candidate-of {w = w} h ap hv hu other f (λ r. over f r), e)
-        where
-          over : (f : Final u (act p t v) es i) → Reach w (f .x) (f .after) (due t) → ⊥
-          over f r =
-              test .1 (set-cell (latestSlot (kind p) v u) (slot-in u hu) .1
-              (record { j = i; e = f .x; after = f .after; recent = zero-le; occurs = f .occurs; chosen = kept-at u i hu e (f .occurs); reach = r }))
+          let f = number-final h ap hv hu (other e) e in
+          (i, candidate-of {w = w} h ap hv hu (other e) f (unreached (f .occurs) (f .against .by) e), e)
 
-  pub set-complete : (u i : ℕ) → u < 16 → Candidate (filling w) (act p t v) es u i → T (setApart b last (kind p) t v u)
-  set-complete u i hu c = passes (set-test u) (omega (arith, number), λ a. c .apart .unordered (due-leads ap (ordered (set-cell (latestSlot (kind p) v u) (slot-in u hu) .0 a))))
+  pub complete : {i : ℕ} → Candidate (filling w) (act p t v) es u i → T apart
+  complete c = decided (by-test apart)
     where
-      number : latestNumber last (kind p) v u ≡ suc i
-      number = final-number h ap hv hu (candidate-apart c) (final-of c)
+      decided : {b : Bool} → Reflects (T apart) b → T apart
+      decided (right a) = a
+      decided (wrong f) =
+          let n = final-number h ap hv hu (candidate-apart c) (final-of c) in
+          absurd (c .apart .unordered (due-leads ap (x .tells (c .occurs) (c .apart .against .by) n .0 (passes (fails (by-test apart)) f))))
 
-      -- the slot keeps one access, the candidate
-      ordered : Came w (KeptIn (latestSlot (kind p) v u)) es 0 (due t) → Reach w (c .e) (c .after) (due t)
-      ordered d = by-place (equal i (d .j))
+-- The tests of the clocks and of the sets are such
+
+module _ {w : Filling} {es : List Event} {b last : List ℕ} (p : Op) {t v u : ℕ} (h : ExactHistory es last) (ht : t < tasks) (hv : v < variables) (hu : u < tasks) where
+  pub clock-tells : ExactClocks w es b → Tells w es last p t v u (clockApart b last (kind p) t v u)
+  clock-tells x = record { none = λ e. rw (e, le-ltb (cell tasks b t u) 0 zero-le); tells = tells }
+    where
+      -- what the cell of the task's next act and column u says
+      column : (i : ℕ) → (i < cell tasks b t u) ↔ Came w (OfTask u) es i (due t)
+      column i = (λ l. x .column u i hu .cells (due t) (due-in ht) .0 (record { knows = l }), λ c. x .column u i hu .cells (due t) (due-in ht) .1 c .knows)
+
+      test : Reflects (¬ (cell tasks b t u < latestNumber last (kind p) v u)) (not (clockApart b last (kind p) t v u))
+      test = fails (at-most (suc (cell tasks b t u)) (latestNumber last (kind p) v u))
+
+      tells : {i : ℕ} {e : Event} {after : List Event} → Occurs es i e after → ActsIn u e → latestNumber last (kind p) v u ≡ suc i →
+          T (not (clockApart b last (kind p) t v u)) ↔ Reach w e after (due t)
+      tells {i} {e} {after} q a n = (λ y. let f = passed test y in came (column i .0 (omega arith)), λ r. passes test (known r))
         where
-          held-number : d .j < latestNumber last (kind p) v u
-          held-number = h .held (latestSlot (kind p) v u) (d .j) (slot-in u hu) .1 (record { j = d .j; e = d .e; after = d .after; recent = le-refl _; occurs = d .occurs; inside = d .chosen .0 })
+          came : Came w (OfTask u) es i (due t) → Reach w e after (due t)
+          came d = by-place (equal i (d .j))
+            where
+              by-place : {c : Bool} → Reflects (i ≡ d .j) c → Reach w e after (due t)
+              by-place (right y) = occurs-same (λ e after. Reach w e after (due t)) q (occurs-there y (d .occurs)) (d .reach)
+              by-place (wrong f) = let k = d .recent in reach-older q (d .occurs) (omega arith) a (d .chosen) (d .reach)
 
-          by-place : {q : Bool} → Reflects (i ≡ d .j) q → Reach w (c .e) (c .after) (due t)
-          by-place (right e) = occurs-same (λ e after. Reach w e after (due t)) (c .occurs) (occurs-there e (d .occurs)) (d .reach)
-          by-place (wrong n) = absurd (d .chosen .1 (some-after (d .occurs) (c .occurs) (omega (arith, number, held-number)) (kept-at u i hu number (c .occurs) .0)))
+          known : Reach w e after (due t) → ¬ (cell tasks b t u < latestNumber last (kind p) v u)
+          known r l =
+              let k = column i .1 (record { j = i; e = e; after = after; recent = le-refl i; occurs = q; chosen = a; reach = r }) in
+              omega arith
+
+  pub set-tells : ExactSets w es b → Tells w es last p t v u (setApart b last (kind p) t v u)
+  set-tells x = record { none = λ e. rw e; tells = tells }
+    where
+      column : T (hasSlot b t (latestSlot (kind p) v u)) ↔ Came w (KeptIn (latestSlot (kind p) v u)) es 0 (due t)
+      column =
+          let l = latest-below p hv hu in
+          (λ k. x .column (latestSlot (kind p) v u) l .cells (due t) (due-in ht) .0 (record { knows = k }), λ c. x .column (latestSlot (kind p) v u) l .cells (due t) (due-in ht) .1 c .knows)
+
+      test : Reflects (¬ ((0 < latestNumber last (kind p) v u) × (¬ T (hasSlot b t (latestSlot (kind p) v u))))) (not (setApart b last (kind p) t v u))
+      test = fails (both (at-most 1 (latestNumber last (kind p) v u)) (fails (by-test (hasSlot b t (latestSlot (kind p) v u)))))
+
+      tells : {i : ℕ} {e : Event} {after : List Event} → Occurs es i e after → ActsIn u e → latestNumber last (kind p) v u ≡ suc i →
+          T (not (setApart b last (kind p) t v u)) ↔ Reach w e after (due t)
+      tells {i} {e} {after} q a n = (λ y. came (column .0 (known (passed test y))), λ r. passes test (λ y. y .1 (column .1 (record { j = i; e = e; after = after; recent = zero-le; occurs = q; chosen = kept; reach = r }))))
+        where
+          kept : KeptIn (latestSlot (kind p) v u) e after
+          kept = kept-at p h hv hu n q
+
+          known : ¬ ((0 < latestNumber last (kind p) v u) × (¬ T (hasSlot b t (latestSlot (kind p) v u)))) → T (hasSlot b t (latestSlot (kind p) v u))
+          known f = decided (by-test (hasSlot b t (latestSlot (kind p) v u)))
+            where
+              decided : {c : Bool} → Reflects (T (hasSlot b t (latestSlot (kind p) v u))) c → T (hasSlot b t (latestSlot (kind p) v u))
+              decided (right y) = y
+              decided (wrong m) = absurd (f (omega arith, m))
+
+          came : Came w (KeptIn (latestSlot (kind p) v u)) es 0 (due t) → Reach w e after (due t)
+          came d = occurs-same (λ e after. Reach w e after (due t)) q (occurs-there (one-kept q kept (d .occurs) (d .chosen)) (d .occurs)) (d .reach)
 
 -- By rows
 
 -- the clocks' mask from the task's row and from what the history has for the kind
-pub mask-by-rows : (b last : List ℕ) (k t v : ℕ) {row from : ℕ} → row ≡ t * 16 → from ≡ slot (askAt k) v 0 →
+pub mask-by-rows : (b last : List ℕ) (k t v : ℕ) {row from : ℕ} → row ≡ t * tasks → from ≡ slot (askAt k) v 0 →
     maskOf (λ u. ltb (getD b (row + u) 0) (getD last (from + u) 0)) ≡ clockMask b last k t v
 mask-by-rows b last k t v e q =
     mask-ext _ (clockApart b last k t v) (λ u h. let p : slot (askAt k) v 0 + u ≡ slot (askAt k) v u = omega arith in rw (e, q, p))

@@ -11,14 +11,14 @@ use lib.Bits.{bitOr, or-self}
 use lib.ListN.{length, getD, set, length-set, replicate, length-replicate, getD-replicate}
 use lib.Seq.{set-getD, getD-set-same, getD-set-other, ext-getD}
 use Rattle.theory.specs.tables.Turns.{turns}
-use Rattle.theory.specs.tables.Rows.{cell, joinCell, joinRow, rowOf, joinWithCell, joinWith, acquiredWith, putRow}
+use Rattle.theory.specs.tables.Rows.{cell, joinCell, joinRow, rowOf, joinWithCell, joinWith, acquiredWith, putRow, tableRows}
 use Rattle.theory.proofs.basics.Reflects.{Reflects, right, wrong, equal, at-most}
 
 -- Definition
 
 -- a table of 82 rows
 pub record Sized (w : ℕ) (b : List ℕ) : Type 0 where
-  pub size : length b ≡ 82 * w
+  pub size : length b ≡ tableRows * w
 
 -- a cell that is joined with itself is as it was
 pub record Same (j : ℕ → ℕ → ℕ) : Type 0 where
@@ -77,8 +77,8 @@ sized-join {w} s j to from = sized-turns w (λ k x t. sized-set t _ _) s
 row-end : (w r q : ℕ) → r < q → r * w + w ≤ q * w
 row-end w r q h = omega (arith, suc-mul r w, mul-le-mul-right w h)
 
-pub in-table : {w : ℕ} {b : List ℕ} {r c : ℕ} → Sized w b → r < 82 → c < w → r * w + c < length b
-in-table {w} {r = r} s h l = omega (arith, row-end w r 82 h)
+pub in-table : {w : ℕ} {b : List ℕ} {r c : ℕ} → Sized w b → r < tableRows → c < w → r * w + c < length b
+in-table {w} {r = r} s h l = omega (arith, row-end w r tableRows h)
 
 -- each place is in one row and one column
 row-at-most : (w r q c d : ℕ) → d < w → r * w + c ≡ q * w + d → r ≤ q
@@ -96,7 +96,7 @@ one-place w r q c d l m e = (same, omega (arith, ap (λ (k : ℕ). k * w) same))
 
 -- Stores
 
-pub cell-set-same : {w : ℕ} {b : List ℕ} → Sized w b → (r c v : ℕ) → r < 82 → c < w → cell w (set b (r * w + c) v) r c ≡ v
+pub cell-set-same : {w : ℕ} {b : List ℕ} → Sized w b → (r c v : ℕ) → r < tableRows → c < w → cell w (set b (r * w + c) v) r c ≡ v
 cell-set-same {w} {b} s r c v h l = getD-set-same b (r * w + c) v 0 (in-table s h l)
 
 pub cell-set-other : (w : ℕ) (b : List ℕ) (q d v r c : ℕ) → d < w → c < w → ¬ ((r ≡ q) × (c ≡ d)) →
@@ -116,7 +116,7 @@ turns-other j w b to from (suc n) r c h l f =
 
 module _ (j : ℕ → ℕ → ℕ) {w : ℕ} {b : List ℕ} (s : Sized w b) (to from : ℕ) where
   -- and below n the joined row has both
-  turns-same : (n c : ℕ) → to < 82 → n ≤ w → c < n → cell w (turns n (joinCell j w to from) b) to c ≡ j (cell w b to c) (cell w b from c)
+  turns-same : (n c : ℕ) → to < tableRows → n ≤ w → c < n → cell w (turns n (joinCell j w to from) b) to c ≡ j (cell w b to c) (cell w b from c)
   unfolding turns
   turns-same zero c t h l = absurd (omega arith)
   turns-same (suc n) c t h l = decided (equal c n) (turns-same n c t (omega arith))
@@ -133,7 +133,7 @@ module _ (j : ℕ → ℕ → ℕ) {w : ℕ} {b : List ℕ} (s : Sized w b) (to 
       decided (right e) f = rw e (cell-set-same (sized-turns n (λ k x t. sized-set t _ _) s) to n _ t h ∙ (rw (here to, here from)))
       decided (wrong d) f = cell-set-other w past to n _ to c h (omega arith) (λ x. d (x .1)) ∙ f (omega arith)
 
-pub join-cell-same : (j : ℕ → ℕ → ℕ) {w : ℕ} {b : List ℕ} → Sized w b → (to from c : ℕ) → to < 82 → c < w →
+pub join-cell-same : (j : ℕ → ℕ → ℕ) {w : ℕ} {b : List ℕ} → Sized w b → (to from c : ℕ) → to < tableRows → c < w →
     cell w (joinRow j w to from b) to c ≡ j (cell w b to c) (cell w b from c)
 unfolding joinRow
 join-cell-same j {w} s to from c h l = turns-same j s to from w c h (omega arith) l
@@ -237,7 +237,7 @@ pub sized-put : {w : ℕ} {b : List ℕ} → Sized w b → (to : ℕ) (row : Lis
 unfolding putRow
 sized-put {w} s to row = sized-turns w (λ k x t. sized-set t _ _) s
 
-pub put-same : {w : ℕ} {b : List ℕ} → Sized w b → (to c : ℕ) (row : List ℕ) → to < 82 → c < w → cell w (putRow w to row b) to c ≡ getD row c 0
+pub put-same : {w : ℕ} {b : List ℕ} → Sized w b → (to c : ℕ) (row : List ℕ) → to < tableRows → c < w → cell w (putRow w to row b) to c ≡ getD row c 0
 unfolding putRow
 put-same {w} {b} s to c row h l = stores-at (to * w) (λ c x. getD row c 0) b w c l (in-table s h l)
 
@@ -345,7 +345,7 @@ join-nothing w to b = steps w (omega arith)
 
 -- What a joined row knows
 
-pub join-knows : {j : ℕ → ℕ → ℕ} {P : ℕ → Type 0} → Joins j P → {w : ℕ} {b : List ℕ} {to from r c : ℕ} → Sized w b → to < 82 → c < w →
+pub join-knows : {j : ℕ → ℕ → ℕ} {P : ℕ → Type 0} → Joins j P → {w : ℕ} {b : List ℕ} {to from r c : ℕ} → Sized w b → to < tableRows → c < w →
     Knows P w (joinRow j w to from b) r c ↔ (Knows P w b r c ⊎ ((r ≡ to) × Knows P w b from c))
 join-knows {j} {P} joins {w} {b} {to} {from} {r} {c} s h l = decided (equal r to)
   where
@@ -365,12 +365,12 @@ join-knows {j} {P} joins {w} {b} {to} {from} {r} {c} s h l = decided (equal r to
 
 -- Fresh tables
 
-pub sized-fresh : (w : ℕ) → Sized w (replicate (82 * w) 0)
-sized-fresh w = record { size = length-replicate (82 * w) 0 }
+pub sized-fresh : (w : ℕ) → Sized w (replicate (tableRows * w) 0)
+sized-fresh w = record { size = length-replicate (tableRows * w) 0 }
 
-pub fresh-cell : (w r c : ℕ) → r < 82 → c < w → cell w (replicate (82 * w) 0) r c ≡ 0
-fresh-cell w r c h l = getD-replicate (82 * w) (r * w + c) 0 0 (omega (arith, row-end w r 82 h))
+pub fresh-cell : (w r c : ℕ) → r < tableRows → c < w → cell w (replicate (tableRows * w) 0) r c ≡ 0
+fresh-cell w r c h l = getD-replicate (tableRows * w) (r * w + c) 0 0 (omega (arith, row-end w r tableRows h))
 
 -- nothing is known in a fresh table
-pub fresh-none : {P : ℕ → Type 0} → ¬ P 0 → (w r c : ℕ) → r < 82 → c < w → ¬ Knows P w (replicate (82 * w) 0) r c
+pub fresh-none : {P : ℕ → Type 0} → ¬ P 0 → (w r c : ℕ) → r < tableRows → c < w → ¬ Knows P w (replicate (tableRows * w) 0) r c
 fresh-none n w r c hr hc a = n (rw (fresh-cell w r c hr hc) at (a .knows))

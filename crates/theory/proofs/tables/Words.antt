@@ -15,7 +15,8 @@ use Rattle.theory.specs.fillings.Completion.{bit}
 use Rattle.theory.specs.acceptance.Table.{anyBelow}
 use Rattle.theory.specs.history.History.{slot}
 use Rattle.theory.specs.tables.Rows.{cell}
-use Rattle.theory.specs.tables.Reckonings.{slotWords, slotWord, slotPlace, hasSlot, knownSlots, withBit, withoutBit}
+use Rattle.theory.specs.tables.Reckonings.{slotWords, slotWord, slotPlace, hasSlot, knownSlots, withBit, withoutBit, wordBits}
+use Rattle.theory.specs.order.Limits.{tasks}
 use Rattle.theory.proofs.basics.Reflects.{Reflects, right, wrong, equal}
 use Rattle.theory.proofs.acceptance.Rows.{none-below}
 use Rattle.theory.proofs.tables.Rows.{Joins, same-or}
@@ -57,8 +58,8 @@ joins-or k = record { alone = same-or; joined = λ x y. subst (λ (d : ℕ). T (
 -- One bit
 
 -- a test that holds of every two bits of a word, by trying them
-all-pairs : (p : ℕ → ℕ → Bool) → anyBelow 32 (λ k. anyBelow 32 (λ j. not (p k j))) ≡ false → (k j : ℕ) → k < 32 → j < 32 → not (p k j) ≡ false
-all-pairs p e k j h l = none-below 32 (λ j. not (p k j)) (none-below 32 (λ k. anyBelow 32 (λ j. not (p k j))) e k h) j l
+all-pairs : (p : ℕ → ℕ → Bool) → anyBelow wordBits (λ k. anyBelow wordBits (λ j. not (p k j))) ≡ false → (k j : ℕ) → k < wordBits → j < wordBits → not (p k j) ≡ false
+all-pairs p e k j h l = none-below wordBits (λ j. not (p k j)) (none-below wordBits (λ k. anyBelow wordBits (λ j. not (p k j))) e k h) j l
 
 eqb-of : (m n : ℕ) → not (eqb m n) ≡ false → m ≡ n
 eqb-of m n e = decided (equal m n) e
@@ -67,37 +68,37 @@ eqb-of m n e = decided (equal m n) e
     decided (right q) e = q
     decided (wrong f) e = absurd (subst T e tt)
 
-one-digit : (k j : ℕ) → k < 32 → j < 32 → digit (2 ^ k) j ≡ cond (eqb j k) 1 0
+one-digit : (k j : ℕ) → k < wordBits → j < wordBits → digit (2 ^ k) j ≡ cond (eqb j k) 1 0
 unfolding turns
 one-digit k j h l = eqb-of _ _ (all-pairs (λ k j. eqb (digit (2 ^ k) j) (cond (eqb j k) 1 0)) refl k j h l)
 
-other-digit : (k j : ℕ) → k < 32 → j < 32 → digit (2 ^ 32 - 1 - 2 ^ k) j ≡ cond (eqb j k) 0 1
+other-digit : (k j : ℕ) → k < wordBits → j < wordBits → digit (2 ^ wordBits - 1 - 2 ^ k) j ≡ cond (eqb j k) 0 1
 unfolding turns
-other-digit k j h l = eqb-of _ _ (all-pairs (λ k j. eqb (digit (2 ^ 32 - 1 - 2 ^ k) j) (cond (eqb j k) 0 1)) refl k j h l)
+other-digit k j h l = eqb-of _ _ (all-pairs (λ k j. eqb (digit (2 ^ wordBits - 1 - 2 ^ k) j) (cond (eqb j k) 0 1)) refl k j h l)
 
-with-digit : (k j x : ℕ) → k < 32 → j < 32 → digit (withBit k x) j ≡ cond (eqb j k) 1 (digit x j)
+with-digit : (k j x : ℕ) → k < wordBits → j < wordBits → digit (withBit k x) j ≡ cond (eqb j k) 1 (digit x j)
 with-digit k j x h l = or-digit x (2 ^ k) j ∙ (ap (max (digit x j)) (one-digit k j h l) ∙ of (eqb j k))
   where
     of : (b : Bool) → max (digit x j) (cond b 1 0) ≡ cond b 1 (digit x j)
     of true = omega arith
     of false = omega arith
 
-without-digit : (k j x : ℕ) → k < 32 → j < 32 → digit (withoutBit k x) j ≡ cond (eqb j k) 0 (digit x j)
-without-digit k j x h l = and-digit x (2 ^ 32 - 1 - 2 ^ k) j ∙ (ap (min (digit x j)) (other-digit k j h l) ∙ of (eqb j k))
+without-digit : (k j x : ℕ) → k < wordBits → j < wordBits → digit (withoutBit k x) j ≡ cond (eqb j k) 0 (digit x j)
+without-digit k j x h l = and-digit x (2 ^ wordBits - 1 - 2 ^ k) j ∙ (ap (min (digit x j)) (other-digit k j h l) ∙ of (eqb j k))
   where
     of : (b : Bool) → min (digit x j) (cond b 0 1) ≡ cond b 0 (digit x j)
     of true = omega arith
     of false = omega arith
 
 -- the bit that is set or cleared, and the others
-pub with-bit : (k j x : ℕ) → k < 32 → j < 32 → bit (withBit k x) j ≡ cond (eqb j k) true (bit x j)
+pub with-bit : (k j x : ℕ) → k < wordBits → j < wordBits → bit (withBit k x) j ≡ cond (eqb j k) true (bit x j)
 with-bit k j x h l = ap (λ (d : ℕ). eqb d 1) (with-digit k j x h l) ∙ of (eqb j k)
   where
     of : (b : Bool) → eqb (cond b 1 (digit x j)) 1 ≡ cond b true (bit x j)
     of true = refl
     of false = refl
 
-pub without-bit : (k j x : ℕ) → k < 32 → j < 32 → bit (withoutBit k x) j ≡ cond (eqb j k) false (bit x j)
+pub without-bit : (k j x : ℕ) → k < wordBits → j < wordBits → bit (withoutBit k x) j ≡ cond (eqb j k) false (bit x j)
 without-bit k j x h l = ap (λ (d : ℕ). eqb d 1) (without-digit k j x h l) ∙ of (eqb j k)
   where
     of : (b : Bool) → eqb (cond b 0 (digit x j)) 1 ≡ cond b false (bit x j)
@@ -117,7 +118,7 @@ and-weight x u = rw single (of (digit x u) (omega arith))
     of (suc (suc d)) h = absurd (omega arith)
 
 -- what a row knows of a task's access is the task's bit in what it knows of all tasks' accesses of the kind to the variable
-pub slot-known : (b : List ℕ) (r k v u : ℕ) → u < 16 → hasSlot b r (slot k v u) ≡ bit (knownSlots b r k v) u
+pub slot-known : (b : List ℕ) (r k v u : ℕ) → u < tasks → hasSlot b r (slot k v u) ≡ bit (knownSlots b r k v) u
 slot-known b r k v u h =
     let w : slotWord (slot k v u) ≡ slotWord (slot k v 0) = omega arith in
     let p : slotPlace (slot k v u) ≡ slotPlace (slot k v 0) + u = omega arith in

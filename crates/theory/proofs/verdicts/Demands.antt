@@ -24,7 +24,7 @@ use Rattle.theory.proofs.verdicts.Search.{Outcome, partner-outcome, out
 -- the two accesses of an earlier conflicting one are acts
 both-act : {es : List Event} {t i k : ℕ} {A : Type 0} → Earlier es t i k →
     ((o p : Op) (v u w : ℕ) → At es i (act o v w) → At es k (act p u w) → A) → A
-both-act a h = apply (a .from) (a .to) (a .conflict) h
+both-act a h = apply (a .from) (a .to) (a .against .conflict) h
   where
     apply : {es : List Event} {i k : ℕ} {e f : Event} {A : Type 0} → At es i e → At es k f → Conflict e f →
         ((o p : Op) (v u w : ℕ) → At es i (act o v w) → At es k (act p u w) → A) → A

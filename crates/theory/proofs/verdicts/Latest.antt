@@ -1,18 +1,19 @@
 -- Only the latest conflicting access of each task matters: its older ones lead to it, so what is apart from them is apart from it.
 -- Assumes nothing.
-use mathlib.Core.Path.{_≡_, sym, subst}
+use mathlib.Core.Path.{_≡_, refl, sym, ap, subst}
 use mathlib.Core.Bool.{Bool}
 use mathlib.Core.Logic.{_↔_}
 use mathlib.Core.List.{List, _∷_}
-use Prim.Native.Nat.{ℕ, zero, suc, _≤_, _<_}
+use Prim.Native.Nat.{ℕ, zero, suc, _-_, _≤_, _<_}
+use lib.ListN.{take}
 use native.Mathlib.Nat.{le-of-suc-le-suc, not-suc-le-zero}
 use native.Mathlib.Omega.{arith}
 use Rattle.theory.specs.order.Recording.{Event, At, ActsIn, acts}
-use Rattle.theory.specs.order.Path.{Step, same-task, HappensBefore, one, more, Conflict, conflict}
+use Rattle.theory.specs.order.Path.{Step, same-task, HappensBefore, one, more, Conflict, Against}
 use Rattle.theory.specs.fillings.Completion.{Completion, place}
-use Rattle.theory.specs.verdicts.Verdict.{Earlier, Latest, Racy, Unordered}
+use Rattle.theory.specs.verdicts.Verdict.{between, Earlier, Latest, Racy, Unordered}
 use Rattle.theory.proofs.basics.Reflects.{Reflects, right, wrong, equal, at-most}
-use Rattle.theory.proofs.order.Places.{Ends, Occurs, first, next, at-ends, ends-at, at-occurs, occurs-at, occurs-before, to-last}
+use Rattle.theory.proofs.order.Places.{Ends, ends, onward, Occurs, first, next, at-ends, ends-at, at-occurs, occurs-at, occurs-before, to-last}
 use Rattle.theory.proofs.fillings.Bounds.{path-survives}
 use Rattle.theory.proofs.order.Tests.{Some, this, further, Again, again-test}
 
@@ -38,60 +39,85 @@ occurs-after (next o) q = let (k, h, r) = occurs-after o q in (suc k, omega arit
 
 -- Earlier accesses by what stands before the access
 
-pub earlier-occurs : {es before : List Event} {t i k : ℕ} {f : Event} → Ends es k before f → Earlier es t i k →
-    (e : Event) × (after : List Event) × Occurs before i e after × (ActsIn t e × Conflict e f)
-earlier-occurs d a = let (after, o) = at-occurs d (a .from) (a .before) in (a .e, after, o, (a .by, to-last (Conflict (a .e)) d (a .to) (a .conflict)))
+-- what stands before an access is the list up to its place
+ends-take : {es before : List Event} {k : ℕ} {f : Event} → Ends es k before f → take k es ≡ before
+ends-take ends = refl
+ends-take (onward {x = x} d) = ap (λ (es : List Event). x ∷ es) (ends-take d)
 
-pub occurs-earlier : {es before after : List Event} {t i k : ℕ} {e f : Event} → Ends es k before f → Occurs before i e after → ActsIn t e × Conflict e f → Earlier es t i k
-occurs-earlier d o a = record { e = _; f = _; from = occurs-at d o; to = ends-at d; before = occurs-before d o; by = a .0; conflict = a .1 }
+-- what stands between the two is what stands after the one, before the other
+between-after : {es before after : List Event} {i k : ℕ} {e f : Event} → Ends es k before f → Occurs before i e after → between es i k ≡ after
+between-after (onward {k = k} d) first = let e : suc k - 1 ≡ k = omega arith in rw e (ends-take d)
+between-after (onward {k = k} d) (next {i = i} o) = let e : suc k - suc (suc i) ≡ k - suc i = omega arith in rw e (between-after d o)
+
+pub earlier-occurs : {es before : List Event} {t i k : ℕ} {f : Event} → Ends es k before f → Earlier es t i k →
+    (e : Event) × (after : List Event) × Occurs before i e after × Against t e after f
+earlier-occurs {t = t} {f = f} d a =
+    let (after, o) = at-occurs d (a .from) (a .before) in
+    (a .e, after, o, subst (λ (mid : List Event). Against t (a .e) mid f) (between-after d o) (to-last (Against t (a .e) _) d (a .to) (a .against)))
+
+pub occurs-earlier : {es before after : List Event} {t i k : ℕ} {e f : Event} → Ends es k before f → Occurs before i e after → Against t e after f → Earlier es t i k
+occurs-earlier {t = t} {e = e} {f = f} d o a =
+    record {
+      e = e;
+      f = f;
+      from = occurs-at d o;
+      to = ends-at d;
+      before = occurs-before d o;
+      against = subst (λ (mid : List Event). Against t e mid f) (sym (between-after d o)) a;
+    }
 
 -- The latest by what stands after it
 
--- x stands at place i of the list, an access of task t that conflicts with f, and none such stands after it
+-- x stands at place i of the list, an access of task t that f is held against, and none such stands after it
 pub record Final (t : ℕ) (f : Event) (es : List Event) (i : ℕ) : Type 0 where
   pub x : Event
   pub after : List Event
   pub occurs : Occurs es i x after
-  pub acting : ActsIn t x
-  pub conflict : Conflict x f
+  pub against : Against t x after f
   pub none : ¬ Again t f after
+
+-- an access that conflicts and stands after one that counts, counts as well
+pub against-later : {t j : ℕ} {e x f : Event} {after after′ : List Event} → Against t e after f → Occurs after j x after′ → ActsIn t x × Conflict x f → Against t x after′ f
+against-later a o p = record { by = p .0; conflict = p .1 }
 
 module _ {es before : List Event} {t k : ℕ} {f : Event} (d : Ends es k before f) where
   pub final-latest : {i : ℕ} → Final t f before i → Latest es t i k
-  final-latest {i} a = record { earlier = occurs-earlier d (a .occurs) (a .acting, a .conflict); latest = λ j b. decided j b (at-most j i) }
+  final-latest {i} a = record { earlier = occurs-earlier d (a .occurs) (a .against); latest = λ j b. decided j b (at-most j i) }
     where
       decided : (j : ℕ) {c : Bool} → Earlier es t j k → Reflects (j ≤ i) c → j ≤ i
       decided j b (right h) = h
-      decided j b (wrong n) = let (x, after′, q, p) = earlier-occurs d b in absurd (a .none (some-after (a .occurs) q (omega arith) p))
+      decided j b (wrong n) = let (x, after′, q, p) = earlier-occurs d b in absurd (a .none (some-after (a .occurs) q (omega arith) (p .by, p .conflict)))
 
   pub latest-final : {i : ℕ} → Latest es t i k → Final t f before i
   latest-final {i} a =
       let (e, after, o, p) = earlier-occurs d (a .earlier) in
-      record { x = e; after = after; occurs = o; acting = p .0; conflict = p .1; none = λ s. nothing-after o (some-occurs s) }
+      record { x = e; after = after; occurs = o; against = p; none = λ s. nothing-after o p (some-occurs s) }
     where
-      nothing-after : {e : Event} {after : List Event} → Occurs before i e after →
+      nothing-after : {e : Event} {after : List Event} → Occurs before i e after → Against t e after f →
           (j : ℕ) × (x : Event) × (after′ : List Event) × Occurs after j x after′ × (ActsIn t x × Conflict x f) → ⊥
-      nothing-after o (j, x, after′, q, p) =
-          let (j′, h, r) = occurs-after o q in
-          let l = a .latest j′ (occurs-earlier d r p) in
+      nothing-after o p (j, x, after′, q, r) =
+          let (j′, h, s) = occurs-after o q in
+          let l = a .latest j′ (occurs-earlier d s (against-later p q r)) in
           omega arith
 
 -- where there is one, there is a last one
-final-exists : (t : ℕ) (f : Event) (es : List Event) → Again t f es → (i : ℕ) × Final t f es i
-final-exists t f (e ∷ es) s = decided s (again-test t f es) (final-exists t f es)
+final-next : {t i : ℕ} {e f : Event} {es : List Event} → Final t f es i → Final t f (e ∷ es) (suc i)
+final-next a = record { x = a .x; after = a .after; occurs = next (a .occurs); against = a .against; none = a .none }
+
+final-exists : {t i : ℕ} {e f : Event} (es : List Event) {after : List Event} → Occurs es i e after → Against t e after f → (j : ℕ) × Final t f es j
+final-exists (e ∷ es) (next o) a = let (j, l) = final-exists es o a in (suc j, final-next l)
+final-exists {t} {f = f} (e ∷ es) first a = decided (again-test t f es) (λ i x after o b. final-exists es o b)
   where
-    decided : {b : Bool} → Again t f (e ∷ es) → Reflects (Again t f es) b → (Again t f es → (i : ℕ) × Final t f es i) → (i : ℕ) × Final t f (e ∷ es) i
-    decided s (right r) below =
-        let (i, a) = below r in
-        (suc i, record { x = a .x; after = a .after; occurs = next (a .occurs); acting = a .acting; conflict = a .conflict; none = a .none })
-    decided (this p) (wrong n) below = (zero, record { x = e; after = es; occurs = first; acting = p .0; conflict = p .1; none = n })
-    decided (further r) (wrong n) below = absurd (n r)
+    decided : {b : Bool} → Reflects (Again t f es) b → ((i : ℕ) (x : Event) (after : List Event) → Occurs es i x after → Against t x after f → (j : ℕ) × Final t f es j) →
+        (j : ℕ) × Final t f (e ∷ es) j
+    decided (right s) below = let (j, x, after′, q, p) = some-occurs s in let (k, l) = below j x after′ q (against-later a q p) in (suc k, final-next l)
+    decided (wrong n) below = (zero, record { x = e; after = es; occurs = first; against = a; none = n })
 
 pub latest-exists : {es : List Event} {t i k : ℕ} → Earlier es t i k → (j : ℕ) × Latest es t j k
 latest-exists {t = t} a =
     let (before, d) = at-ends (a .to) in
     let (e, after, o, p) = earlier-occurs d a in
-    let (j, l) = final-exists t (a .f) before (some-at o p) in
+    let (j, l) = final-exists {f = a .f} before o p in
     (j, final-latest d l)
 
 -- Only the latest matters
@@ -102,7 +128,7 @@ path-then (more s p) q = more s (path-then p q)
 
 -- an older access of a task leads to its newer ones
 older-leads : {es : List Event} {t i j k : ℕ} → Earlier es t i k → Earlier es t j k → i < j → HappensBefore es i j
-older-leads a b h = one (record { e = a .e; f = b .e; from = a .from; to = b .from; later = h; step = same (a .by) (b .by) })
+older-leads a b h = one (record { e = a .e; f = b .e; from = a .from; to = b .from; later = h; step = same (a .against .by) (b .against .by) })
   where
     same : {t : ℕ} {e f : Event} → ActsIn t e → ActsIn t f → Step e f
     same acts acts = same-task
@@ -137,7 +163,7 @@ latest-in-completion {es} {fs} {k} c = (
 )
   where
     survives : {t i j : ℕ} → Earlier es t i k → Earlier es t j k → HappensBefore es i j → HappensBefore fs (place c i) (place c j)
-    survives a b = moved (a .from) (a .by) (b .from) (b .by)
+    survives a b = moved (a .from) (a .against .by) (b .from) (b .against .by)
       where
         moved : {t i j : ℕ} {e f : Event} → At es i e → ActsIn t e → At es j f → ActsIn t f → HappensBefore es i j → HappensBefore fs (place c i) (place c j)
         moved x acts y acts = path-survives c x y

@@ -7,7 +7,7 @@ use mathlib.Core.Option.{Option, none, some}
 use Prim.Native.Nat.{ℕ, zero, suc, _+_, _≤_}
 use native.Mathlib.Omega.{arith}
 use Rattle.theory.specs.order.Recording.{Op, Event, act, lost, ActsIn, acts}
-use Rattle.theory.specs.order.Path.{Conflict}
+use Rattle.theory.specs.order.Path.{Conflict, Against}
 use Rattle.theory.specs.fillings.Completion.{fillWith}
 use Rattle.theory.specs.verdicts.Verdict.{Latest, Partner}
 use Rattle.theory.specs.verdicts.Search.{Found, found, lower, apart, partner}
@@ -22,8 +22,7 @@ use Rattle.theory.proofs.verdicts.Latest.{final-latest, latest-final}
 module _ (g : ℕ → List Event) (f : Event) where
   -- e, with `after` behind it, is task t's latest conflicting access and does not lead to f
   pub record Apart (t : ℕ) (e : Event) (after : List Event) : Type 0 where
-    pub acting : ActsIn t e
-    pub conflict : Conflict e f
+    pub against : Against t e after f
     pub none : ¬ Again t f after
     pub unordered : ¬ Leads e (fillWith g after) f
 
@@ -50,13 +49,13 @@ module _ {g : ℕ → List Event} {f : Event} where
     where
       of-act : {a b : Bool} → Reflects (Conflict (act o t n) f × (¬ Again t f after)) a → Reflects (¬ Leads (act o t n) (fillWith g after) f) b →
           Reflects ((u : ℕ) × Apart g f u (act o t n) after) (elim a [ true ↦ b | false ↦ false ])
-      of-act (right c) (right l) = right (t, record { acting = acts; conflict = c .0; none = c .1; unordered = l })
+      of-act (right c) (right l) = right (t, record { against = record { by = acts; conflict = c .0 }; none = c .1; unordered = l })
       of-act (right c) (wrong l) = wrong (λ x. l (x .1 .unordered))
-      of-act (wrong c) l = wrong (λ x. c (x .1 .conflict, latest (x .1 .acting) (x .1 .none)))
+      of-act (wrong c) l = wrong (λ x. c (x .1 .against .conflict, latest (x .1 .against .by) (x .1 .none)))
         where
           latest : {u : ℕ} → ActsIn u (act o t n) → ¬ Again u f after → ¬ Again t f after
           latest acts n = n
-  apart-test (lost mask) after = wrong (λ x. no-act (x .1 .acting))
+  apart-test (lost mask) after = wrong (λ x. no-act (x .1 .against .by))
     where
       no-act : {t mask : ℕ} → ¬ ActsIn t (lost mask)
       no-act a = elim a [ ]
@@ -80,7 +79,7 @@ module _ {g : ℕ → List Event} {f : Event} where
   bound {m} {e} {es} here rest t i c = either (candidate-cases c)
     where
       either : Apart g f t e es ⊎ ((j : ℕ) × Candidate g f es t j) → m ≤ t
-      either (inl a) = here t (a .acting)
+      either (inl a) = here t (a .against .by)
       either (inr (j, d)) = rest t j d
 
   with-lower : {n : ℕ} {o : Op} {t m : ℕ} {es : List Event} {y : Found} {b : Bool} (j : ℕ) → Apart g f t (act o t m) es → Candidate g f es (y .task) j →
@@ -114,7 +113,7 @@ module _ {g : ℕ → List Event} {f : Event} where
     where
       at-first : {e : Event} {es : List Event} {b : Bool} {x : Option Found} → Reflects ((t : ℕ) × Apart g f t e es) b → Outcome g f (suc n) es x →
           Outcome g f n (e ∷ es) (cond b (some (lower (found e n) x)) x)
-      at-first (right (t, a)) r = of-act (a .acting) a r
+      at-first (right (t, a)) r = of-act (a .against .by) a r
         where
           of-act : {t : ℕ} {e : Event} {es : List Event} {x : Option Found} → ActsIn t e → Apart g f t e es → Outcome g f (suc n) es x →
               Outcome g f n (e ∷ es) (some (lower (found e n) x))
@@ -129,10 +128,10 @@ module _ (g : ℕ → List Event) (Far : ℕ → Type 0) {es before : List Event
   pub candidate-latest : {t i : ℕ} → Candidate g (act p u m) before t i → Latest es t i k
   candidate-latest c =
       let a = c .apart in
-      final-latest d (record { x = c .e; after = c .after; occurs = c .occurs; acting = a .acting; conflict = a .conflict; none = a .none })
+      final-latest d (record { x = c .e; after = c .after; occurs = c .occurs; against = a .against; none = a .none })
 
   pub candidate-far : {t i : ℕ} → Candidate g (act p u m) before t i → Far i
-  candidate-far c = of-act (c .apart .acting) (c .occurs) (c .apart .unordered)
+  candidate-far c = of-act (c .apart .against .by) (c .occurs) (c .apart .unordered)
     where
       of-act : {t i : ℕ} {e : Event} {mid : List Event} → ActsIn t e → Occurs before i e mid → ¬ Leads e (fillWith g mid) (act p u m) → Far i
       of-act acts o l = agree _ _ _ _ _ o .1 l
@@ -140,7 +139,7 @@ module _ (g : ℕ → List Event) (Far : ℕ → Type 0) {es before : List Event
   pub far-candidate : {t i : ℕ} → Latest es t i k → Far i → Candidate g (act p u m) before t i
   far-candidate l h =
       let a = latest-final d l in
-      record { e = a .x; after = a .after; occurs = a .occurs; apart = record { acting = a .acting; conflict = a .conflict; none = a .none; unordered = of-act (a .acting) (a .occurs) h } }
+      record { e = a .x; after = a .after; occurs = a .occurs; apart = record { against = a .against; none = a .none; unordered = of-act (a .against .by) (a .occurs) h } }
     where
       of-act : {t i : ℕ} {e : Event} {mid : List Event} → ActsIn t e → Occurs before i e mid → Far i → ¬ Leads e (fillWith g mid) (act p u m)
       of-act acts o h = agree _ _ _ _ _ o .0 h

@@ -5,8 +5,9 @@ use mathlib.Core.List.{List}
 use lib.Dec.{eqb}
 use lib.ListN.{getD, set}
 use Rattle.theory.specs.declared.record.Record.{Record}
+use Rattle.theory.specs.order.Limits.{tasks}
 use Rattle.theory.specs.order.Recording.{Op, kind}
-use Rattle.theory.specs.acceptance.Table.{Standing, refusalBy}
+use Rattle.theory.specs.acceptance.Table.{Standing, tableRow}
 
 abbrev pub liveIn : List ℕ → ℕ → Bool
 liveIn control t = eqb (getD control t 0) 1
@@ -14,18 +15,26 @@ liveIn control t = eqb (getD control t 0) 1
 abbrev pub unseenIn : List ℕ → ℕ → Bool
 unseenIn control t = eqb (getD control t 0) 0
 
-abbrev pub countIn : List ℕ → ℕ
-countIn control = getD control 16 0
+-- the place of the count, after the phases
+abbrev pub countAt : ℕ
+countAt = tasks
 
-abbrev pub standingIn : List ℕ → Standing
-standingIn control = record { live = liveIn control; unseen = unseenIn control; count = countIn control }
+-- so many cells has the table
+abbrev pub controlCells : ℕ
+controlCells = countAt + 1
+
+abbrev pub countIn : List ℕ → ℕ
+countIn control = getD control countAt 0
+
+abbrev pub controlStanding : List ℕ → Standing
+controlStanding control = record { live = liveIn control; unseen = unseenIn control; count = countIn control }
 
 -- the refusal of a record
-abbrev pub refusalIn : List ℕ → Record → ℕ
-refusalIn control r = refusalBy (standingIn control) r
+abbrev pub controlRefusal : List ℕ → Record → ℕ
+controlRefusal control r = tableRow (controlStanding control) r
 
 abbrev pub counted : List ℕ → List ℕ
-counted control = set control 16 (countIn control + 1)
+counted control = set control countAt (countIn control + 1)
 
 -- the table after an accepted record
 abbrev pub controlAfter : ℕ → ℕ → List ℕ → List ℕ

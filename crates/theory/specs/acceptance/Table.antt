@@ -110,7 +110,7 @@ rows s r =
     ∷ (7 when (hasKind r start && not (s .unseen (r .on))))
     -- join of the acting task
     ∷ (8 when (hasKind r join && eqb (r .on) (r .task)))
-    -- the recordedAfter task, or any one of the marked tasks, is not live
+    -- the joined task, or any one of the marked tasks, is not live
     ∷ (9 when ((hasKind r join && not (s .live (r .on))) || (isMark r && anyBelow tasks (λ t. names (r .on) t && not (s .live t)))))
     ∷ []
 
@@ -124,15 +124,15 @@ firstRow [] = zero
 firstRow (x ∷ xs) = cond (x .applies) (x .number) (firstRow xs)
 
 -- the refusal that a record gets by the table; 0 where it is accepted
-unfoldable pub refusalBy : Standing → Record → ℕ
-refusalBy s r = firstRow (rows s r)
+unfoldable pub tableRow : Standing → Record → ℕ
+tableRow s r = firstRow (rows s r)
 
 -- after a recording
 abbrev pub standing : List Event → Standing
 standing es = record { live = λ t. isLive (phase es t); unseen = λ t. isUnseen (phase es t); count = length es }
 
 abbrev pub refusal : List Event → Record → ℕ
-refusal es r = refusalBy (standing es) r
+refusal es r = tableRow (standing es) r
 
 -- the recording after a record was fed that got the refusal n: accepted records join it, refused ones leave it as it was
 abbrev pub recordedAfter : List Event → Record → ℕ → List Event
@@ -140,10 +140,10 @@ recordedAfter es r zero = es ++ (eventOf r ∷ [])
 recordedAfter es r (suc n) = es
 
 -- the recording after the records of a list were fed one after the other
-abbrev pub fedAfter : List Event → List Record → List Event
-fedAfter es [] = es
-fedAfter es (r ∷ rs) = fedAfter (recordedAfter es r (refusal es r)) rs
+abbrev pub extended : List Event → List Record → List Event
+extended es [] = es
+extended es (r ∷ rs) = extended (recordedAfter es r (refusal es r)) rs
 
 -- "recording": those records of a list, fed from a fresh state, that were accepted
 abbrev pub recording : List Record → List Event
-recording = fedAfter []
+recording = extended []

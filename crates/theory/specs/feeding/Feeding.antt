@@ -1,44 +1,41 @@
 -- Feeding a list of records one after the other from a fresh state, and the demands on what it answers. A record may be of any kind,
 -- known or not, and refused ones are fed too. proofs/feeding/Demanded.antt proves the demands of the step, which goes by the clocks, and of the sets.
 use Prim.Native.Nat.{ℕ, zero, suc, _≤_, _<_}
-use lib.Dec.{T}
 use mathlib.Core.Path.{_≡_}
-use mathlib.Core.Bool.{Bool, true, false, cond}
-use mathlib.Core.Logic.{_↔_}
+use mathlib.Core.Bool.{true, false, cond}
+use mathlib.Core.Logic.{_↔_, _≢_}
 use mathlib.Core.List.{List, [], _∷_, _++_, map}
 use lib.ListN.{length}
 use Rattle.theory.specs.declared.record.Record.{Record}
 use Rattle.theory.specs.declared.answer.Answer.{Answer}
-use Rattle.theory.specs.declared.answer.Answer.the-variants.{Refused, Accepted}
-use Rattle.theory.specs.declared.answer.Answer.the-variants as the
 use Rattle.theory.specs.declared.state.State.{State}
 use Rattle.theory.specs.declared.state.SetState.{SetState}
-use Rattle.theory.specs.order.Recording.{Event, act, lost, kind, lossMark, Unmarked, eventOf, accesses}
+use Rattle.theory.specs.order.Recording.{Event, act, lost, kind, kinds, lossMark, Unmarked, eventOf, accesses}
 use Rattle.theory.specs.acceptance.Table.{lastRow, refusal, recordedAfter, recording}
-use Rattle.theory.specs.verdicts.Verdict.{Verdict, Race, Clear, Doubt, AccessAt, Unordered, Latest, ApartAsArrived, ApartInAll, With}
+use Rattle.theory.specs.verdicts.Verdict.{Verdict, Race, Clear, AccessAt, Unordered, With}
 use Rattle.theory.specs.verdicts.Demands.{Firm}
 use Rattle.theory.specs.verdicts.Search.{judge, isAccessEvent}
-use Rattle.theory.specs.order.Limits.{tasks}
-use Rattle.theory.specs.acceptance.Control.{refusalIn}
-use Rattle.theory.specs.tables.Reckonings.{clockApart, setApart}
+use Rattle.theory.specs.acceptance.Control.{controlRefusal}
 use Rattle.theory.specs.verdicts.Search
 use Rattle.theory.specs.verdicts.Examples.{Example, table}
-use Rattle.theory.specs.feeding.Step.{recordNumber, nextNumber, stepOf, setStepOf, apartByClocks, apartBySets, freshState, freshSets}
+use Rattle.theory.specs.feeding.Meaning.{Meaning, refuses, takes, judges, meaning, isRefusal, refusalNumber, verdictIn}
+use Rattle.theory.specs.feeding.Step.{nextNumber, stepOf, setStepOf, freshState, freshSets}
 
 -- What feeding answers, one answer for each record
 
--- a checker: a fresh state, the state that feeding a record leaves, and what it answers
+-- a checker: its fresh state, the state that feeding a record leaves, what it answers, and the control table of a state, by which it accepts
 pub record Checker (S : Type 0) : Type 0 where
   pub fresh : S
+  pub control : S → List ℕ
   pub next : S → Record → S
   pub answer : S → Record → Answer
 
-abbrev pub fedTo : {S : Type 0} → Checker S → S → List Record → List Answer
-fedTo c s [] = []
-fedTo c s (r ∷ rs) = c .answer s r ∷ fedTo c (c .next s r) rs
+abbrev pub replies : {S : Type 0} → Checker S → S → List Record → List Answer
+replies c s [] = []
+replies c s (r ∷ rs) = c .answer s r ∷ replies c (c .next s r) rs
 
-abbrev pub fedBy : {S : Type 0} → Checker S → List Record → List Answer
-fedBy c = fedTo c (c .fresh)
+abbrev pub runs : {S : Type 0} → Checker S → List Record → List Answer
+runs c = replies c (c .fresh)
 
 -- the state after a list
 abbrev pub afterAll : {S : Type 0} → Checker S → S → List Record → S
@@ -47,53 +44,42 @@ afterAll c s (r ∷ rs) = afterAll c (c .next s r) rs
 
 -- the step, by the clocks
 abbrev pub byClocks : Checker State
-byClocks = record { fresh = freshState; next = λ s r. (stepOf s r) .state; answer = λ s r. (stepOf s r) .answer }
+byClocks = record { fresh = freshState; control = λ s. s .control; next = λ s r. (stepOf s r) .state; answer = λ s r. (stepOf s r) .answer }
 
 -- the step of the sets
 abbrev pub bySets : Checker SetState
-bySets = record { fresh = freshSets; next = λ s r. (setStepOf s r) .state; answer = λ s r. (setStepOf s r) .answer }
+bySets = record { fresh = freshSets; control = λ s. s .control; next = λ s r. (setStepOf s r) .state; answer = λ s r. (setStepOf s r) .answer }
 
 abbrev pub fed : List Record → List Answer
-fed = fedBy byClocks
+fed = runs byClocks
 
 abbrev pub setFed : List Record → List Answer
-setFed = fedBy bySets
+setFed = runs bySets
 
--- What is in an answer: document 01's numbers and values for each of its cases
+-- "The recording is those records that were accepted", by what they were answered
+abbrev pub takenIn : List Record → List Meaning → List Event
+takenIn [] answers = []
+takenIn (r ∷ rs) [] = []
+takenIn (r ∷ rs) (a ∷ answers) = cond (isRefusal a) (takenIn rs answers) (eventOf r ∷ takenIn rs answers)
 
--- `Says a n v w`: the answer gives the access of record number n the verdict v with partner w
-pub data Says : Answer → ℕ → Verdict → ℕ → Type 0 where
-  says-clear : {n : ℕ} → Says (the.Clear (recordNumber n)) n Clear zero
-  says-race : {n w : ℕ} → Says (the.Race (recordNumber n) (recordNumber w)) n Race w
-  says-doubt : {n w : ℕ} → Says (the.Doubt (recordNumber n) (recordNumber w)) n Doubt w
-
-abbrev pub isRefusal : Answer → Bool
-isRefusal (Refused n) = true
-isRefusal (Accepted n) = false
-isRefusal (the.Clear n) = false
-isRefusal (the.Race n w) = false
-isRefusal (the.Doubt n w) = false
-
--- "The recording is those records that were accepted", by the answers that they got
-abbrev pub acceptedOf : List Record → List Answer → List Event
-acceptedOf [] answers = []
-acceptedOf (r ∷ rs) [] = []
-acceptedOf (r ∷ rs) (a ∷ answers) = cond (isRefusal a) (acceptedOf rs answers) (eventOf r ∷ acceptedOf rs answers)
-
--- `Got answers k a`: the record at place k of the recording got the answer a, the k-th that is no refusal
-pub data Got : List Answer → ℕ → Answer → Type 0 where
-  got-now : {a : Answer} {answers : List Answer} → isRefusal a ≡ false → Got (a ∷ answers) zero a
-  got-later : {a b : Answer} {answers : List Answer} {k : ℕ} → isRefusal b ≡ false → Got answers k a → Got (b ∷ answers) (suc k) a
-  got-refused : {a b : Answer} {answers : List Answer} {k : ℕ} → isRefusal b ≡ true → Got answers k a → Got (b ∷ answers) k a
+-- `Got answers k a`: the record at place k of the recording was answered a, the k-th that is no refusal
+pub data Got : List Meaning → ℕ → Meaning → Type 0 where
+  got-now : {a : Meaning} {answers : List Meaning} → isRefusal a ≡ false → Got (a ∷ answers) zero a
+  got-later : {a b : Meaning} {answers : List Meaning} {k : ℕ} → isRefusal b ≡ false → Got answers k a → Got (b ∷ answers) (suc k) a
+  got-refused : {a b : Meaning} {answers : List Meaning} {k : ℕ} → isRefusal b ≡ true → Got answers k a → Got (b ∷ answers) k a
 
 -- The demands, of whatever answers lists of records
 
--- each access of the recording got a verdict that is as P says, under its record number
+-- the recording that is made of a list of records
+abbrev pub recordedBy : (List Record → List Answer) → List Record → List Event
+recordedBy answers rs = takenIn rs (map meaning (answers rs))
+
+-- each access of the recording got, under its record number, a verdict and a partner that are as P says
 abbrev pub EachAccess : (List Record → List Answer) → (List Event → ℕ → Verdict → ℕ → Type 0) → Type 0
 EachAccess answers P =
     (rs : List Record) (k : ℕ) →
-    AccessAt (acceptedOf rs (answers rs)) k →
-    (a : Answer) × (v : Verdict) × (w : ℕ) × Got (answers rs) k a × Says a (suc k) v w × P (acceptedOf rs (answers rs)) k v w
+    AccessAt (recordedBy answers rs) k →
+    (v : Verdict) × (w : ℕ) × Got (map meaning (answers rs)) k (judges (suc k) v w) × P (recordedBy answers rs) k v w
 
 -- demand 3: nobody who fills in the lost records can overturn a verdict
 abbrev pub FedDemand3 : (List Record → List Answer) → Type 0
@@ -108,108 +94,78 @@ abbrev pub FedDemand2 : (List Record → List Answer) → Type 0
 FedDemand2 answers = EachAccess answers (λ es k v w. Unmarked es → ((v ≡ Race) ↔ Unordered es k) × ((v ≡ Clear) ↔ (¬ Unordered es k)))
 
 -- acceptance is that of the table: the accepted records are those to which no row applies, and a refused one gets the first row's number
-abbrev pub refusalNumber : Answer → ℕ
-refusalNumber (Refused n) = n
-refusalNumber (Accepted n) = zero
-refusalNumber (the.Clear n) = zero
-refusalNumber (the.Race n w) = zero
-refusalNumber (the.Doubt n w) = zero
-
 abbrev pub refusalsAfter : List Event → List Record → List ℕ
 refusalsAfter es [] = []
 refusalsAfter es (r ∷ rs) = refusal es r ∷ refusalsAfter (recordedAfter es r (refusal es r)) rs
 
-abbrev pub refusalNumbers : List Answer → List ℕ
-refusalNumbers [] = []
-refusalNumbers (a ∷ answers) = refusalNumber a ∷ refusalNumbers answers
-
 abbrev pub FedAcceptance : (List Record → List Answer) → Type 0
-FedAcceptance answers = (rs : List Record) → (acceptedOf rs (answers rs) ≡ recording rs) × (refusalNumbers (answers rs) ≡ refusalsAfter [] rs)
+FedAcceptance answers =
+    (rs : List Record) → (recordedBy answers rs ≡ recording rs) × (map refusalNumber (map meaning (answers rs)) ≡ refusalsAfter [] rs)
 
--- What is answered, in full: by the table of refusals and the search of Decide.antt over the recording so far
+-- What is answered, in full: by the table of refusals and the search of verdicts/Search.antt over the recording so far
 
-abbrev pub verdictAnswer : ℕ → Verdict → ℕ → Answer
-verdictAnswer n Race w = the.Race (recordNumber n) (recordNumber w)
-verdictAnswer n Doubt w = the.Doubt (recordNumber n) (recordNumber w)
-verdictAnswer n Clear w = the.Clear (recordNumber n)
-
-abbrev pub acceptedAnswer : List Event → Event → Answer
+abbrev pub acceptedAnswer : List Event → Event → Meaning
 acceptedAnswer es e =
-    cond (isAccessEvent e) (verdictAnswer (suc (length es)) ((judge es e) .verdict) ((judge es e) .partner)) (Accepted (recordNumber (suc (length es))))
+    cond (isAccessEvent e) (judges (suc (length es)) ((judge es e) .verdict) ((judge es e) .partner)) (takes (suc (length es)))
 
-abbrev pub answerBy : List Event → Record → ℕ → Answer
+abbrev pub answerBy : List Event → Record → ℕ → Meaning
 answerBy es r zero = acceptedAnswer es (eventOf r)
-answerBy es r (suc n) = Refused (suc n)
+answerBy es r (suc n) = refuses (suc n)
 
 -- the answer to a record after a recording
-abbrev pub answerTo : List Event → Record → Answer
+abbrev pub answerTo : List Event → Record → Meaning
 answerTo es r = answerBy es r (refusal es r)
 
-abbrev pub answersFrom : List Event → List Record → List Answer
+abbrev pub answersFrom : List Event → List Record → List Meaning
 answersFrom es [] = []
 answersFrom es (r ∷ rs) = answerTo es r ∷ answersFrom (recordedAfter es r (refusal es r)) rs
 
 -- the answers are those of the table and of the verdict's search, over the recording so far
 abbrev pub AnswersByTable : (List Record → List Answer) → Type 0
-AnswersByTable answers = (rs : List Record) → answers rs ≡ answersFrom [] rs
+AnswersByTable answers = (rs : List Record) → map meaning (answers rs) ≡ answersFrom [] rs
 
--- Each reckoning on its own says "path" exactly where Order has one
+-- Demand 1, for records, of a checker: in any state a record is refused with the number of the first row of the table that applies, "and not
+-- otherwise", and the state is as it was; or it is taken in, an access with a verdict and any other with its record number
 
--- for the access f after the recording es: the tasks that pass the tests are those whose latest conflicting access has no path to f, as
--- it arrived and in any completion
-pub record SaysPaths (es : List Event) (f : Event) (asArrived inFull : ℕ → Bool) : Type 0 where
-  pub as-arrived : (u : ℕ) → u < tasks →
-      T (asArrived u) ↔ ((i : ℕ) × Latest (es ++ (f ∷ [])) u i (length es) × ApartAsArrived (es ++ (f ∷ [])) (length es) i)
-  pub in-full : (u : ℕ) → u < tasks → T (inFull u) ↔ ((i : ℕ) × Latest (es ++ (f ∷ [])) u i (length es) × ApartInAll (es ++ (f ∷ [])) (length es) i)
+-- the number of the first row of the table that applies to a record in a state; 0 where none does
+abbrev pub rowFor : {S : Type 0} → Checker S → S → Record → ℕ
+rowFor c s r = controlRefusal (c .control s) r
 
--- whatever was fed before, for every access that is accepted then. The masks are made of these tests, task by task.
-abbrev pub ClockPaths : Type 0
-ClockPaths =
-    (rs : List Record) (r : Record) →
-    refusal (recording rs) r ≡ 0 →
-    accesses (r .kind) ≡ true →
-    let s : State = afterAll byClocks freshState rs in
-    SaysPaths (recording rs) (eventOf r) (clockApart (s .clocks) (s .last) (r .kind) (r .task) (r .on)) (clockApart (s .fullclocks) (s .last) (r .kind) (r .task) (r .on))
+-- the number that an accepted record gets there
+abbrev pub numberFor : {S : Type 0} → Checker S → S → ℕ
+numberFor c s = nextNumber (c .control s)
 
-abbrev pub SetPaths : Type 0
-SetPaths =
-    (rs : List Record) (r : Record) →
-    refusal (recording rs) r ≡ 0 →
-    accesses (r .kind) ≡ true →
-    let s : SetState = afterAll bySets freshSets rs in
-    SaysPaths (recording rs) (eventOf r) (setApart (s .sets) (s .last) (r .kind) (r .task) (r .on)) (setApart (s .fullsets) (s .last) (r .kind) (r .task) (r .on))
-
--- Demand 1, for records: in any state a record is refused with the number of the first row that applies, and the state is as it was, or it
--- is taken in, an access with a verdict
-
--- the answer gives record n a verdict with a partner
+-- the record n is answered by a verdict with a partner
 abbrev pub Judged : Answer → ℕ → Type 0
-Judged a n = (v : Verdict) × (w : ℕ) × Says a n v w
+Judged a n = (v : Verdict) × (w : ℕ) × (meaning a ≡ judges n v w)
 
-pub data Handled (s : State) (r : Record) : Type 0 where
-  refused : (n : ℕ) → refusalIn (s .control) r ≡ n → 1 ≤ n → n ≤ lastRow → stepOf s r ≡ record { state = s; answer = Refused n } → Handled s r
-  access-taken : refusalIn (s .control) r ≡ 0 → accesses (r .kind) ≡ true → Judged ((stepOf s r) .answer) (nextNumber (s .control)) → Handled s r
-  other-taken : refusalIn (s .control) r ≡ 0 → accesses (r .kind) ≡ false → (stepOf s r) .answer ≡ Accepted (recordNumber (nextNumber (s .control))) → Handled s r
+pub data Handled {S : Type 0} (c : Checker S) (s : S) (r : Record) : Type 0 where
+  -- a row applies
+  refused : (n : ℕ) → rowFor c s r ≡ n → 1 ≤ n → n ≤ lastRow → meaning (c .answer s r) ≡ refuses n → c .next s r ≡ s → Handled c s r
+  -- none does, and it is an access
+  access-taken : rowFor c s r ≡ 0 → accesses (r .kind) ≡ true → Judged (c .answer s r) (numberFor c s) → Handled c s r
+  -- none does, and it is no access
+  other-taken : rowFor c s r ≡ 0 → accesses (r .kind) ≡ false → meaning (c .answer s r) ≡ takes (numberFor c s) → Handled c s r
 
-abbrev pub Demand1 : Type 0
-Demand1 = (s : State) (r : Record) → Handled s r
+abbrev pub Demand1 : {S : Type 0} → Checker S → Type 0
+Demand1 {S} c = (s : S) (r : Record) → Handled c s r
 
--- "A user may now count on each access that passes rows 1 to 9 getting a verdict", in any state, by the clocks and by the sets
-abbrev pub GetsVerdict : Type 0
-GetsVerdict =
-    (r : Record) →
-    accesses (r .kind) ≡ true →
-    ((s : State) → refusalIn (s .control) r ≡ 0 → Judged ((stepOf s r) .answer) (nextNumber (s .control)))
-    × ((s : SetState) → refusalIn (s .control) r ≡ 0 → Judged ((setStepOf s r) .answer) (nextNumber (s .control)))
+-- "A user may now count on each access that passes rows 1 to 9 getting a verdict"
+abbrev pub GetsVerdict : {S : Type 0} → Checker S → Type 0
+GetsVerdict {S} c = (s : S) (r : Record) → accesses (r .kind) ≡ true → rowFor c s r ≡ 0 → Judged (c .answer s r) (numberFor c s)
 
--- Clocks and sets match, after every list of records from a fresh state: they answered each record alike, and whatever record comes next,
--- they say the same of every path that they are asked about, as it arrived and in the fullest filling
-pub record Match (rs : List Record) : Type 0 where
-  pub answers : fed rs ≡ setFed rs
-  pub paths : (r : Record) → apartByClocks (afterAll byClocks freshState rs) r ≡ apartBySets (afterAll bySets freshSets rs) r
+-- "A field that an op does not use is not looked at", by a checker
 
-abbrev pub ReckoningsMatch : Type 0
-ReckoningsMatch = (rs : List Record) → Match rs
+-- the records have the same kind, and the same fields so far as its op uses them: an act its task and its number, a loss mark its mask, and what
+-- is none of the kinds nothing
+pub record SameUse (r r′ : Record) : Type 0 where
+  pub same-kind : r .kind ≡ r′ .kind
+  pub same-on : r .kind < length kinds → r .on ≡ r′ .on
+  pub same-task : r .kind < length kinds → r .kind ≢ lossMark → r .task ≡ r′ .task
+
+-- in any state such records are answered alike, and leave the same state
+abbrev pub Overlooks : {S : Type 0} → Checker S → Type 0
+Overlooks {S} c = (s : S) (r r′ : Record) → SameUse r r′ → (c .answer s r ≡ c .answer s r′) × (c .next s r ≡ c .next s r′)
 
 -- The short recordings, fed
 
@@ -218,21 +174,14 @@ abbrev pub recordOf : Event → Record
 recordOf (act o t n) = record { kind = kind o; task = t; on = n }
 recordOf (lost mask) = record { kind = lossMark; task = 0; on = mask }
 
-abbrev pub verdictIn : Answer → List Search.Finding
-verdictIn (Refused n) = []
-verdictIn (Accepted n) = []
-verdictIn (the.Clear n) = record { number = n .0; verdict = Clear; partner = 0 } ∷ []
-verdictIn (the.Race n w) = record { number = n .0; verdict = Race; partner = w .0 } ∷ []
-verdictIn (the.Doubt n w) = record { number = n .0; verdict = Doubt; partner = w .0 } ∷ []
-
 -- the verdicts among the answers
-abbrev pub verdictsOf : List Answer → List Search.Finding
+abbrev pub verdictsOf : List Meaning → List Search.Finding
 verdictsOf [] = []
 verdictsOf (a ∷ answers) = verdictIn a ++ verdictsOf answers
 
 -- the recordings of Examples.antt, fed, give the verdicts that stand there
 abbrev pub FedExamples : (List Record → List Answer) → Type 0
-FedExamples answers = map (λ (x : Example). verdictsOf (answers (map recordOf (x .events)))) table ≡ map (λ (x : Example). x .answered) table
+FedExamples answers = map (λ (x : Example). verdictsOf (map meaning (answers (map recordOf (x .events))))) table ≡ map (λ (x : Example). x .answered) table
 
 -- All of these demands together, of whatever answers lists of records
 pub record Demanded (answers : List Record → List Answer) : Type 0 where

@@ -15,11 +15,13 @@ use Rattle.theory.specs.declared.state.SetState.{SetState}
 use Rattle.theory.specs.declared.state.SetStepped.{SetStepped}
 use Rattle.theory.specs.declared.masks.Masks.{Masks}
 use Rattle.theory.specs.fillings.Completion.{arrived, full}
-use Rattle.theory.specs.acceptance.Control.{countIn, refusalIn, controlAfter}
+use Rattle.theory.specs.acceptance.Control.{controlCells, countIn, controlRefusal, controlAfter}
 use Rattle.theory.specs.order.Limits.{tasks}
 use Rattle.theory.specs.order.Recording.{accesses}
 use Rattle.theory.specs.tables.Rows.{cellCount}
 use Rattle.theory.specs.history.History.{slots, latestNumber, lastAfter}
+use Rattle.theory.specs.verdicts.Verdict.{Verdict}
+use Rattle.theory.specs.feeding.Meaning.{Meaning, refuses, takes, judges, meaning}
 use Rattle.theory.specs.tables.Reckonings.{slotWords, clocksBy, setsBy, masksBy, clockMasks, setMasks, lowestTask}
 
 abbrev pub recordNumber : ℕ → RecordNumber
@@ -27,26 +29,32 @@ recordNumber n = record { 0 = n }
 
 -- an answer as three numbers, for a host that knows no enum: which case it is, document 01's number (of the refusal, or of the record), and
 -- the record number of the partner, 0 where there is none
+abbrev pub verdictCase : Verdict → ℕ
+verdictCase Verdict.Clear = 2
+verdictCase Verdict.Race = 3
+verdictCase Verdict.Doubt = 4
+
+abbrev pub threeNumbers : Meaning → List ℕ
+threeNumbers (refuses n) = 0 ∷ n ∷ 0 ∷ []
+threeNumbers (takes n) = 1 ∷ n ∷ 0 ∷ []
+threeNumbers (judges n v w) = verdictCase v ∷ n ∷ w ∷ []
+
 abbrev pub answerNumbers : Answer → List ℕ
-answerNumbers (Refused n) = 0 ∷ n ∷ 0 ∷ []
-answerNumbers (Accepted n) = 1 ∷ n .0 ∷ 0 ∷ []
-answerNumbers (Clear n) = 2 ∷ n .0 ∷ 0 ∷ []
-answerNumbers (Race n w) = 3 ∷ n .0 ∷ w .0 ∷ []
-answerNumbers (Doubt n w) = 4 ∷ n .0 ∷ w .0 ∷ []
+answerNumbers a = threeNumbers (meaning a)
 
 -- the answer to an accepted access, by the masks of the tasks that are apart in the fullest filling and as it arrived
-abbrev pub verdictBy : Bool → Bool → List ℕ → ℕ → ℕ → ℕ → ℕ → ℕ → Answer
-verdictBy false b last k on number full arrived = Race (recordNumber number) (recordNumber (latestNumber last k on (lowestTask full)))
-verdictBy true false last k on number full arrived = Doubt (recordNumber number) (recordNumber (latestNumber last k on (lowestTask arrived)))
-verdictBy true true last k on number full arrived = Clear (recordNumber number)
+abbrev pub answerByTests : Bool → Bool → List ℕ → ℕ → ℕ → ℕ → ℕ → ℕ → Answer
+answerByTests false b last k on number full arrived = Race (recordNumber number) (recordNumber (latestNumber last k on (lowestTask full)))
+answerByTests true false last k on number full arrived = Doubt (recordNumber number) (recordNumber (latestNumber last k on (lowestTask arrived)))
+answerByTests true true last k on number full arrived = Clear (recordNumber number)
 
-unfoldable pub judgedBy : List ℕ → ℕ → ℕ → ℕ → ℕ → ℕ → Answer
-judgedBy last k on number full arrived = verdictBy (eqb full 0) (eqb arrived 0) last k on number full arrived
+unfoldable pub answerByMasks : List ℕ → ℕ → ℕ → ℕ → ℕ → ℕ → Answer
+answerByMasks last k on number full arrived = answerByTests (eqb full 0) (eqb arrived 0) last k on number full arrived
 
 -- the answer to an accepted record
 abbrev pub answeredBy : List ℕ → ℕ → ℕ → ℕ → Masks → Answer
 answeredBy last k on number masks =
-    cond (accesses k) (judgedBy last k on number (masks .full) (masks .arrived)) (Accepted (recordNumber number))
+    cond (accesses k) (answerByMasks last k on number (masks .full) (masks .arrived)) (Accepted (recordNumber number))
 
 -- the number of the next record
 abbrev pub nextNumber : List ℕ → ℕ
@@ -74,7 +82,7 @@ stepBy zero s r = accepted s r
 stepBy (suc n) s r = record { state = s; answer = Refused (suc n) }
 
 unfoldable pub stepOf : State → Record → Stepped
-stepOf s r = stepBy (refusalIn (s .control) r) s r
+stepOf s r = stepBy (controlRefusal (s .control) r) s r
 
 -- By the sets
 
@@ -97,7 +105,7 @@ setStepBy zero s r = setAccepted s r
 setStepBy (suc n) s r = record { state = s; answer = Refused (suc n) }
 
 unfoldable pub setStepOf : SetState → Record → SetStepped
-setStepOf s r = setStepBy (refusalIn (s .control) r) s r
+setStepOf s r = setStepBy (controlRefusal (s .control) r) s r
 
 -- a record as it is fed, from its numbers
 abbrev pub recordOf : ℕ → ℕ → ℕ → Record
@@ -109,15 +117,15 @@ masksUnless zero masks = masks
 masksUnless (suc n) masks = masksBy 0 0
 
 abbrev pub apartByClocks : State → Record → Masks
-apartByClocks s r = masksUnless (refusalIn (s .control) r) (clockMasks (s .clocks) (s .fullclocks) (s .last) (r .kind) (r .task) (r .on))
+apartByClocks s r = masksUnless (controlRefusal (s .control) r) (clockMasks (s .clocks) (s .fullclocks) (s .last) (r .kind) (r .task) (r .on))
 
 abbrev pub apartBySets : SetState → Record → Masks
-apartBySets s r = masksUnless (refusalIn (s .control) r) (setMasks (s .sets) (s .fullsets) (s .last) (r .kind) (r .task) (r .on))
+apartBySets s r = masksUnless (controlRefusal (s .control) r) (setMasks (s .sets) (s .fullsets) (s .last) (r .kind) (r .task) (r .on))
 
 -- Fresh states: task 0 is live, and nothing else is known
 
 abbrev pub freshControl : List ℕ
-freshControl = set (replicate 17 0) 0 1
+freshControl = set (replicate controlCells 0) 0 1
 
 unfoldable pub freshState : State
 freshState = record { control = freshControl; last = replicate slots 0; clocks = replicate (cellCount tasks) 0; fullclocks = replicate (cellCount tasks) 0 }

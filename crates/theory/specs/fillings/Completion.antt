@@ -1,5 +1,5 @@
 -- Loss marks and what may be filled in for them: completions, and the fullest of them ("Verdicts", demand 3).
-use Prim.Native.Nat.{ℕ, zero, suc, _+_, _/_, _%_, _^_, _<_}
+use Prim.Native.Nat.{ℕ, zero, suc, _+_, _-_, _/_, _%_, _^_, _<_}
 use mathlib.Core.Bool.{Bool, true, false, _&&_}
 use mathlib.Core.List.{List, [], _∷_, _++_}
 use lib.Dec.{T, ltb, eqb}
@@ -104,4 +104,4 @@ filling w mask = rounds (w mask)
 
 -- whether it fills in anything at all: of a mark that names every task
 abbrev pub fills : Filling → Bool
-fills w = ltb 0 (w 65535)
+fills w = ltb 0 (w (2 ^ tasks - 1))

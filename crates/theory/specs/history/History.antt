@@ -5,6 +5,7 @@ use mathlib.Core.Bool.{Bool, false, cond}
 use mathlib.Core.List.{List, [], _∷_}
 use lib.ListN.{getD, set, length}
 use Rattle.theory.specs.tables.Turns.{turns}
+use Rattle.theory.specs.order.Limits.{tasks, variables}
 use Rattle.theory.specs.order.Recording.{Op, read, write, about, accessNumber, opOf, Kind, of-op, of-mark, kindAt}
 use Rattle.theory.specs.order.Path.{clashes}
 
@@ -21,10 +22,10 @@ askAt k = accessNumber ((about (opOf k)) .access)
 
 -- where it is kept what an access of the kind that has number a, to variable v, asks of task u
 abbrev pub slot : ℕ → ℕ → ℕ → ℕ
-slot a v u = (a * 64 + v) * 16 + u
+slot a v u = (a * variables + v) * tasks + u
 
 abbrev pub slots : ℕ
-slots = length askers * 64 * 16
+slots = length askers * variables * tasks
 
 abbrev pub lastOf : List ℕ → ℕ → ℕ
 lastOf last s = getD last s 0
@@ -37,13 +38,13 @@ abbrev pub latestNumber : List ℕ → ℕ → ℕ → ℕ → ℕ
 latestNumber last k v u = lastOf last (latestSlot k v u)
 
 -- what a record of a kind says clashes with an access of op p
-abbrev pub clashBy : Kind → Op → Bool
-clashBy (of-op o) p = clashes o p
-clashBy of-mark p = false
+abbrev pub kindClashes : Kind → Op → Bool
+kindClashes (of-op o) p = clashes o p
+kindClashes of-mark p = false
 
 -- f at each slot that an access of kind k to v by task u is kept in: under each kind that it clashes with. What is no access is kept nowhere
 unfoldable pub underEach : {A : Type 0} → (ℕ → A → A) → ℕ → ℕ → ℕ → A → A
-underEach f k v u b = turns (length askers) (λ a b. cond (clashBy (kindAt k) (asker a)) (f (slot a v u) b) b) b
+underEach f k v u b = turns (length askers) (λ a b. cond (kindClashes (kindAt k) (asker a)) (f (slot a v u) b) b) b
 
 -- the history after an accepted record
 abbrev pub lastAfter : ℕ → ℕ → ℕ → ℕ → List ℕ → List ℕ

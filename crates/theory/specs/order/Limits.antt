@@ -1,4 +1,4 @@
--- The limits of document 01, each in one place. crates/theory/src/limits.rt has them for the code.
+-- The limits of document 01, for the definitions. crates/theory/src/limits.rt has them for the code, under the same names; the contracts tie the two.
 use Prim.Native.Nat.{ℕ}
 
 -- the tasks are 0 to 15

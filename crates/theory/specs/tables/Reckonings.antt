@@ -26,18 +26,22 @@ clockAct asked k task on number b = onward max tasks asked k task on (clockOwn t
 abbrev pub clocksBy : Filling → ℕ → ℕ → ℕ → ℕ → List ℕ → List ℕ
 clocksBy w k task on number b = cond (eqb k lossMark) (mark max tasks (w on) b) (clockAct (fills w) k task on number b)
 
--- Sets: at row n and slot s whether order from the kept access of slot s has come to node n, as a bit: a word has 32 slots
+-- Sets: at row n and slot s whether order from the kept access of slot s has come to node n, as a bit
+
+-- so many bits a word
+abbrev pub wordBits : ℕ
+wordBits = 32
 
 -- so many words a row
 abbrev pub slotWords : ℕ
-slotWords = slots / 32
+slotWords = slots / wordBits
 
 -- the word of a slot, and its place there
 abbrev pub slotWord : ℕ → ℕ
-slotWord s = s / 32
+slotWord s = s / wordBits
 
 abbrev pub slotPlace : ℕ → ℕ
-slotPlace s = s % 32
+slotPlace s = s % wordBits
 
 -- row r knows of the slot's access
 abbrev pub hasSlot : List ℕ → ℕ → ℕ → Bool
@@ -52,7 +56,7 @@ abbrev pub withBit : ℕ → ℕ → ℕ
 withBit k x = bitOr x (2 ^ k)
 
 abbrev pub withoutBit : ℕ → ℕ → ℕ
-withoutBit k x = bitAnd x (2 ^ 32 - 1 - 2 ^ k)
+withoutBit k x = bitAnd x (2 ^ wordBits - 1 - 2 ^ k)
 
 -- no row does any more
 unfoldable pub clearSlot : ℕ → List ℕ → List ℕ
@@ -86,7 +90,7 @@ bitOf false = 0
 
 -- the tasks that pass the test as a mask
 unfoldable pub maskOf : (ℕ → Bool) → ℕ
-maskOf p = turns tasks (λ i m. bitOf (p (15 - i)) + 2 * m) 0
+maskOf p = turns tasks (λ i m. bitOf (p (tasks - 1 - i)) + 2 * m) 0
 
 abbrev pub clockMask : List ℕ → List ℕ → ℕ → ℕ → ℕ → ℕ
 clockMask cells last k task on = maskOf (clockApart cells last k task on)
@@ -96,7 +100,7 @@ setMask cells last k task on = maskOf (setApart cells last k task on)
 
 -- the lowest task of a mask
 abbrev pub lowestTask : ℕ → ℕ
-lowestTask mask = trailingZeros 16 mask
+lowestTask mask = trailingZeros tasks mask
 
 abbrev pub masksBy : ℕ → ℕ → Masks
 masksBy full arrived = record { full = full; arrived = arrived }

@@ -7,32 +7,36 @@ use mathlib.Core.List.{List}
 use lib.Dec.{ltb, eqb}
 use lib.ListN.{getD, set, replicate}
 use Rattle.theory.specs.tables.Turns.{turns}
+use Rattle.theory.specs.order.Limits.{tasks, semaphores, flags}
 use Rattle.theory.specs.order.Recording.{Op, kind}
 use Rattle.theory.specs.fillings.Completion.{bit}
 
 -- the rows: each task's next act, the semaphores, the flags, and the hub, which knows what any semaphore or flag knows
-abbrev pub rowCount : ℕ
-rowCount = 81
-
 abbrev pub taskRow : ℕ → ℕ
 taskRow t = t
 
 abbrev pub semaphoreRow : ℕ → ℕ
-semaphoreRow s = 16 + s
+semaphoreRow s = tasks + s
 
 abbrev pub flagRow : ℕ → ℕ
-flagRow f = 48 + f
+flagRow f = tasks + semaphores + f
 
 abbrev pub hub : ℕ
-hub = 80
+hub = tasks + semaphores + flags
+
+abbrev pub rowCount : ℕ
+rowCount = hub + 1
 
 -- one row more, with a cell for each task: 1 once the task has acted
 abbrev pub actedRow : ℕ
-actedRow = 81
+actedRow = rowCount
 
--- so many cells has a table of a width
+-- so many rows and cells has a table of a width
+abbrev pub tableRows : ℕ
+tableRows = actedRow + 1
+
 abbrev pub cellCount : ℕ → ℕ
-cellCount w = (rowCount + 1) * w
+cellCount w = tableRows * w
 
 -- the cell of row r and column c in a table of a width
 abbrev pub cell : ℕ → List ℕ → ℕ → ℕ → ℕ
@@ -104,7 +108,7 @@ rowOrHub false r = hub
 
 -- what a mark's lost records can acquire comes to the hub: the named tasks' next acts, and any object, which it knows already
 unfoldable pub gather : (ℕ → ℕ → ℕ) → ℕ → ℕ → List ℕ → List ℕ
-gather j w mask b = turns 16 (λ t b. joinRow j w hub (rowOrHub (bit mask t) (taskRow t)) b) b
+gather j w mask b = turns tasks (λ t b. joinRow j w hub (rowOrHub (bit mask t) (taskRow t)) b) b
 
 -- what they can release to, by rows: the named tasks' next acts and the objects
 abbrev pub isReleased : ℕ → ℕ → Bool
@@ -116,7 +120,7 @@ spread w mask b = turns hub (λ r x. putRow w (rowOrHub (isReleased mask r) r) (
 
 -- the named tasks have acted
 unfoldable pub noteNamed : ℕ → ℕ → List ℕ → List ℕ
-noteNamed w mask b = turns 16 (λ t b. set b (actedRow * w + t) (cond (bit mask t) 1 (cell w b actedRow t))) b
+noteNamed w mask b = turns tasks (λ t b. set b (actedRow * w + t) (cond (bit mask t) 1 (cell w b actedRow t))) b
 
 -- the fullest filling of a mark, in closed form: whatever a lost record can acquire goes on to all that one can release to
 unfoldable pub mix : (ℕ → ℕ → ℕ) → ℕ → ℕ → List ℕ → List ℕ

@@ -1,9 +1,10 @@
 -- Racy accesses, the three verdicts and the partner (`with`).
-use Prim.Native.Nat.{ℕ, zero, suc, _≤_, _<_}
+use Prim.Native.Nat.{ℕ, zero, suc, _-_, _≤_, _<_}
 use mathlib.Core.List.{List}
 use lib.Dec.{T}
-use Rattle.theory.specs.order.Recording.{Op, Event, act, At, ActsIn, isAccess}
-use Rattle.theory.specs.order.Path.{HappensBefore, Conflict}
+use lib.ListN.{take, drop}
+use Rattle.theory.specs.order.Recording.{Op, Event, act, At, isAccess}
+use Rattle.theory.specs.order.Path.{HappensBefore, Against}
 use Rattle.theory.specs.fillings.Completion.{Completion, place}
 
 -- "verdict"
@@ -18,6 +19,10 @@ pub record AccessAt (es : List Event) (k : ℕ) : Type 0 where
   pub at : At es k (act op task on)
   pub access : T (isAccess op)
 
+-- what stands between places i and k
+abbrev pub between : List Event → ℕ → ℕ → List Event
+between es i k = take (k - suc i) (drop (suc i) es)
+
 -- "an earlier conflicting access": task t acts at place i, before place k, and the two accesses there conflict
 pub record Earlier (es : List Event) (t i k : ℕ) : Type 0 where
   pub e : Event
@@ -25,8 +30,7 @@ pub record Earlier (es : List Event) (t i k : ℕ) : Type 0 where
   pub from : At es i e
   pub to : At es k f
   pub before : i < k
-  pub by : ActsIn t e
-  pub conflict : Conflict e f
+  pub against : Against t e (between es i k) f
 
 -- "racy", of the access at place k in one completion: an earlier access of the recording conflicts with it, and no path in the
 -- completion leads from that one to it

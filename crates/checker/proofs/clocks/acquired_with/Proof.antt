@@ -4,15 +4,16 @@ use native.Mathlib.Omega.{arith}
 use lib.ListN.{set, getD}
 use Rattle.theory.specs.tables.Rows.{cell, acquiredWith}
 use Rattle.theory.proofs.basics.Turns.{Turned, no-turn, one-turn, all-turns}
+use Rattle.theory.specs.order.Limits.{tasks}
 use borrow.Author.Needs.{needs}
 use Rattle.checker.proofs.clocks.acquired_with.Statement.{statement}
 use Rattle.checker.proofs.clocks.acquired_with.Tie as tie
 
 abbrev Inv-loop : tie.InvT-loop
-Inv-loop cells from row next₀ c₀ next c = (c ≤ 16) × Turned (λ k x. set x k (max (getD row k 0) (cell 16 cells from k))) next₀ c next
+Inv-loop cells from row next₀ c₀ next c = (c ≤ tasks) × Turned (λ k x. set x k (max (getD row k 0) (cell tasks cells from k))) next₀ c next
 
 abbrev μ-loop : tie.MeasureT-loop
-μ-loop cells from row next₀ c₀ next c = 16 - c
+μ-loop cells from row next₀ c₀ next c = tasks - c
 
 loop-holds : tie.Need-loop-holds Inv-loop μ-loop
 loop-holds c = (search needs, no-turn)
@@ -22,7 +23,7 @@ loop-again c = (search needs, one-turn (c .before .before .before .before .loop 
 
 returns : tie.Need-returns Inv-loop μ-loop
 unfolding acquiredWith
-returns c = all-turns 16 (c .before .loop .inv .1) (omega arith) (omega arith)
+returns c = all-turns tasks (c .before .loop .inv .1) (omega arith) (omega arith)
 
 pub acquired-with-spec : {M : Type 1} → statement M
 acquired-with-spec =

@@ -4,18 +4,19 @@ use native.Mathlib.Omega.{arith}
 use Rattle.theory.specs.tables.Rows.{joinCell, joinRow}
 use Rattle.theory.proofs.basics.Turns.{Turned, no-turn, one-turn, all-turns}
 use Rattle.theory.proofs.tables.Rows.{same-max, join-self}
+use Rattle.theory.specs.order.Limits.{tasks}
 use borrow.Author.Needs.{needs}
 use Rattle.checker.proofs.clocks.join_row.Statement.{statement}
 use Rattle.checker.proofs.clocks.join_row.Tie as tie
 
 abbrev Inv-loop : tie.InvT-loop
-Inv-loop cells₀ to from c₀ cells c = (c ≤ 16) × Turned (joinCell max 16 to from) cells₀ c cells
+Inv-loop cells₀ to from c₀ cells c = (c ≤ tasks) × Turned (joinCell max tasks to from) cells₀ c cells
 
 abbrev μ-loop : tie.MeasureT-loop
-μ-loop cells₀ to from c₀ cells c = 16 - c
+μ-loop cells₀ to from c₀ cells c = tasks - c
 
 returns : tie.Need-returns Inv-loop μ-loop
-returns c = rw (← c .if1 .taken) (join-self same-max 16 _ _)
+returns c = rw (← c .if1 .taken) (join-self same-max tasks _ _)
 
 loop-holds : tie.Need-loop-holds Inv-loop μ-loop
 loop-holds c = (search needs, no-turn)
@@ -25,7 +26,7 @@ loop-again c = (search needs, one-turn (c .before .before .before .before .loop 
 
 returns-2 : tie.Need-returns-2 Inv-loop μ-loop
 unfolding joinRow
-returns-2 c = all-turns 16 (c .before .loop .inv .1) (omega arith) (omega arith)
+returns-2 c = all-turns tasks (c .before .loop .inv .1) (omega arith) (omega arith)
 
 pub join-row-spec : {M : Type 1} → statement M
 join-row-spec =

@@ -3,15 +3,16 @@ use Prim.Native.Nat.{_≤_, _-_, max}
 use native.Mathlib.Omega.{arith}
 use Rattle.theory.specs.tables.Rows.{joinWithCell, joinWith}
 use Rattle.theory.proofs.basics.Turns.{Turned, no-turn, one-turn, all-turns}
+use Rattle.theory.specs.order.Limits.{tasks}
 use borrow.Author.Needs.{needs}
 use Rattle.checker.proofs.clocks.join_with.Statement.{statement}
 use Rattle.checker.proofs.clocks.join_with.Tie as tie
 
 abbrev Inv-loop : tie.InvT-loop
-Inv-loop cells₀ to row c₀ cells c = (c ≤ 16) × Turned (joinWithCell max 16 to row) cells₀ c cells
+Inv-loop cells₀ to row c₀ cells c = (c ≤ tasks) × Turned (joinWithCell max tasks to row) cells₀ c cells
 
 abbrev μ-loop : tie.MeasureT-loop
-μ-loop cells₀ to row c₀ cells c = 16 - c
+μ-loop cells₀ to row c₀ cells c = tasks - c
 
 loop-holds : tie.Need-loop-holds Inv-loop μ-loop
 loop-holds c = (search needs, no-turn)
@@ -21,7 +22,7 @@ loop-again c = (search needs, one-turn (c .before .before .before .before .loop 
 
 returns : tie.Need-returns Inv-loop μ-loop
 unfolding joinWith
-returns c = all-turns 16 (c .before .loop .inv .1) (omega arith) (omega arith)
+returns c = all-turns tasks (c .before .loop .inv .1) (omega arith) (omega arith)
 
 pub join-with-spec : {M : Type 1} → statement M
 join-with-spec =

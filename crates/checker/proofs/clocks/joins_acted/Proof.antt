@@ -1,19 +1,17 @@
 -- A join's task is looked up in the row of what has acted; any other act joins none.
-use native.Mathlib.Omega.{arith}
-use borrow.Author.Tests.{eq-eqb, ne-eqb}
-use borrow.Author.Needs.{needs}
+use borrow.Author.Tests.{ne-eqb}
 use Rattle.checker.proofs.clocks.joins_acted.Statement.{statement}
 use Rattle.checker.proofs.clocks.joins_acted.Tie as tie
 
-element-copy-out-result : tie.Need-element-copy-out-result
-element-copy-out-result c = let h = c .before .pre (c .if1 .taken) in omega arith
+has-acted-requires : tie.Need-has-acted-requires
+has-acted-requires c κs = c .before .pre (c .match .keys1)
 
 returns : tie.Need-returns
-returns c = simp (eq-eqb _ _ (c .before .if1 .taken))
+returns c = rw (c .before .match .keys1) (c .has-acted .ensures)
 
 returns-2 : tie.Need-returns-2
-returns-2 c = simp (ne-eqb _ _ (c .if1 .left))
+returns-2 c = rw (ne-eqb _ _ (c .match .rest .1))
 
 pub joins-acted-spec : {M : Type 1} → statement M
 joins-acted-spec = tie.close (tie.spec
-    (λ c. search needs) (λ c. search needs) element-copy-out-result returns returns-2)
+    has-acted-requires returns returns-2)

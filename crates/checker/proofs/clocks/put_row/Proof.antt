@@ -5,15 +5,16 @@ use native.Mathlib.Omega.{arith}
 use lib.ListN.{set, getD}
 use Rattle.theory.specs.tables.Rows.{putRow}
 use Rattle.theory.proofs.basics.Turns.{Turned, no-turn, one-turn, all-turns}
+use Rattle.theory.specs.order.Limits.{tasks}
 use borrow.Author.Needs.{needs}
 use Rattle.checker.proofs.clocks.put_row.Statement.{statement}
 use Rattle.checker.proofs.clocks.put_row.Tie as tie
 
 abbrev Inv-loop : tie.InvT-loop
-Inv-loop cells₀ to row c₀ cells c = (c ≤ 16) × Turned (λ k x. set x (to * 16 + k) (getD row k 0)) cells₀ c cells
+Inv-loop cells₀ to row c₀ cells c = (c ≤ tasks) × Turned (λ k x. set x (to * tasks + k) (getD row k 0)) cells₀ c cells
 
 abbrev μ-loop : tie.MeasureT-loop
-μ-loop cells₀ to row c₀ cells c = 16 - c
+μ-loop cells₀ to row c₀ cells c = tasks - c
 
 loop-holds : tie.Need-loop-holds Inv-loop μ-loop
 loop-holds c = (search needs, no-turn)
@@ -23,7 +24,7 @@ loop-again c = (search needs, one-turn (c .before .before .loop .inv .1) refl)
 
 returns : tie.Need-returns Inv-loop μ-loop
 unfolding putRow
-returns c = all-turns 16 (c .before .loop .inv .1) (omega arith) (omega arith)
+returns c = all-turns tasks (c .before .loop .inv .1) (omega arith) (omega arith)
 
 pub put-row-spec : {M : Type 1} → statement M
 put-row-spec =

@@ -5,15 +5,16 @@ use native.Mathlib.Omega.{arith}
 use lib.ListN.{set}
 use Rattle.theory.specs.tables.Rows.{cell, rowOf}
 use Rattle.theory.proofs.basics.Turns.{Turned, no-turn, one-turn, all-turns}
+use Rattle.theory.specs.order.Limits.{tasks}
 use borrow.Author.Needs.{needs}
 use Rattle.checker.proofs.clocks.row_of.Statement.{statement}
 use Rattle.checker.proofs.clocks.row_of.Tie as tie
 
 abbrev Inv-loop : tie.InvT-loop
-Inv-loop cells from row₀ c₀ row c = (c ≤ 16) × Turned (λ k x. set x k (cell 16 cells from k)) row₀ c row
+Inv-loop cells from row₀ c₀ row c = (c ≤ tasks) × Turned (λ k x. set x k (cell tasks cells from k)) row₀ c row
 
 abbrev μ-loop : tie.MeasureT-loop
-μ-loop cells from row₀ c₀ row c = 16 - c
+μ-loop cells from row₀ c₀ row c = tasks - c
 
 loop-holds : tie.Need-loop-holds Inv-loop μ-loop
 loop-holds c = (search needs, no-turn)
@@ -23,7 +24,7 @@ loop-again c = (search needs, one-turn (c .before .before .loop .inv .1) refl)
 
 returns : tie.Need-returns Inv-loop μ-loop
 unfolding rowOf
-returns c = all-turns 16 (c .before .loop .inv .1) (omega arith) (omega arith)
+returns c = all-turns tasks (c .before .loop .inv .1) (omega arith) (omega arith)
 
 pub row-of-spec : {M : Type 1} → statement M
 row-of-spec =

@@ -2,29 +2,30 @@
 use mathlib.Core.List.{List}
 use Prim.Native.Nat.{ℕ, _≤_, _-_}
 use native.Mathlib.Omega.{arith}
-use Rattle.theory.specs.tables.Rows.{putRow, isReleased, rowOrHub, spread}
+use Rattle.theory.specs.tables.Rows.{hub, putRow, isReleased, rowOrHub, spread}
 use Rattle.theory.proofs.basics.Turns.{Turned, no-turn, one-turn, all-turns}
 use Rattle.theory.proofs.tables.NamedRows.{released-at-object}
+use Rattle.theory.specs.order.Limits.{tasks}
 use borrow.Author.Needs.{needs}
 use Rattle.checker.proofs.clocks.spread.Statement.{statement}
 use Rattle.checker.proofs.clocks.spread.Tie as tie
 
 -- one turn: a copy of the hub for row q, if it is released to
 abbrev released : ℕ → List ℕ → ℕ → List ℕ → List ℕ
-released mask hub q x = putRow 16 (rowOrHub (isReleased mask q) q) hub x
+released mask row q x = putRow tasks (rowOrHub (isReleased mask q) q) row x
 
 abbrev Inv-loop : tie.InvT-loop
-Inv-loop cells₀ mask hub r₀ cells r = (r ≤ 16) × Turned (released mask hub) cells₀ r cells
+Inv-loop cells₀ mask row r₀ cells r = (r ≤ tasks) × Turned (released mask row) cells₀ r cells
 
 abbrev μ-loop : tie.MeasureT-loop
-μ-loop cells₀ mask hub r₀ cells r = 16 - r
+μ-loop cells₀ mask row r₀ cells r = tasks - r
 
 abbrev Inv-loop2 : tie.InvT-loop2
-Inv-loop2 cells₀ mask hub r₀ cells r =
-    (16 ≤ r) × (r ≤ 80) × ((b : List ℕ) → Turned (released mask hub) b r₀ cells₀ → Turned (released mask hub) b r cells)
+Inv-loop2 cells₀ mask row r₀ cells r =
+    (tasks ≤ r) × (r ≤ hub) × ((b : List ℕ) → Turned (released mask row) b r₀ cells₀ → Turned (released mask row) b r cells)
 
 abbrev μ-loop2 : tie.MeasureT-loop2
-μ-loop2 cells₀ mask hub r₀ cells r = 80 - r
+μ-loop2 cells₀ mask row r₀ cells r = hub - r
 
 loop-holds : tie.Need-loop-holds Inv-loop μ-loop Inv-loop2 μ-loop2
 loop-holds c = (search needs, no-turn)
@@ -46,7 +47,7 @@ returns : tie.Need-returns Inv-loop μ-loop Inv-loop2 μ-loop2
 unfolding spread
 returns c =
     rw (← c .before .before .before .before .row-of .ensures)
-    (all-turns 80 (c .before .loop2 .inv .2 _ (c .before .before .before .loop .inv .1)) (omega arith) (omega arith))
+    (all-turns hub (c .before .loop2 .inv .2 _ (c .before .before .before .loop .inv .1)) (omega arith) (omega arith))
 
 pub spread-spec : {M : Type 1} → statement M
 spread-spec =

@@ -1,17 +1,7 @@
 -- An access is put into the slot where it clashes; else the history is as it was.
-use mathlib.Core.Path.{sym, _∙_}
-use Rattle.theory.specs.history.History.{asker}
-use Rattle.theory.proofs.tables.Ranges.{clash-access, access-proper}
 use borrow.Author.Needs.{needs}
 use Rattle.checker.proofs.history.keep_under.Statement.{statement}
 use Rattle.checker.proofs.history.keep_under.Tie as tie
-
-slot-requires : tie.Need-slot-requires
-slot-requires c κs =
-    let x = c .before .before .args in
-    let (a, p) = c .before .before .pre in
-    let (t, v) = access-proper p (clash-access (x .kind) (asker (x .a)) (sym (c .if1 .taken) ∙ c .before .clashes .ensures)) in
-    (a, v, t)
 
 returns : tie.Need-returns
 returns c = rw (← c .before .before .clashes .ensures, c .before .if1 .taken, ← c .slot .ensures .0)
@@ -20,4 +10,4 @@ returns-2 : tie.Need-returns-2
 returns-2 c = rw (← c .before .clashes .ensures, c .if1 .left)
 
 pub keep-under-spec : {M : Type 1} → statement M
-keep-under-spec = tie.close (tie.spec (λ c κs. search needs) slot-requires (λ c. search needs) (λ c. search needs) returns returns-2)
+keep-under-spec = tie.close (tie.spec (λ c κs. search needs) (λ c κs. search needs) (λ c. search needs) (λ c. search needs) returns returns-2)

@@ -4,6 +4,7 @@ use Prim.Native.Nat.{_^_, _+_, _*_}
 use native.Mathlib.Nat.{zero-mul}
 use native.Mathlib.Omega.{arith}
 use lib.Pow.{pow-lt}
+use Rattle.theory.specs.order.Limits.{tasks}
 use borrow.Author.Needs.{needs}
 use Rattle.checker.proofs.masks.weight_of.Statement.{statement}
 use Rattle.checker.proofs.masks.weight_of.Tie as tie
@@ -15,7 +16,7 @@ returns : tie.Need-returns
 returns c = rw (c .before .if1 .taken) (omega (arith, c .weight .ensures .0))
 
 returns-2 : tie.Need-returns-2
-returns-2 c = rw (c .if1 .left) (sym (zero-mul (2 ^ c .before .args .u * 2 ^ 16 + 2 ^ c .before .args .u)))
+returns-2 c = let w = 2 ^ c .before .args .u .0 in rw (c .if1 .left) (sym (zero-mul (w * 2 ^ tasks + w)))
 
 pub weight-of-spec : {M : Type 1} → statement M
 weight-of-spec = tie.close (tie.spec (λ c κs. search needs) mul-result returns returns-2)

@@ -3,7 +3,7 @@ use mathlib.Core.Path.{_≡_, sym, _∙_}
 use Prim.Native.Nat.{ℕ}
 use lib.ListN.{drop}
 use Rattle.theory.specs.acceptance.Table.{firstRow}
-use Rattle.theory.specs.acceptance.Control.{standingIn, refusalIn}
+use Rattle.theory.specs.acceptance.Control.{controlStanding, controlRefusal}
 use Rattle.theory.proofs.acceptance.Rows.{markRows, mark-rows}
 use borrow.Author.Needs.{needs}
 use Rattle.checker.proofs.refusals.mark_refusal.Statement.{statement}
@@ -13,10 +13,10 @@ use Rattle.checker.proofs.refusals.mark_refusal.Tie as tie
 abbrev Past : ℕ → tie.Start → Type 0
 Past n c =
     let control = c .args .control .now in
-    refusalIn control (c .args .r) ≡ firstRow (drop n (markRows (standingIn control) (c .args .r)))
+    controlRefusal control (c .args .r) ≡ firstRow (drop n (markRows (controlStanding control) (c .args .r)))
 
 entered : (c : tie.Start) → Past 0 c
-entered c = let control = c .args .control .now in mark-rows (standingIn control) (c .args .r) (c .pre)
+entered c = let control = c .args .control .now in mark-rows (controlStanding control) (c .args .r) (c .pre)
 
 past-1 : (c : tie.Else1) → Past 1 (c .before .before)
 past-1 c = entered (c .before .before) ∙ rw (sym (c .before .no-mask .ensures) ∙ c .if1 .left)

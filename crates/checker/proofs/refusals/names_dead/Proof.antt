@@ -1,11 +1,12 @@
--- `checker::refusals::names_dead`: the task is below 16, so that its bit alone decides whether the mask names it. Assumes nothing.
+-- `checker::refusals::names_dead`: the task is one of the tasks, so that its bit alone decides whether the mask names it. Assumes nothing.
 use borrow.Author.Tests.{lt-ltb}
+use Rattle.theory.specs.order.Limits.{tasks}
 use borrow.Author.Needs.{needs}
 use Rattle.checker.proofs.refusals.names_dead.Statement.{statement}
 use Rattle.checker.proofs.refusals.names_dead.Tie as tie
 
 returns : tie.Need-returns
-returns c = rw (c .both .ensures, c .before .is-live .ensures, c .before .before .has-bit .ensures, lt-ltb _ 16 (c .before .before .before .pre))
+returns c = rw (c .both .ensures, c .before .is-live .ensures, c .before .before .has-bit .ensures, lt-ltb _ tasks (c .before .before .before .pre))
 
 pub names-dead-spec : {M : Type 1} → statement M
 names-dead-spec = tie.close (tie.spec

@@ -6,8 +6,9 @@ use Rattle.checker.proofs.sets.apart.Tie as tie
 
 returns : tie.Need-returns
 returns c =
-    let a = c .before .before .before .args in
-    rw (c .both .ensures, c .before .before .latest-number .ensures, c .before .weight .ensures .0, and-weight (a .known) (a .u))
+    let at-latest = c .before .before .before in
+    let a = at-latest .before .args in
+    rw (c .both .ensures, at-latest .latest-number .ensures, c .before .weight .ensures .0, and-weight (a .known) (a .u .0))
 
 pub apart-spec : {M : Type 1} → statement M
 apart-spec = tie.close (tie.spec (λ c κs. search needs) (λ c κs. search needs) (λ c κs. search needs) returns)

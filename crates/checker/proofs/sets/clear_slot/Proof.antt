@@ -4,7 +4,7 @@ use Prim.Native.Nat.{_≤_, _+_, _*_, _-_}
 use native.Mathlib.Omega.{arith}
 use lib.Bits.{bitAnd}
 use lib.ListN.{set}
-use Rattle.theory.specs.tables.Rows.{cell}
+use Rattle.theory.specs.tables.Rows.{rowCount, cell}
 use Rattle.theory.specs.tables.Reckonings.{slotWords, clearSlot}
 use Rattle.theory.proofs.basics.Turns.{Turned, no-turn, one-turn, all-turns}
 use borrow.Author.Needs.{needs}
@@ -12,10 +12,10 @@ use Rattle.checker.proofs.sets.clear_slot.Statement.{statement}
 use Rattle.checker.proofs.sets.clear_slot.Tie as tie
 
 abbrev Inv-loop : tie.InvT-loop
-Inv-loop cells₀ s word others r₀ cells r = (r ≤ 81) × Turned (λ q b. set b (q * slotWords + word) (bitAnd (cell slotWords b q word) others)) cells₀ r cells
+Inv-loop cells₀ s word others r₀ cells r = (r ≤ rowCount) × Turned (λ q b. set b (q * slotWords + word) (bitAnd (cell slotWords b q word) others)) cells₀ r cells
 
 abbrev μ-loop : tie.MeasureT-loop
-μ-loop cells₀ s word others r₀ cells r = 81 - r
+μ-loop cells₀ s word others r₀ cells r = rowCount - r
 
 loop-holds : tie.Need-loop-holds Inv-loop μ-loop
 loop-holds c = (search needs, no-turn)
@@ -25,7 +25,7 @@ loop-again c = (search needs, one-turn (c .before .before .loop .inv .1) refl)
 
 returns : tie.Need-returns Inv-loop μ-loop
 unfolding clearSlot
-returns c = rw (← c .before .before .all-but .ensures) (all-turns 81 (c .before .loop .inv .1) (omega arith) (omega arith))
+returns c = rw (← c .before .before .all-but .ensures) (all-turns rowCount (c .before .loop .inv .1) (omega arith) (omega arith))
 
 pub clear-slot-spec : {M : Type 1} → statement M
 clear-slot-spec =

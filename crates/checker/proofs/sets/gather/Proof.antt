@@ -3,18 +3,19 @@ use Prim.Native.Nat.{_≤_, _-_}
 use native.Mathlib.Omega.{arith}
 use lib.Bits.{bitOr}
 use Rattle.theory.specs.fillings.Completion.{bit}
-use Rattle.theory.specs.tables.Rows.{joinRow, rowOrHub, gather}
+use Rattle.theory.specs.tables.Rows.{hub, joinRow, rowOrHub, gather}
 use Rattle.theory.proofs.basics.Turns.{Turned, no-turn, one-turn, all-turns}
 use Rattle.theory.specs.tables.Reckonings.{slotWords}
+use Rattle.theory.specs.order.Limits.{tasks}
 use borrow.Author.Needs.{needs}
 use Rattle.checker.proofs.sets.gather.Statement.{statement}
 use Rattle.checker.proofs.sets.gather.Tie as tie
 
 abbrev Inv-loop : tie.InvT-loop
-Inv-loop cells₀ mask t₀ cells t = (t ≤ 16) × Turned (λ q b. joinRow bitOr slotWords 80 (rowOrHub (bit mask q) q) b) cells₀ t cells
+Inv-loop cells₀ mask t₀ cells t = (t ≤ tasks) × Turned (λ q b. joinRow bitOr slotWords hub (rowOrHub (bit mask q) q) b) cells₀ t cells
 
 abbrev μ-loop : tie.MeasureT-loop
-μ-loop cells₀ mask t₀ cells t = 16 - t
+μ-loop cells₀ mask t₀ cells t = tasks - t
 
 loop-holds : tie.Need-loop-holds Inv-loop μ-loop
 loop-holds c = (search needs, no-turn)
@@ -25,7 +26,7 @@ loop-again c =
 
 returns : tie.Need-returns Inv-loop μ-loop
 unfolding gather
-returns c = all-turns 16 (c .before .loop .inv .1) (omega arith) (omega arith)
+returns c = all-turns tasks (c .before .loop .inv .1) (omega arith) (omega arith)
 
 pub gather-spec : {M : Type 1} → statement M
 gather-spec =

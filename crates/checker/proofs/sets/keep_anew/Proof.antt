@@ -4,7 +4,7 @@ use Prim.Native.Nat.{_≤_, _-_}
 use native.Mathlib.Omega.{arith}
 use lib.ListN.{length}
 use Rattle.theory.specs.order.Recording.{kindAt}
-use Rattle.theory.specs.history.History.{askers, asker, clashBy, slot, underEach}
+use Rattle.theory.specs.history.History.{askers, asker, kindClashes, slot, underEach}
 use Rattle.theory.specs.tables.Reckonings.{addSlot, clearSlot}
 use Rattle.theory.proofs.basics.Turns.{Turned, no-turn, one-turn, all-turns}
 use borrow.Author.Needs.{needs}
@@ -12,11 +12,11 @@ use Rattle.checker.proofs.sets.keep_anew.Statement.{statement}
 use Rattle.checker.proofs.sets.keep_anew.Tie as tie
 
 abbrev Inv-loop : tie.InvT-loop
-Inv-loop cells₀ kind task on a₀ cells a =
-    (a ≤ length askers) × Turned (λ a b. cond (clashBy (kindAt kind) (asker a)) (addSlot task (slot a on task) (clearSlot (slot a on task) b)) b) cells₀ a cells
+Inv-loop cells₀ kind task v a₀ cells a =
+    (a ≤ length askers) × Turned (λ a b. cond (kindClashes (kindAt kind) (asker a)) (addSlot (task .0) (slot a (v .0) (task .0)) (clearSlot (slot a (v .0) (task .0)) b)) b) cells₀ a cells
 
 abbrev μ-loop : tie.MeasureT-loop
-μ-loop cells₀ kind task on a₀ cells a = length askers - a
+μ-loop cells₀ kind task v a₀ cells a = length askers - a
 
 loop-holds : tie.Need-loop-holds Inv-loop μ-loop
 loop-holds c = (search needs, no-turn)

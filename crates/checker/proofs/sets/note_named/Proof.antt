@@ -4,18 +4,19 @@ use native.Mathlib.Omega.{arith}
 use mathlib.Core.Bool.{cond}
 use lib.ListN.{set}
 use Rattle.theory.specs.fillings.Completion.{bit}
-use Rattle.theory.specs.tables.Rows.{cell, noteNamed}
+use Rattle.theory.specs.tables.Rows.{actedRow, cell, noteNamed}
 use Rattle.theory.proofs.basics.Turns.{Turned, no-turn, one-turn, all-turns}
 use Rattle.theory.specs.tables.Reckonings.{slotWords}
+use Rattle.theory.specs.order.Limits.{tasks}
 use borrow.Author.Needs.{needs}
 use Rattle.checker.proofs.sets.note_named.Statement.{statement}
 use Rattle.checker.proofs.sets.note_named.Tie as tie
 
 abbrev Inv-loop : tie.InvT-loop
-Inv-loop cells₀ mask t₀ cells t = (t ≤ 16) × Turned (λ q b. set b (81 * slotWords + q) (cond (bit mask q) 1 (cell slotWords b 81 q))) cells₀ t cells
+Inv-loop cells₀ mask t₀ cells t = (t ≤ tasks) × Turned (λ q b. set b (actedRow * slotWords + q) (cond (bit mask q) 1 (cell slotWords b actedRow q))) cells₀ t cells
 
 abbrev μ-loop : tie.MeasureT-loop
-μ-loop cells₀ mask t₀ cells t = 16 - t
+μ-loop cells₀ mask t₀ cells t = tasks - t
 
 loop-holds : tie.Need-loop-holds Inv-loop μ-loop
 loop-holds c = (search needs, no-turn)
@@ -26,7 +27,7 @@ loop-again c =
 
 returns : tie.Need-returns Inv-loop μ-loop
 unfolding noteNamed
-returns c = all-turns 16 (c .before .loop .inv .1) (omega arith) (omega arith)
+returns c = all-turns tasks (c .before .loop .inv .1) (omega arith) (omega arith)
 
 pub note-named-spec : {M : Type 1} → statement M
 note-named-spec =

@@ -1,7 +1,14 @@
 -- A refused record leaves all as it was; of an accepted one the calls' equations are put together.
+use mathlib.Core.Path.{refl}
+use Prim.Native.Nat.{_+_}
 use native.Mathlib.Omega.{arith}
+use lib.ListN.{set}
+use borrow.Author.Tests.{ne-eqb}
+use Rattle.theory.specs.order.Recording.{lossMark}
+use Rattle.theory.specs.acceptance.Control.{countIn}
 use Rattle.theory.specs.feeding.Step.{stepOf}
-use Rattle.theory.proofs.acceptance.Accepted.{Accepts, accepts, refused}
+use Rattle.theory.proofs.acceptance.Accepted.{Accepts, accepts, names-task, refused}
+use Rattle.theory.proofs.history.Accesses.{kept-nowhere}
 use borrow.Author.Needs.{needs}
 use Rattle.checker.proofs.stepping.step_in_place.Statement.{statement}
 use Rattle.checker.proofs.stepping.step_in_place.Tie as tie
@@ -14,29 +21,40 @@ returns c = rw (← c .before .refusal .ensures) (refused _ _ _ (c .if1 .taken))
 accepted : (c : tie.Else1) → let a = c .before .before .before .args in Accepts (a .control .now) (a .r)
 accepted c = let a = c .before .before .before .args in accepts (a .control .now) (a .r) _ (c .before .refusal .ensures) (c .if1 .left)
 
-add-number : tie.Need-add-number
-add-number c = omega (arith, accepted (c .before) .room)
+add-t14 : tie.Need-add-t14
+add-t14 c = omega (arith, accepted (c .before) .room)
 
-clock-masks-requires : tie.Need-clock-masks-requires
-clock-masks-requires c κs = accepted (c .before .before .before .before) .proper
+note-requires : tie.Need-note-requires
+note-requires c κs = let a = accepted (c .before .before) in (names-task (a .proper), a .room)
 
-advance-clocks-requires : tie.Need-advance-clocks-requires
-advance-clocks-requires c κs = accepted (c .before .before .before .before .before .before .before) .proper
+act-by-clocks-requires : tie.Need-act-by-clocks-requires
+act-by-clocks-requires c κs =
+    let at-match = c .before .before .before in
+    let n = at-match .match .rest .1 in
+    (accepted (at-match .before .before .before .before) .proper .act-fits n, n)
 
-take-in-requires : tie.Need-take-in-requires
-take-in-requires c κs = let a = accepted (c .before .before .before .before .before .before .before .before .before .before) in (a .proper, a .room)
-
+-- a mark fills in nothing as it arrived, and is kept nowhere
 returns-2 : tie.Need-returns-2
 unfolding stepOf
 returns-2 c =
-    let at-advance = c .before .before .before in
-    let at-masks = at-advance .before .before .before in
-    let at-if1 = at-masks .before .before .before .before .before in
-    let t = c .take-in .ensures in
-    let tables = at-advance .advance-clocks .ensures in
-    rw (← at-if1 .before .refusal .ensures, at-if1 .if1 .left, t .1, t .2, t .0, tables .0, tables .1, at-masks .clock-masks .ensures)
+    let at-match = c .before .before in
+    let at-note = at-match .before in
+    let at-if1 = at-note .before .before .before in
+    let a = at-if1 .before .before .before .args in
+    let e = at-match .match .keys1 in
+    let h = accepted at-if1 .proper .mark-names e in
+    let some = ne-eqb (a .r .on) 0 (λ z. omega arith) in
+    let last = kept-nowhere (λ s l. set l s (countIn (a .control .now) + 1)) lossMark (a .r .on) (a .r .task) (a .last .now) refl in
+    rw (← at-if1 .before .refusal .ensures, at-if1 .if1 .left, at-note .note .ensures, c .mix .ensures, e, last, some)
+
+returns-3 : tie.Need-returns-3
+unfolding stepOf
+returns-3 c =
+    let at-note = c .before .before .before .before .before in
+    let at-if1 = at-note .before .before .before in
+    let t = c .act-by-clocks .ensures in
+    rw (← at-if1 .before .refusal .ensures, at-if1 .if1 .left, at-note .note .ensures, t .0, t .1, t .2, t .3)
 
 pub step-in-place-spec : {M : Type 1} → statement M
-step-in-place-spec =
-    tie.close (tie.spec
-    (λ c κs. search needs) returns (λ c. search needs) add-number clock-masks-requires advance-clocks-requires take-in-requires returns-2)
+step-in-place-spec = tie.close (tie.spec
+    (λ c κs. search needs) returns (λ c. search needs) add-t14 note-requires (λ c κs. search needs) act-by-clocks-requires returns-2 returns-3)

@@ -8,7 +8,7 @@ use Rattle.order.proofs.blocks.answer_input.Tie as tie
 
 abbrev Inv-loop : tie.InvT-loop
 Inv-loop out₀ held₀ control₀ last₀ clocks₀ fullclocks₀ block₀ now₀ more₀ turns₀ out held control last clocks fullclocks block now more turns =
-    (65536 ≡ length block) × (length out ≡ length out₀) × (length held ≡ length held₀)
+    (length block₀ ≡ length block) × (length out ≡ length out₀) × (length held ≡ length held₀)
 
 abbrev μ-loop : tie.MeasureT-loop
 μ-loop out₀ held₀ control₀ last₀ clocks₀ fullclocks₀ block₀ now₀ more₀ turns₀ out held control last clocks fullclocks block now more turns = turns

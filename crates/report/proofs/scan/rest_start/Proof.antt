@@ -25,7 +25,7 @@ shared-slice-read-if1 : tie.Need-shared-slice-read-if1 Inv-loop μ-loop
 shared-slice-read-if1 c = search needs
 
 returns : tie.Need-returns Inv-loop μ-loop
-returns c = (c .before .before .before .loop .inv .0, c .before .before .before .loop .inv .1, λ _. c .if1 .taken)
+returns c = let i = c .before .before .before .loop .inv in record { within = i .0; none = i .1; after-lf = λ _. c .if1 .taken }
 
 sub-i : tie.Need-sub-i Inv-loop μ-loop
 sub-i c = search needs
@@ -39,7 +39,7 @@ loop-again c =
     (omega (arith, at-loop .loop .inv .0), one-before _ _ (c .before .before .loop-test .taken) (at-loop .loop .inv .0) (c .if1 .left) (at-loop .loop .inv .1))
 
 returns-2 : tie.Need-returns-2 Inv-loop μ-loop
-returns-2 c = (c .before .loop .inv .0, c .before .loop .inv .1, λ h. absurd (omega (arith, c .loop-test .left)))
+returns-2 c = let i = c .before .loop .inv in record { within = i .0; none = i .1; after-lf = λ h. absurd (omega (arith, c .loop-test .left)) }
 
 pub rest-start-spec : {M : Type 1} → statement M
 rest-start-spec =

@@ -10,13 +10,13 @@ use Rattle.report.proofs.short.short_line.Statement.{statement}
 use Rattle.report.proofs.short.short_line.Tie as tie
 
 -- the op is within eight of the 24 bytes
-room : (c : tie.After-struct-known2) → let at-known-op = c .before .before .before in let start = at-known-op .before .before .before in
+room : (c : tie.After-struct-known2) → let at-known-op = c .before .before .before in let start = at-known-op .before .before .before .before in
     start .args .p + at-known-op .known-op .result .len + 16 ≤ length (start .args .s .now)
 room c =
     let at-known-op = c .before .before .before in
-    let op = at-known-op .known-op .ensures (c .before .if2 .left) in
-    let at-if1 = at-known-op .before in
-    omega (arith, op .long, op-long (at-known-op .known-op .result .kind) (op .known), at-if1 .if1 .left, at-if1 .before .before .pre)
+    let op = at-known-op .known-op .ensures (c .before .if3 .left) in
+    let at-if2 = at-known-op .before in
+    omega (arith, op .long, op-long (at-known-op .known-op .result .kind) (op .known), at-if2 .if2 .left, at-if2 .before .if1 .left)
 
 returns : tie.Need-returns
 returns c = λ h. absurd (h (c .not-short .ensures))
@@ -33,6 +33,9 @@ returns-4 c = λ h. absurd (h (c .not-short4 .ensures))
 returns-5 : tie.Need-returns-5
 returns-5 c = λ h. absurd (h (c .not-short5 .ensures))
 
+returns-6 : tie.Need-returns-6
+returns-6 c = λ h. absurd (h (c .not-short6 .ensures))
+
 add-e : tie.Need-add-e
 add-e c = omega (arith, room c)
 
@@ -48,8 +51,8 @@ on-at-requires c κs = omega (arith, room (c .before .before .before .before), c
 add-end : tie.Need-add-end
 add-end c = omega (arith, room (c .before .before .before .before .before .before .before .before), c .before .before .before .before .before .before .before .task-at .ensures .0, c .before .before .before .on-at .ensures .0)
 
-shared-slice-read-if5 : tie.Need-shared-slice-read-if5
-shared-slice-read-if5 c =
+shared-slice-read-if6 : tie.Need-shared-slice-read-if6
+shared-slice-read-if6 c =
     let at-on-at = c .before .before .before .before in
     let at-before = at-on-at .before .before .before .before in
     omega (arith, room (at-before .before), at-before .task-at .ensures .0, at-on-at .on-at .ensures .0)
@@ -63,21 +66,21 @@ add-to c =
       c .before .before .before .before .before .on-at .ensures .0,
     )
 
-returns-6 : tie.Need-returns-6
-returns-6 c =
+returns-7 : tie.Need-returns-7
+returns-7 c =
     let o = c .before .before .before .before .before .before .before .before .before .before in
     let k = o .before .before .before .known-op in
-    let a = o .before .before .before .before .before .before .args in
+    let a = o .before .before .before .before .before .before .before .args in
     let t = c .before .before .before .before .before .before .before .before .before .task-at in
     let n = c .before .before .before .before .before .on-at in
     λ h. short-said (a .s .now) (a .p) (k .result .kind) (t .result .value) (n .result .value) (k .result .len) (t .result .len) (n .result .len) (a .p + k .result .len)
     h (k .ensures h) refl
-    (t .ensures .1 (omega (arith, c .before .before .before .before .before .before .before .if3 .left))) (n .ensures .1 (omega (arith, c .before .before .before .if4 .left)))
-    (omega (arith, room o, t .ensures .0, n .ensures .0)) (c .if5 .left)
+    (t .ensures .1 (omega (arith, c .before .before .before .before .before .before .before .if4 .left))) (n .ensures .1 (omega (arith, c .before .before .before .if5 .left)))
+    (omega (arith, room o, t .ensures .0, n .ensures .0)) (c .if6 .left)
 
 pub short-line-spec : {M : Type 1} → statement M
 short-line-spec =
     tie.close (tie.spec
-    (λ c. search needs) (λ c κs. search needs) returns (λ c κs. search needs) (λ c κs. search needs) returns-2
-    add-e task-at-requires (λ c κs. search needs) returns-3 add-q on-at-requires
-    (λ c κs. search needs) returns-4 add-end shared-slice-read-if5 (λ c κs. search needs) returns-5 add-to returns-6)
+    (λ c κs. search needs) returns (λ c. search needs) (λ c κs. search needs) returns-2 (λ c κs. search needs) (λ c κs. search needs) returns-3
+    add-e task-at-requires (λ c κs. search needs) returns-4 add-q on-at-requires
+    (λ c κs. search needs) returns-5 add-end shared-slice-read-if6 (λ c κs. search needs) returns-6 add-to returns-7)

@@ -1,5 +1,6 @@
 -- The tests in their order; the first that fails settles it.
-use borrow.Author.Tests.{le-leb, lt-leb}
+use mathlib.Core.Path.{sym, _∙_}
+use borrow.Author.Tests.{le-leb, lt-leb, not-true, not-false}
 use borrow.Author.Needs.{needs}
 use Rattle.report.proofs.streaming.has_room.Statement.{statement}
 use Rattle.report.proofs.streaming.has_room.Tie as tie
@@ -11,20 +12,14 @@ returns-2 : tie.Need-returns-2
 returns-2 c = rw (le-leb _ _ (c .before .before .if1 .left), lt-leb _ _ (c .if2 .taken))
 
 returns-3 : tie.Need-returns-3
-returns-3 c = rw (le-leb _ _ (c .before .before .before .if1 .left), le-leb _ _ (c .before .if2 .left), lt-leb _ _ (c .if3 .taken))
+returns-3 c =
+    let at-if2 = c .before .before in
+    rw (le-leb _ _ (at-if2 .before .before .if1 .left), le-leb _ _ (at-if2 .if2 .left), sym (c .before .holds-open .ensures) ∙ not-true _ (c .if3 .taken))
 
 returns-4 : tie.Need-returns-4
 returns-4 c =
     let at-if2 = c .before .before .before in
-    let at-if1 = at-if2 .before .before in
-    rw (le-leb _ _ (at-if1 .if1 .left), le-leb _ _ (at-if2 .if2 .left), le-leb _ _ (c .before .before .if3 .left), lt-leb _ _ (c .if4 .taken))
-
-returns-5 : tie.Need-returns-5
-returns-5 c =
-    let at-if3 = c .before .before .before in
-    let at-if2 = at-if3 .before in
-    let at-if1 = at-if2 .before .before in
-    rw (le-leb _ _ (at-if1 .if1 .left), le-leb _ _ (at-if2 .if2 .left), le-leb _ _ (at-if3 .if3 .left), le-leb _ _ (c .before .if4 .left))
+    rw (le-leb _ _ (at-if2 .before .before .if1 .left), le-leb _ _ (at-if2 .if2 .left), sym (c .before .before .holds-open .ensures) ∙ not-false _ (c .before .if3 .left))
 
 pub has-room-spec : {M : Type 1} → statement M
-has-room-spec = tie.close (tie.spec returns returns-2 returns-3 returns-4 (λ c. search needs) returns-5)
+has-room-spec = tie.close (tie.spec returns returns-2 (λ c κs. search needs) returns-3 (λ c. search needs) returns-4)

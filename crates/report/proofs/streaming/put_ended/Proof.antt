@@ -1,46 +1,52 @@
--- The line that has begun is answered, then those that end in the piece after it.
+-- Nothing is held, and all lines that end lie whole in the piece; or the line that has begun is answered, then those that end after it.
 use native.Mathlib.Omega.{arith}
 use Rattle.text.proofs.Wrote.{as-long}
-use Rattle.text.proofs.Lines.{lines-at}
-use Rattle.text.proofs.Held.{counted, some-lines, lines-answered, short-held}
+use Rattle.text.proofs.Held.{short-held, some-lf, first-before, lines-before, none-begun, some-begun}
 use borrow.Author.Needs.{needs}
 use Rattle.report.proofs.streaming.put_ended.Statement.{statement}
 use Rattle.report.proofs.streaming.put_ended.Tie as tie
 
-slice-aggregate-put-first : tie.Need-slice-aggregate-put-first
-slice-aggregate-put-first c =
-    let b = c .before .before .before .before .before .before in
-    counted _ _ (omega (arith, b .pre .2))
-
-put-first-requires : tie.Need-put-first-requires
-put-first-requires c κs =
-    let b = c .before .before .before .before .before .before .before .before .before .before in
-    let l = some-lines (b .args .piece .now) (omega (arith, b .pre .2)) in
-    (omega (arith, l, b .pre .0 .room), b .pre .0 .short, b .pre .0 .holds)
-
 put-lines-requires : tie.Need-put-lines-requires
 put-lines-requires c κs =
-    let f = c .before .before .before .before .before .before .before in
-    let b = f .before .before .before .before .before .before .before .before .before .before .before in
-    let l = lines-at (b .args .piece .now) 0 _ (omega (arith, b .pre .2)) (b .pre .1) in
-    let w = f .put-first .ensures in
-    (omega (arith, b .pre .2), omega (arith, l, b .pre .0 .room, w .room, as-long (w .wrote)), omega (arith, b .pre .0 .counted, b .pre .2))
+    let (f, last, some) = c .before .before .before .before .before .before .before .before .before .before .pre in
+    lines-before _ 0 last (omega arith) (omega (arith, f .room, last .within)) (omega (arith, f .counted, last .within))
 
 returns : tie.Need-returns
 returns c =
-    let p = c .before .before in
-    let f = p .before .before .before .before .before .before .before .before in
-    let b = f .before .before .before .before .before .before .before .before .before .before .before in
-    lines-answered _ _ _ _ _ (short-held _ (b .pre .0 .short)) (b .pre .1) (b .pre .2) (f .put-first .ensures) (p .put-lines .ensures)
+    let at-if1 = c .before .before .before .before .before .before .before .before in
+    let (f, last, some) = at-if1 .before .before .before .before .before .pre in
+    rw (at-if1 .if1 .taken) (none-begun _ _ last (c .before .before .put-lines .ensures))
+
+put-first-requires : tie.Need-put-first-requires
+put-first-requires c κs =
+    let at-line-end = c .before .before .before .before .before in
+    let at-if1 = at-line-end .before in
+    let start = at-if1 .before .before .before .before .before in
+    let (f, last, some) = start .pre in
+    (f, omega (arith, at-if1 .if1 .left), at-line-end .line-end .ensures .0, some-lf (start .args .piece .now) (at-line-end .line-end .ensures .0) last some)
+
+put-lines-requires-2 : tie.Need-put-lines-requires-2
+put-lines-requires-2 c κs =
+    let at-put-first = c .before .before .before .before .before .before .before .before in
+    let at-line-end = at-put-first .before .before .before .before .before .before in
+    let start = at-line-end .before .before .before .before .before .before in
+    let (f, last, some) = start .pre in
+    let ends = some-lf (start .args .piece .now) (at-line-end .line-end .ensures .0) last some in
+    let before = first-before (start .args .piece .now) _ (at-line-end .line-end .ensures .0) ends last in
+    let a = at-put-first .put-first .ensures in
+    lines-before _ _ last before (omega (arith, f .room, last .within, before, a .room, as-long (a .wrote))) (omega (arith, f .counted, last .within, before))
+
+returns-2 : tie.Need-returns-2
+returns-2 c =
+    let at-put-first = c .before .before .before .before .before .before .before .before .before .before .before in
+    let at-line-end = at-put-first .before .before .before .before .before .before in
+    let start = at-line-end .before .before .before .before .before .before in
+    let (f, last, some) = start .pre in
+    let ends = some-lf (start .args .piece .now) (at-line-end .line-end .ensures .0) last some in
+    some-begun _ _ _ _ _ (short-held _ (f .short)) (at-line-end .line-end .ensures .0) ends last (at-put-first .put-first .ensures) (c .before .before .put-lines2 .ensures)
 
 pub put-ended-spec : {M : Type 1} → statement M
 put-ended-spec =
-    tie.close
-    (tie.spec
-    (λ c. search needs)
-    slice-aggregate-put-first
-    put-first-requires
-    (λ c. search needs)
-    put-lines-requires
-    (λ c. search needs)
-    returns)
+    tie.close (tie.spec
+    put-lines-requires (λ c. search needs) returns (λ c κs. search needs) put-first-requires (λ c. search needs) (λ c. search needs)
+    put-lines-requires-2 (λ c. search needs) returns-2)

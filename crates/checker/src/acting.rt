@@ -1,0 +1,148 @@
+// What an accepted act does to the history and to the tables of a reckoning, and its answer: by the clocks, and the same by the sets. The
+// number of an access is a variable; that of any other act goes on with its kind, which says in clocks.rt, sets.rt and rows.rt what it is.
+use crate::clocks;
+use crate::clocks::clock_masks;
+use crate::history::is_access;
+use crate::history::keep;
+use crate::masks::judged;
+use crate::sets;
+use crate::sets::note_acted;
+use crate::sets::set_masks;
+use theory::Answer;
+use theory::Clocks;
+use theory::History;
+use theory::Masks;
+use theory::RecordNumber;
+use theory::Sets;
+use theory::Task;
+use theory::Variable;
+ghost use mathlib.Core.Path.{_≡_};
+ghost use mathlib.Core.Logic.{_≢_};
+ghost use Rattle.theory.specs.order.Recording.{lossMark};
+ghost use Rattle.theory.specs.acceptance.Table.{Fitting};
+ghost use Rattle.theory.specs.fillings.Completion.{arrived, full};
+ghost use Rattle.theory.specs.history.History.{lastAfter};
+ghost use Rattle.theory.specs.tables.Reckonings.{clockOwn, clocksBy, setOwn, setsBy, clockMask, clockMasks, setMask, setMasks};
+ghost use Rattle.theory.specs.feeding.Step.{answerByMasks, answeredBy};
+ghost use Rattle.theory.specs.feeding.Lent.{seen};
+ghost use Rattle.theory.proofs.history.Accesses.{OfAccess};
+
+// An access is judged by what was kept before it, then kept itself.
+fn take_in(
+    last: &mut History,
+    kind: u8,
+    task: Task,
+    v: Variable,
+    number: RecordNumber,
+    masks: Masks,
+) -> Answer
+    requires { ⌜ OfAccess kind (task .0) (v .0) ⌝ }
+    ensures { λ a. let l = seen last in ⌜ (a ≡ answerByMasks (l .entry) kind (v .0) (number .0) (masks .full) (masks .arrived))
+        × (l .exit ≡ lastAfter kind (task .0) (v .0) (number .0) (l .entry)) ⌝ }
+{
+    let answer = judged(last, kind, v, number, masks);
+    keep(last, kind, task, v, number);
+    answer
+}
+
+// An access, by the clocks: its own cells are all that changes there, since it acquires from and releases to no other row.
+fn access_by_clocks(
+    last: &mut History,
+    clocks: &mut Clocks,
+    fullclocks: &mut Clocks,
+    kind: u8,
+    task: Task,
+    v: Variable,
+    number: RecordNumber,
+) -> Answer
+    requires { ⌜ OfAccess kind (task .0) (v .0) ⌝ }
+    ensures { λ a. let l = seen last in let c = seen clocks in let f = seen fullclocks in
+        ⌜ (a ≡ answerByMasks (l .entry) kind (v .0) (number .0)
+        (clockMask (f .entry) (l .entry) kind (task .0) (v .0)) (clockMask (c .entry) (l .entry) kind (task .0) (v .0)))
+        × (l .exit ≡ lastAfter kind (task .0) (v .0) (number .0) (l .entry))
+        × (c .exit ≡ clockOwn (task .0) (number .0) (c .entry))
+        × (f .exit ≡ clockOwn (task .0) (number .0) (f .entry)) ⌝ }
+{
+    let masks = clock_masks(clocks, fullclocks, last, kind, task, v);
+    clocks::own(clocks, task, number);
+    clocks::own(fullclocks, task, number);
+    take_in(last, kind, task, v, number, masks)
+}
+
+// An act, by the clocks. One that is no access is kept nowhere, and passes order on.
+pub(crate) fn act_by_clocks(
+    last: &mut History,
+    clocks: &mut Clocks,
+    fullclocks: &mut Clocks,
+    kind: u8,
+    task: Task,
+    on: u32,
+    number: RecordNumber,
+) -> Answer
+    requires { ⌜ Fitting kind (task .0) on × (kind ≢ lossMark) ⌝ }
+    ensures { λ a. let l = seen last in let c = seen clocks in let f = seen fullclocks in
+        ⌜ (a ≡ answeredBy (l .entry) kind on (number .0) (clockMasks (c .entry) (f .entry) (l .entry) kind (task .0) on))
+        × (l .exit ≡ lastAfter kind (task .0) on (number .0) (l .entry))
+        × (c .exit ≡ clocksBy arrived kind (task .0) on (number .0) (c .entry))
+        × (f .exit ≡ clocksBy full kind (task .0) on (number .0) (f .entry)) ⌝ }
+{
+    if is_access(kind) {
+        return access_by_clocks(last, clocks, fullclocks, kind, task, Variable(on), number);
+    }
+    clocks::own(clocks, task, number);
+    clocks::own(fullclocks, task, number);
+    clocks::pass_on(clocks, false, kind, task, on);
+    clocks::pass_on(fullclocks, true, kind, task, on);
+    Answer::Accepted(number)
+}
+
+// An access, by the sets: it takes its slots anew.
+fn access_by_sets(
+    last: &mut History,
+    sets: &mut Sets,
+    fullsets: &mut Sets,
+    kind: u8,
+    task: Task,
+    v: Variable,
+    number: RecordNumber,
+) -> Answer
+    requires { ⌜ OfAccess kind (task .0) (v .0) ⌝ }
+    ensures { λ a. let l = seen last in let s = seen sets in let f = seen fullsets in
+        ⌜ (a ≡ answerByMasks (l .entry) kind (v .0) (number .0)
+        (setMask (f .entry) (l .entry) kind (task .0) (v .0)) (setMask (s .entry) (l .entry) kind (task .0) (v .0)))
+        × (l .exit ≡ lastAfter kind (task .0) (v .0) (number .0) (l .entry))
+        × (s .exit ≡ setOwn kind (task .0) (v .0) (s .entry))
+        × (f .exit ≡ setOwn kind (task .0) (v .0) (f .entry)) ⌝ }
+{
+    let masks = set_masks(sets, fullsets, last, kind, task, v);
+    sets::own(sets, kind, task, v);
+    sets::own(fullsets, kind, task, v);
+    take_in(last, kind, task, v, number, masks)
+}
+
+// An act, by the sets.
+pub(crate) fn act_by_sets(
+    last: &mut History,
+    sets: &mut Sets,
+    fullsets: &mut Sets,
+    kind: u8,
+    task: Task,
+    on: u32,
+    number: RecordNumber,
+) -> Answer
+    requires { ⌜ Fitting kind (task .0) on × (kind ≢ lossMark) ⌝ }
+    ensures { λ a. let l = seen last in let s = seen sets in let f = seen fullsets in
+        ⌜ (a ≡ answeredBy (l .entry) kind on (number .0) (setMasks (s .entry) (f .entry) (l .entry) kind (task .0) on))
+        × (l .exit ≡ lastAfter kind (task .0) on (number .0) (l .entry))
+        × (s .exit ≡ setsBy arrived kind (task .0) on (s .entry))
+        × (f .exit ≡ setsBy full kind (task .0) on (f .entry)) ⌝ }
+{
+    if is_access(kind) {
+        return access_by_sets(last, sets, fullsets, kind, task, Variable(on), number);
+    }
+    note_acted(sets, task);
+    note_acted(fullsets, task);
+    sets::pass_on(sets, false, kind, task, on);
+    sets::pass_on(fullsets, true, kind, task, on);
+    Answer::Accepted(number)
+}
