@@ -4,7 +4,7 @@
 #include <stdint.h>
 #include <string.h>
 
-enum { READ, WRITE, TAKE, GIVE, LOOK, SET, START, JOIN, LOST };
+enum { READ, WRITE, TAKE, GIVE, LOOK, SET, START, JOIN, LOST, FRESH, KINDS };
 
 /* rows: 16 tasks' next acts, 16 tasks' having acted, 32 semaphores, 32 flags */
 typedef struct {
@@ -42,7 +42,7 @@ static void fill(uint32_t (*c)[16], uint32_t mask) {
 }
 
 static int refusal(const State *s, int kind, uint32_t task, uint32_t on) {
-    static const uint32_t series[] = {64, 64, 32, 32, 32, 32, 16, 16};
+    static const uint32_t series[] = {64, 64, 32, 32, 32, 32, 16, 16, 0, 64};
     if (kind == LOST) {
         if (on == 0 || on > 65535) return 4;
         if (s->count >= 60000) return 5;
@@ -113,6 +113,7 @@ static uint8_t *feed(State *s, uint8_t *o, uint64_t line, int kind, uint32_t tas
         s->last[kind][on][task] = number;
     }
     if (kind == LOST) return fill(s->clock[1], on), o;
+    if (kind == FRESH) memset(s->last[READ][on], 0, sizeof s->last[READ][on]), memset(s->last[WRITE][on], 0, sizeof s->last[WRITE][on]);
     if (kind == START) s->phase[on] = 1;
     if (kind == JOIN) s->phase[on] = 2;
     act(s->clock[0], kind, task, on, number);
@@ -136,9 +137,9 @@ static const uint8_t *number(const uint8_t *p, const uint8_t *end, uint32_t *v) 
 }
 
 static int op(const uint8_t *p, size_t n) {
-    static const char *const words[] = {"read", "write", "take", "give", "look", "set", "start", "join", "lost"};
-    static const uint8_t lengths[] = {4, 5, 4, 4, 4, 3, 5, 4, 4};
-    for (int k = 0; k < 9; k++)
+    static const char *const words[] = {"read", "write", "take", "give", "look", "set", "start", "join", "lost", "fresh"};
+    static const uint8_t lengths[] = {4, 5, 4, 4, 4, 3, 5, 4, 4, 5};
+    for (int k = 0; k < KINDS; k++)
         if (n == lengths[k] && p[0] == (uint8_t)words[k][0] && !memcmp(p, words[k], n)) return k;
     return -1;
 }

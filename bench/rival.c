@@ -20,7 +20,7 @@
 #define LIMIT 60000u
 #define TOO_SMALL UINT64_MAX
 
-enum { READ, WRITE, TAKE, GIVE, LOOK, SET, START, JOIN, LOST, NONE };
+enum { READ, WRITE, TAKE, GIVE, LOOK, SET, START, JOIN, LOST, FRESH, NONE };
 
 #ifdef WIDE
 
@@ -186,7 +186,7 @@ static uint8_t *put_refused(uint8_t *o, uint64_t line, uint32_t refusal) {
 
 /* ---- the step */
 
-static uint32_t series(uint32_t kind) { return kind <= WRITE ? 64 : kind <= SET ? 32 : 16; }
+static uint32_t series(uint32_t kind) { return kind <= WRITE || kind == FRESH ? 64 : kind <= SET ? 32 : 16; }
 
 static uint32_t refusal(const State *s, uint32_t kind, uint32_t task, uint32_t on) {
     if (kind == LOST) {
@@ -228,6 +228,7 @@ static uint8_t *feed(State *s, uint8_t *o, uint32_t kind, uint32_t task, uint32_
     uint32_t number = ++s->count;
     if (kind <= WRITE) return judge(s, o, kind, task, on, number);
     if (kind == LOST) return fill(&s->fullest, on), o;
+    if (kind == FRESH) memset(&s->any[on], 0, sizeof s->any[on]), memset(&s->writes[on], 0, sizeof s->writes[on]);
     if (kind == START) s->live |= 1u << on, s->unseen &= ~(1u << on);
     if (kind == JOIN) s->live &= ~(1u << on);
     act(&s->arrived, kind, task, on, number);
@@ -266,6 +267,7 @@ static uint32_t op(const uint8_t *p, unsigned *len) {
     case EIGHT('o', 'p', '=', 's', 'e', 't', ' ', 't'): return *len = 7, SET;
     case EIGHT('o', 'p', '=', 'w', 'r', 'i', 't', 'e'): return *len = 9, p[8] == ' ' ? WRITE : NONE;
     case EIGHT('o', 'p', '=', 's', 't', 'a', 'r', 't'): return *len = 9, p[8] == ' ' ? START : NONE;
+    case EIGHT('o', 'p', '=', 'f', 'r', 'e', 's', 'h'): return *len = 9, p[8] == ' ' ? FRESH : NONE;
     default: return NONE;
     }
 }

@@ -116,7 +116,8 @@ impl Maker<'_> {
                 5..=8 => self.join(),
                 9..=11 => self.detour(),
                 12..=24 => self.hand_over(),
-                25..=59 => self.exchange(),
+                25..=57 => self.exchange(),
+                58..=60 => self.fresh(),
                 _ => self.access(),
             }
         }
@@ -172,6 +173,11 @@ impl Maker<'_> {
         let word = self.random.pick(&["read", "write"]);
         let on = self.random.below(self.shape.variables);
         self.act(word, task, on);
+    }
+
+    fn fresh(&mut self) {
+        let (task, on) = (self.actor(), self.random.below(self.shape.variables));
+        self.act("fresh", task, on);
     }
 
     fn exchange(&mut self) {

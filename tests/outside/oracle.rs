@@ -15,6 +15,7 @@ pub enum Op {
     Set,
     Start,
     Join,
+    Fresh,
 }
 
 use Op::*;
@@ -29,6 +30,7 @@ pub const OPS: &[(&str, u8, Op, u32)] = &[
     ("set", 5, Set, 31),
     ("start", 6, Start, 15),
     ("join", 7, Join, 15),
+    ("fresh", 9, Fresh, 63),
 ];
 
 /// The kind number of a loss mark.
@@ -281,21 +283,26 @@ pub struct Access {
     pub task: u32,
     pub var: u32,
     pub op: Op,
+    /// The record number of the last fresh of its variable before it; 0 where there is none.
+    pub since: usize,
 }
 
 pub fn accesses(recording: &[Record]) -> Vec<Access> {
     let mut list = Vec::new();
+    let mut since = [0; 64];
     for (at, record) in recording.iter().enumerate() {
         match *record {
-            Record::Act(Act { op, task, on }) if is_access(op) => list.push(Access { rec: at + 1, task, var: on, op }),
+            Record::Act(Act { op: Fresh, on, .. }) => since[on as usize] = at + 1,
+            Record::Act(Act { op, task, on }) if is_access(op) => list.push(Access { rec: at + 1, task, var: on, op, since: since[on as usize] }),
             _ => {}
         }
     }
     list
 }
 
+/// The earlier access `a` conflicts with `b`, and is one of those since the last fresh of the variable.
 pub fn conflict(a: &Access, b: &Access) -> bool {
-    a.var == b.var && a.task != b.task && clash(a.op, b.op)
+    a.var == b.var && a.task != b.task && clash(a.op, b.op) && a.rec > b.since
 }
 
 /// Which event has a path to which, asked by places in the list of accesses.

@@ -13,6 +13,7 @@ fn main() {
     recordings::short();
     recordings::lossy();
     recordings::longer();
+    recordings::renewed();
     recordings::whole();
     recordings::refused();
     edges::rows();

@@ -47,6 +47,19 @@ pub(crate) fn whole() {
     run_asking(b"refused", b"0+1 0w5 2r5 1-1");
 }
 
+// A fresh empties the history of its variable, whoever acts, and is an act of its task.
+pub(crate) fn renewed() {
+    run(b"fresh", b"0+1 0w5 0f5 1w5");
+    run(b"fresh of another variable", b"0+1 0w5 0f6 1w5");
+    run(b"fresh by a third task", b"0+1 0+2 0w5 2f5 1w5");
+    run(b"fresh before a mark", b"0+1 0w5 1f5 _?3 1w5");
+    run(b"partner since the fresh", b"0+1 0+2 1w5 0f5 2w5 0w5");
+    run(
+        b"join of a task that acted by a fresh",
+        b"0+2 0w5 0+1 1f6 2-1 2r5",
+    );
+}
+
 // Refused records between accepted ones.
 pub(crate) fn refused() {
     run_clocks(

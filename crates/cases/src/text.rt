@@ -1,4 +1,5 @@
 // Recordings as text: a record is its task, a sign for its kind and its number, as `0w5`, with one byte between two records.
+use crate::records::FRESH;
 use crate::records::GIVE;
 use crate::records::JOIN;
 use crate::records::LOOK;
@@ -24,6 +25,7 @@ fn kind_of(sign: u8) -> u8 {
         b'+' => START,
         b'-' => JOIN,
         b'?' => LOST,
+        b'f' => FRESH,
         _ => NONE,
     }
 }

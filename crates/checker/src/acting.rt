@@ -4,6 +4,7 @@ use crate::clocks;
 use crate::clocks::clock_masks;
 use crate::history::is_access;
 use crate::history::keep;
+use crate::history::renew;
 use crate::masks::judged;
 use crate::sets;
 use crate::sets::note_acted;
@@ -69,7 +70,7 @@ fn access_by_clocks(
     take_in(last, kind, task, v, number, masks)
 }
 
-// An act, by the clocks. One that is no access is kept nowhere, and passes order on.
+// An act, by the clocks. One that is no access is kept nowhere, may empty the history of a variable, and passes order on.
 pub(crate) fn act_by_clocks(
     last: &mut History,
     clocks: &mut Clocks,
@@ -89,6 +90,7 @@ pub(crate) fn act_by_clocks(
     if is_access(kind) {
         return access_by_clocks(last, clocks, fullclocks, kind, task, Variable(on), number);
     }
+    renew(last, kind, on);
     clocks::own(clocks, task, number);
     clocks::own(fullclocks, task, number);
     clocks::pass_on(clocks, false, kind, task, on);
@@ -140,6 +142,7 @@ pub(crate) fn act_by_sets(
     if is_access(kind) {
         return access_by_sets(last, sets, fullsets, kind, task, Variable(on), number);
     }
+    renew(last, kind, on);
     note_acted(sets, task);
     note_acted(fullsets, task);
     sets::pass_on(sets, false, kind, task, on);

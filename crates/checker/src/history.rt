@@ -4,6 +4,7 @@ use crate::bools::both;
 use crate::bools::either;
 use theory::ASKERS;
 use theory::COLUMNS;
+use theory::FRESH;
 use theory::History;
 use theory::READ;
 use theory::RecordNumber;
@@ -14,11 +15,11 @@ use theory::WRITE;
 ghost use mathlib.Core.Path.{_≡_};
 ghost use mathlib.Core.Bool.{cond};
 ghost use Prim.Native.Nat.{_<_};
-ghost use lib.Dec.{ltb};
+ghost use lib.Dec.{ltb, eqb};
 ghost use lib.ListN.{set, length};
 ghost use Rattle.theory.specs.order.Limits.{tasks, variables};
-ghost use Rattle.theory.specs.order.Recording.{accesses, kindAt};
-ghost use Rattle.theory.specs.history.History.{askers, asker, askAt, kindClashes, slot, slots, latestNumber, lastAfter};
+ghost use Rattle.theory.specs.order.Recording.{Op, kind as number, accesses, kindAt};
+ghost use Rattle.theory.specs.history.History.{askers, asker, askAt, kindClashes, slot, slots, latestNumber, withAccess, emptiedUnder, emptied};
 ghost use Rattle.theory.proofs.history.Accesses.{OfAccess};
 
 // The number of a kind of access among those that ask, and ASKERS for any other kind.
@@ -77,11 +78,52 @@ fn keep_under(last: &mut History, a: usize, kind: u8, task: Task, v: Variable, n
 // The history after an access: it is kept under each kind that it clashes with.
 pub(crate) fn keep(last: &mut History, kind: u8, task: Task, v: Variable, number: RecordNumber)
     requires { ⌜ (task .0 < tasks) × (v .0 < variables) ⌝ }
-    ensures { λ _. ⌜ now (last .exit) ≡ lastAfter kind (task .0) (v .0) (number .0) (now (last .entry)) ⌝ }
+    ensures { λ _. ⌜ now (last .exit) ≡ withAccess kind (task .0) (v .0) (number .0) (now (last .entry)) ⌝ }
 {
     let mut a = 0;
     while a < ASKERS {
         keep_under(last, a, kind, task, v, number);
         a += 1;
+    }
+}
+
+// The kind of access with number a is told of no access to the variable any more, whoever made it. The loop is over the tasks by their numbers.
+fn empty_under(last: &mut History, v: Variable, a: usize)
+    requires { ⌜ (a < length askers) × (v .0 < variables) ⌝ }
+    ensures { λ _. ⌜ now (last .exit) ≡ emptiedUnder (v .0) a (now (last .entry)) ⌝ }
+{
+    let from = slot(a, v, Task(0));
+    let mut u = 0;
+    while u < COLUMNS {
+        last[from + u] = 0;
+        u += 1;
+    }
+}
+
+// No access to the variable is kept any more.
+fn empty(last: &mut History, v: Variable)
+    requires { ⌜ v .0 < variables ⌝ }
+    ensures { λ _. ⌜ now (last .exit) ≡ emptied (v .0) (now (last .entry)) ⌝ }
+{
+    let mut a = 0;
+    while a < ASKERS {
+        empty_under(last, v, a);
+        a += 1;
+    }
+}
+
+// The history after an act that is no access: a fresh empties it for its variable.
+pub(crate) fn renew(last: &mut History, kind: u8, on: u32)
+    requires { ⌜ (kind ≡ number Op.fresh → on < variables) ⌝ }
+    ensures { λ _. ⌜ now (last .exit) ≡ cond (eqb kind (number Op.fresh)) (emptied on (now (last .entry))) (now (last .entry)) ⌝ }
+{
+    match kind {
+        FRESH => {
+            empty(last, Variable(on));
+            return;
+        }
+        _ => {
+            return;
+        }
     }
 }

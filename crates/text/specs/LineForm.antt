@@ -49,6 +49,7 @@ words =
     ∷ bytes "start"
     ∷ bytes "join"
     ∷ bytes "lost"
+    ∷ bytes "fresh"
     ∷ []
 
 abbrev pub opName : List ℕ

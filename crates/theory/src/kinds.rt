@@ -17,8 +17,10 @@ pub const JOIN: u8 = 7;
 
 pub const LOST: u8 = 8;
 
+pub const FRESH: u8 = 9;
+
 // How many of the kinds are accesses: each asks the history.
 pub const ASKERS: usize = 2;
 
 // How many kinds there are.
-pub const KINDS: u8 = LOST + 1;
+pub const KINDS: u8 = FRESH + 1;

@@ -10,6 +10,7 @@ mod state;
 
 pub use answer::Answer;
 pub use kinds::ASKERS;
+pub use kinds::FRESH;
 pub use kinds::GIVE;
 pub use kinds::JOIN;
 pub use kinds::KINDS;

@@ -14,23 +14,25 @@ use Rattle.theory.specs.declared.record.Record.{Record}
 use Rattle.theory.specs.declared.state.State.{State}
 use Rattle.theory.specs.declared.state.SetState.{SetState}
 use Rattle.theory.specs.order.Limits.{tasks, variables}
-use Rattle.theory.specs.order.Recording.{Op, Event, act, lost, At, here, there, kind, opOf, eventOf, isAccess, acts}
+use Rattle.theory.specs.order.Recording.{Op, fresh, Event, act, lost, Every, _is_, At, here, there, kind, opOf, eventOf, isAccess, acts}
 use Rattle.theory.specs.order.Path.{HappensBefore, rule, clashes}
 use Rattle.theory.specs.fillings.Completion.{Filling, arrived, full, filling, fillWith, fullest, rounds, nothing}
-use Rattle.theory.specs.acceptance.Table.{isAct, refusal, recording, recordedAfter}
+use Rattle.theory.specs.acceptance.Table.{isAct, hasKind, refusal, recording, recordedAfter}
 use Rattle.theory.specs.tables.Rows.{cell}
 use Rattle.theory.specs.history.History.{asker, askAt, latestSlot, latestNumber}
 use Rattle.theory.specs.feeding.Paths.{Reckoning, clocks, sets, leftBy, Kept, inFullest, ExactAt, SaysPaths, acquiring, ExactPaths}
 use Rattle.theory.proofs.basics.Reflects.{Reflects, right, wrong, by-test, equal, at-most, both, passed}
 use Rattle.theory.proofs.order.Leads.{Leads, leads-survives, leads-as-arrived, filled-with}
+use Rattle.theory.proofs.order.Tests.{none-every, every-none}
 use Rattle.theory.proofs.order.Places.{Ends, Occurs, first, next, leads-path, path-leads}
 use Rattle.theory.proofs.order.Carry.{Node, due, Acquires, own, by-take, by-look, by-join, Releases, own-next}
 use Rattle.theory.proofs.order.Ops.{event-act, opOf-kind, access-on}
 use Rattle.theory.proofs.fillings.Reach.{Reach, reach-start, reach-next, leads-reach, arrived-nothing}
 use Rattle.theory.proofs.fillings.Between.{filled-path}
 use Rattle.theory.proofs.fillings.Came.{Snoc, old, new, occurs-snoc, occurs-old, occurs-new, occurs-short}
+use Rattle.theory.proofs.verdicts.Latest.{some-after, some-occurs, occurs-after}
 use Rattle.theory.proofs.verdicts.Examples.{ends-middle}
-use Rattle.theory.proofs.history.Slots.{InSlot, in-slot, ExactHistory, slot-one, clash-access}
+use Rattle.theory.proofs.history.Slots.{InSlot, in-slot, Frees, frees, ExactHistory, slot-one, clash-access}
 use Rattle.theory.proofs.history.Numbers.{Ranged, asker-below, asker-op, latest-below}
 use Rattle.theory.proofs.tables.Reckoned.{acts-reach, Tells, clock-tells, set-tells}
 use Rattle.theory.proofs.feeding.Simulation.{Shape, an-act, a-mark, shape-of, Represents, RepresentsSets, Simulates, after-all, clocks-simulate, sets-simulate}
@@ -65,26 +67,60 @@ module _ (p : Op) {v u : ℕ} (a : T (isAccess p)) (hv : v < variables) (hu : u 
   clash-slot : (o : Op) → T (clashes o p) → InSlot (latestSlot (kind p) v u) (act o u v)
   clash-slot o c = in-slot (askAt (kind p)) (asker-below p) (subst (λ (q : Op). T (clashes o q)) (sym (asker-op p a)) c) hu hv refl
 
+  -- the slot is emptied by a fresh of the variable
+  freed-by : {d : Event} → Frees (latestSlot (kind p) v u) d → (t : ℕ) × (d ≡ act fresh t v)
+  freed-by (frees {t = t} {v = v′} b u′ hu′ hv′ e) = let (_, ev, _) = slot-one {a = askAt (kind p)} {a′ = b} hv hv′ hu hu′ e in (t, λ i. act fresh t (sym ev i))
+
+  module _ {es after : List Event} {j : ℕ} {e : Event} (o : Occurs es j e after) where
+    since-freed : ((k t : ℕ) → At es k (act fresh t v) → k ≤ j) → Every (λ d. ¬ Frees (latestSlot (kind p) v u) d) after
+    since-freed f = none-every after (λ s. of (some-occurs s))
+      where
+        of : (k : ℕ) × (d : Event) × (after′ : List Event) × Occurs after k d after′ × Frees (latestSlot (kind p) v u) d → ⊥
+        of (k, d, after′, q, x) =
+            let (k′, l, r) = occurs-after o q in
+            let (t, y) = freed-by x in
+            let m = f k′ t (subst (At es k′) y (occurs-after-at r)) in
+            omega arith
+
+    freed-since : Every (λ d. ¬ Frees (latestSlot (kind p) v u) d) after → (k t : ℕ) → At es k (act fresh t v) → k ≤ j
+    freed-since f k t x = decided (at-most k j)
+      where
+        decided : {b : Bool} → Reflects (k ≤ j) b → k ≤ j
+        decided (right l) = l
+        decided (wrong n) = absurd (every-none f (some-after o (at-occurs-after x .1) (omega arith) (frees (askAt (kind p)) u hu hv refl)))
+
   module _ {es : List Event} {last : List ℕ} (h : ExactHistory es last) where
-    -- an access that clashes stands below the number
-    below-number : {j : ℕ} {o : Op} → At es j (act o u v) → T (clashes o p) → j < latestNumber last (kind p) v u
-    below-number {j} {o} x c =
+    -- an access that clashes, with no fresh after it, stands below the number
+    below-number : {j : ℕ} {o : Op} → At es j (act o u v) → T (clashes o p) → ((k t : ℕ) → At es k (act fresh t v) → k ≤ j) → j < latestNumber last (kind p) v u
+    below-number {j} {o} x c f =
         let (after, q) = at-occurs-after x in
         h .held (latestSlot (kind p) v u) j (latest-below p hv hu) .1
-        (record { j = j; e = act o u v; after = after; recent = le-refl j; occurs = q; inside = clash-slot o c })
+        (record { j = j; e = act o u v; after = after; recent = le-refl j; occurs = q; inside = clash-slot o c; since = since-freed q f })
 
     number-kept : {i : ℕ} → latestNumber last (kind p) v u ≡ suc i → Kept es p v u i
     number-kept {i} n =
         let d = h .held (latestSlot (kind p) v u) i (latest-below p hv hu) .0 (omega arith) in
         let (o, e, c) = slot-clash (d .inside) in
         let x : At es (d .j) (act o u v) = subst (At es (d .j)) e (occurs-after-at (d .occurs)) in
-        let l = below-number x c in
+        let f = freed-since (d .occurs) (d .since) in
+        let l = below-number x c f in
         let r = d .recent in
         let q : d .j ≡ i = omega arith in
-        record { op = o; at = subst (λ (k : ℕ). At es k (act o u v)) q x; clash = c; latest = λ j o′ y c′. let m = below-number y c′ in omega arith }
+        let g : (k t : ℕ) → At es k (act fresh t v) → k ≤ i = λ k t y. (let m = f k t y in omega arith) in
+        record {
+          op = o;
+          at = subst (λ (k : ℕ). At es k (act o u v)) q x;
+          clash = c;
+          latest = λ j o′ y c′. decided j o′ y c′ g (at-most j i);
+          since = g;
+        }
+      where
+        decided : (j : ℕ) (o : Op) → At es j (act o u v) → T (clashes o p) → ((k t : ℕ) → At es k (act fresh t v) → k ≤ i) → {b : Bool} → Reflects (j ≤ i) b → j ≤ i
+        decided j o y c g (right l) = l
+        decided j o y c g (wrong m) = let l = below-number y c (λ k t z. (let r = g k t z in omega arith)) in absurd (omega arith)
 
     kept-number : {i : ℕ} → Kept es p v u i → latestNumber last (kind p) v u ≡ suc i
-    kept-number {i} k = decided (at-most (suc (suc i)) (latestNumber last (kind p) v u)) (below-number (k .at) (k .clash))
+    kept-number {i} k = decided (at-most (suc (suc i)) (latestNumber last (kind p) v u)) (below-number (k .at) (k .clash) (k .since))
       where
         decided : {b : Bool} → Reflects (suc i < latestNumber last (kind p) v u) b → i < latestNumber last (kind p) v u → latestNumber last (kind p) v u ≡ suc i
         decided (right l) m =
@@ -127,6 +163,10 @@ abbrev task-of : Event → ℕ
 task-of (act o t n) = t
 task-of (lost mask) = 0
 
+abbrev op-fresh : Event → Bool
+op-fresh (act o t n) = o is fresh
+op-fresh (lost mask) = false
+
 -- what stands after the kept access
 abbrev later : {es : List Event} {p : Op} {v u i : ℕ} → Kept es p v u i → List Event
 later k = at-occurs-after (k .at) .0
@@ -146,10 +186,18 @@ module _ (w : Filling) {es : List Event} {last : List ℕ} (p q : Op) (t n : ℕ
   said-before x f = through (x .tells (stands-at k) acts (kept-number p (asks k) hv hu h k)) (leads-before (later k) f)
 
   -- once the act is fed: the access is kept still, or the act is kept in its place, which is one of the same task
-  module _ {last′ : List ℕ} {apart : Bool} (h′ : ExactHistory (es ++ (act q t n ∷ [])) last′) (x : Tells w (es ++ (act q t n ∷ [])) last′ p t v u apart) where
+  module _ {last′ : List ℕ} {apart : Bool} (kept : (q is fresh) ≡ false) (h′ : ExactHistory (es ++ (act q t n ∷ [])) last′) (x : Tells w (es ++ (act q t n ∷ [])) last′ p t v u apart) where
+    -- it is no fresh
+    no-fresh : (j w : ℕ) → At (es ++ (act q t n ∷ [])) j (act fresh w v) → j ≤ i
+    no-fresh j w y = of (occurs-snoc es (at-occurs-after y .1)) refl
+      where
+        of : {j : ℕ} {e : Event} {after : List Event} → Snoc es (act q t n) j e after → e ≡ act fresh w v → j ≤ i
+        of (old {j = j} o) e = k .since j w (subst (At es j) e (occurs-after-at o))
+        of new e = absurd (true≢false (sym (ap op-fresh e) ∙ kept))
+
     replaced : ¬ (latestNumber last′ (kind p) v u ≡ suc i) → InSlot (latestSlot (kind p) v u) (act q t n)
     replaced f =
-        let l = below-number p (asks k) hv hu h′ (occurs-after-at (occurs-old (act q t n) (stands-at k))) (k .clash) in
+        let l = below-number p (asks k) hv hu h′ (occurs-after-at (occurs-old (act q t n) (stands-at k))) (k .clash) no-fresh in
         let d = h′ .held (latestSlot (kind p) v u) (suc i) (latest-below p hv hu) .0 (omega arith) in
         of (occurs-snoc es (d .occurs)) (d .recent) (d .inside)
       where
@@ -177,6 +225,7 @@ module _ (w : Filling) {es : List Event} {last : List ℕ} (p q : Op) (t n : ℕ
               at = occurs-after-at stands;
               clash = c;
               latest = λ j o′ y c′. let l = occurs-short (at-occurs-after y .1) in omega (arith, length-append es (act q t n ∷ []));
+              since = λ j w y. let l = occurs-short (at-occurs-after y .1) in omega (arith, length-append es (act q t n ∷ []));
             })
 
         told : T (not apart) ↔ Reach w (act o u v) [] (due t)
@@ -259,13 +308,13 @@ module _ {S : Type 0} {x : Reckoning S} {es : List Event} {s : S} (y : Exactly x
         in-fullest = through (said-before full p q t n (y .history) hv hu k (y .in-full p t v u (asks k) ht hv hu) f) (path-fullest (stands-at k));
       }
 
-  paths-after : {s′ : S} → Exactly x (es ++ (act q t n ∷ [])) s′ → (p : Op) (v u i : ℕ) → Kept es p v u i →
+  paths-after : {s′ : S} → (q is fresh) ≡ false → Exactly x (es ++ (act q t n ∷ [])) s′ → (p : Op) (v u i : ℕ) → Kept es p v u i →
       ExactAt (es ++ (act q t n ∷ [])) i (length es) (x .apart s′ (kind p) t v u) (x .apartInFull s′ (kind p) t v u)
-  paths-after z p v u i k =
+  paths-after f z p v u i k =
       let (hu, hv) = kept-ranged (y .ranged) k in
       record {
-        as-arrived = through (said-after arrived p q t n (y .history) hv hu k (z .history) (z .as-arrived p t v u (asks k) ht hv hu)) (path-arrived (stands-at k));
-        in-fullest = through (said-after full p q t n (y .history) hv hu k (z .history) (z .in-full p t v u (asks k) ht hv hu)) (path-fullest (stands-at k));
+        as-arrived = through (said-after arrived p q t n (y .history) hv hu k f (z .history) (z .as-arrived p t v u (asks k) ht hv hu)) (path-arrived (stands-at k));
+        in-fullest = through (said-after full p q t n (y .history) hv hu k f (z .history) (z .in-full p t v u (asks k) ht hv hu)) (path-fullest (stands-at k));
       }
 
 -- After every list
@@ -284,7 +333,7 @@ module _ {S : Type 0} {x : Reckoning S} {R : List Event → S → Type 0} (simul
         keeps = λ p v u i a hv hu. (λ e. number-kept p a hv hu (now .history) (sym (now .numbers (kind p) v u) ∙ e), λ k. now .numbers (kind p) v u ∙ kept-number p a hv hu (now .history) k);
         keeps-none = now .none;
         before = λ r e a f. before (shape-of (recording rs) r e) a f;
-        after = λ r e a. after (shape-of (recording rs) r e) a (next-exactly rs r e);
+        after = λ r e a f. after (shape-of (recording rs) r e) a f (next-exactly rs r e);
       }
     where
       now : Exactly x (recording rs) (leftBy x rs)
@@ -294,10 +343,10 @@ module _ {S : Type 0} {x : Reckoning S} {R : List Event → S → Type 0} (simul
       before (an-act q t n a) b f = rw (event-act q t n) (paths-before now q t n (a .fits .task-fits) (rw (opOf-kind q) at f))
       before (a-mark t n m) b f = absurd (true≢false (sym b))
 
-      after : {r : Record} → Shape (recording rs) r → isAct r ≡ true → Exactly x (recording rs ++ (eventOf r ∷ [])) (x .checker .next (leftBy x rs) r) →
+      after : {r : Record} → Shape (recording rs) r → isAct r ≡ true → hasKind r fresh ≡ false → Exactly x (recording rs ++ (eventOf r ∷ [])) (x .checker .next (leftBy x rs) r) →
           SaysPaths x (x .checker .next (leftBy x rs) r) (recording rs) r
-      after (an-act q t n a) b z = rw (event-act q t n) (paths-after now q t n (a .fits .task-fits) (rw (event-act q t n) at z))
-      after (a-mark t n m) b z = absurd (true≢false (sym b))
+      after (an-act q t n a) b f z = rw (event-act q t n) (paths-after now q t n (a .fits .task-fits) f (rw (event-act q t n) at z))
+      after (a-mark t n m) b f z = absurd (true≢false (sym b))
 
 pub clock-paths : ExactPaths clocks
 clock-paths = exact-paths clocks-simulate (λ es s. clocks-exactly)

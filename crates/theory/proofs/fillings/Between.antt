@@ -6,9 +6,9 @@ use Prim.Native.Nat.{ℕ, zero, suc, _+_, _≤_, zero-le, suc-le-suc}
 use native.Mathlib.Nat.{le-of-suc-le-suc, not-suc-le-zero, zero-add, suc-add}
 use native.Mathlib.Omega.{arith}
 use lib.ListN.{length, take, length-append}
-use Rattle.theory.specs.order.Recording.{Op, Event, act, At, here, there}
+use Rattle.theory.specs.order.Recording.{Every, Op, Event, act, At, here, there}
 use Rattle.theory.specs.order.Path.{HappensBefore}
-use Rattle.theory.specs.fillings.Completion.{Filler, Every, Filled, done, keep, fill, Completion, place, fillWith}
+use Rattle.theory.specs.fillings.Completion.{Filler, Filled, done, keep, fill, Completion, place, fillWith}
 use Rattle.theory.proofs.order.Leads.{Leads, Is, is, filled-is, filled-with}
 use Rattle.theory.proofs.order.Places.{Ends, ends, onward, ends-at, Occurs, first, next, occurs-at, leads-path, path-leads}
 

@@ -6,8 +6,8 @@ use mathlib.Core.List.{List, [], _∷_, _++_}
 use Prim.Native.Nat.{ℕ, zero, suc, _<_, zero-le, suc-le-suc}
 use lib.Dec.{T, lit<}
 use Rattle.theory.specs.order.Limits.{tasks}
-use Rattle.theory.specs.order.Recording.{Op, take, give, look, set, Event, act, series, losable}
-use Rattle.theory.specs.fillings.Completion.{bit, names, Named, Filler, filler, Every, no-more, and-more, done, keep, fill, Completion, inTurn, onEach, part, partIf, round, rounds, fullest, nothing}
+use Rattle.theory.specs.order.Recording.{Every, no-more, and-more, Op, take, give, look, set, Event, act, series, losable}
+use Rattle.theory.specs.fillings.Completion.{bit, names, Named, Filler, filler, done, keep, fill, Completion, inTurn, onEach, part, partIf, round, rounds, fullest, nothing}
 use Rattle.theory.proofs.basics.Reflects.{by-test, both, at-most, passed, is-true}
 use Rattle.theory.proofs.order.Leads.{Leads}
 use Rattle.theory.proofs.order.Carry.{Node, due, semaphore, Acquires, own, by-take, by-look, by-join, Releases, own-next, own-acted, by-give, by-set, by-start, Carry, stay, pass, move, carry-skip, carry-append, carry-split, carry-one, carry-in-turn, leads-carried, carried-leads}

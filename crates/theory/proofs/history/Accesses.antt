@@ -1,13 +1,16 @@
 -- Accesses as the code meets them: an access has its numbers in their ranges, and what is no access is kept nowhere. Assumes nothing.
-use mathlib.Core.Path.{_≡_, refl, sym}
-use mathlib.Core.Bool.{true, false, cond}
+use mathlib.Core.Path.{_≡_, refl, sym, _∙_, ap, subst}
+use mathlib.Core.Bool.{Bool, true, false, cond, true≢false}
+use mathlib.Core.List.{List}
 use Prim.Native.Nat.{ℕ, zero, suc, _<_}
-use lib.ListN.{length}
+use lib.Dec.{eqb}
+use lib.ListN.{length, set}
 use Rattle.theory.specs.order.Limits.{tasks, variables}
 use Rattle.theory.specs.tables.Turns.{turns}
-use Rattle.theory.specs.order.Recording.{kindAt, accesses}
+use Rattle.theory.specs.order.Recording.{fresh, kind, kindAt, accesses, seriesOf}
 use Rattle.theory.specs.acceptance.Table.{Fitting}
-use Rattle.theory.specs.history.History.{askers, asker, kindClashes, slot, underEach}
+use Rattle.theory.specs.history.History.{askers, asker, kindClashes, slot, underEach, emptied, withAccess, lastAfter}
+use Rattle.theory.proofs.basics.Reflects.{Reflects, right, wrong, equal}
 use Rattle.theory.proofs.order.Numbered.{no-clash}
 use Rattle.theory.proofs.tables.Ranges.{access-fits}
 
@@ -21,6 +24,10 @@ pub record OfAccess (k t v : ℕ) : Type 0 where
 pub of-access : {k t n : ℕ} → Fitting k t n → accesses k ≡ true → OfAccess k t n
 of-access f e = record { is-access = e; task-fits = f .task-fits; variable-fits = access-fits f e }
 
+-- a fresh names one too
+pub fresh-fits : {k t n : ℕ} → Fitting k t n → k ≡ kind fresh → n < variables
+fresh-fits {n = n} f e = subst (λ (j : ℕ). n < seriesOf j) e (f .on-fits)
+
 pub kept-nowhere : {A : Type 0} (f : ℕ → A → A) (k v u : ℕ) (b : A) → accesses k ≡ false → underEach f k v u b ≡ b
 unfolding underEach turns
 kept-nowhere f k v u b e = none (length askers)
@@ -28,3 +35,15 @@ kept-nowhere f k v u b e = none (length askers)
     none : (n : ℕ) → turns n (λ a b. cond (kindClashes (kindAt k) (asker a)) (f (slot a v u) b) b) b ≡ b
     none zero = refl
     none (suc n) = rw (sym (no-clash k (asker n) e)) (none n)
+
+-- an access is kept
+pub kept-access : (k t v number : ℕ) (last : List ℕ) → accesses k ≡ true → lastAfter k t v number last ≡ withAccess k t v number last
+kept-access k t v number last e = decided (equal k (kind fresh))
+  where
+    decided : {b : Bool} → Reflects (k ≡ kind fresh) b → cond b (emptied v last) (withAccess k t v number last) ≡ withAccess k t v number last
+    decided (right q) = absurd (true≢false (sym e ∙ ap accesses q))
+    decided (wrong n) = refl
+
+-- what is no access empties the history, if it is a fresh, and nothing else
+pub kept-other : (k t n number : ℕ) (last : List ℕ) → accesses k ≡ false → lastAfter k t n number last ≡ cond (eqb k (kind fresh)) (emptied n last) last
+kept-other k t n number last e = ap (λ (l : List ℕ). cond (eqb k (kind fresh)) (emptied n last) l) (kept-nowhere (λ s l. set l s number) k n t last e)

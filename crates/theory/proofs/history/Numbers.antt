@@ -10,16 +10,16 @@ use native.Mathlib.Omega.{arith}
 use borrow.Author.Tests.{ltb-true}
 use lib.Dec.{T, ltb}
 use lib.ListN.{length}
-use Rattle.theory.specs.order.Recording.{Op, Event, act, lost, series, kind, about, accessNumber, Kind, of-op, of-mark, _is_, ActsIn, acts, isAccess}
-use Rattle.theory.specs.order.Path.{clashes, Conflict, conflict, Against}
+use Rattle.theory.specs.order.Recording.{Op, fresh, Event, act, lost, Every, series, kind, about, accessNumber, Kind, of-op, of-mark, _is_, ActsIn, acts, isAccess}
+use Rattle.theory.specs.order.Path.{clashes, Conflict, conflict, Empties, empties, Against}
 use Rattle.theory.specs.history.History.{askers, asker, askAt, slots, latestSlot, latestNumber}
 use Rattle.theory.specs.order.Limits.{tasks, variables}
 use Rattle.theory.proofs.basics.Reflects.{Reflects, right, wrong, at-most, by-test, is-true, passed}
 use Rattle.theory.proofs.order.Places.{Occurs, first, next}
-use Rattle.theory.proofs.order.Tests.{Again}
-use Rattle.theory.proofs.verdicts.Latest.{Final, some-after, some-occurs, occurs-after}
+use Rattle.theory.proofs.order.Tests.{Again, every-map}
+use Rattle.theory.proofs.verdicts.Latest.{Final, against-later, some-after, some-occurs, occurs-after}
 use Rattle.theory.proofs.fillings.Came.{Snoc, old, new, occurs-snoc}
-use Rattle.theory.proofs.history.Slots.{InSlot, in-slot, ExactHistory, slot-below, slot-one}
+use Rattle.theory.proofs.history.Slots.{InSlot, in-slot, Frees, frees, ExactHistory, slot-below, slot-one}
 use Rattle.theory.proofs.order.Ops.{opOf-kind, same-op, each-op}
 
 -- Ranges
@@ -76,6 +76,22 @@ module _ {p : Op} {t v u : ℕ} (ap : T (isAccess p)) (hv : v < variables) (hu :
   conflict-slot : {e : Event} → ActsIn u e → Conflict e (act p t v) → InSlot (latestSlot (kind p) v u) e
   conflict-slot acts (conflict {o = o} n c) = in-slot (askAt (kind p)) (asker-below p) (subst (λ (q : Op). T (clashes o q)) (sym (asker-op p ap)) c) hu hv refl
 
+-- for such an access the slot is emptied just where the variable's history is
+
+module _ {p : Op} {t v u : ℕ} (hv : v < variables) (hu : u < tasks) where
+  frees-empties : (d : Event) → Frees (latestSlot (kind p) v u) d → Empties d (act p t v)
+  frees-empties d (frees {t = t′} {v = v′} a u′ hu′ hv′ e) =
+      subst (λ (w : ℕ). Empties (act fresh t′ v′) (act p t w)) (sym (slot-one {a = askAt (kind p)} {a′ = a} hv hv′ hu hu′ e .1)) empties
+
+  empties-frees : (d : Event) → Empties d (act p t v) → Frees (latestSlot (kind p) v u) d
+  empties-frees d empties = frees (askAt (kind p)) u hu hv refl
+
+  since-emptied : {mid : List Event} → Every (λ d. ¬ Frees (latestSlot (kind p) v u) d) mid → Every (λ d. ¬ Empties d (act p t v)) mid
+  since-emptied = every-map (λ d n q. n (empties-frees d q))
+
+  since-freed : {mid : List Event} → Every (λ d. ¬ Empties d (act p t v)) mid → Every (λ d. ¬ Frees (latestSlot (kind p) v u) d) mid
+  since-freed = every-map (λ d n q. n (frees-empties d q))
+
 -- The number of the latest
 
 -- f is held against task u's access at place j
@@ -99,19 +115,19 @@ module _ {es : List Event} {last : List ℕ} {p : Op} {t v u : ℕ} (h : ExactHi
       to l =
           let d = h .held (latestSlot (kind p) v u) m (latest-below p hv hu) .0 l in
           let (a, q) = slot-conflict ap hv hu apart (d .inside) in
-          (d .j, d .recent, record { e = d .e; after = d .after; occurs = d .occurs; against = record { by = a; conflict = q } })
+          (d .j, d .recent, record { e = d .e; after = d .after; occurs = d .occurs; against = record { by = a; conflict = q; since = since-emptied hv hu (d .since) } })
 
       from : (j : ℕ) × (m ≤ j) × AgainstAt es u (act p t v) j → m < latestNumber last (kind p) v u
       from (j, l, x) =
           let q = conflict-slot ap hv hu (x .against .by) (x .against .conflict) in
-          h .held (latestSlot (kind p) v u) m (latest-below p hv hu) .1 (record { j = j; e = x .e; after = x .after; recent = l; occurs = x .occurs; inside = q })
+          h .held (latestSlot (kind p) v u) m (latest-below p hv hu) .1 (record { j = j; e = x .e; after = x .after; recent = l; occurs = x .occurs; inside = q; since = since-freed hv hu (x .against .since) })
 
   -- no conflicting access stands after the one that the number tells
-  none-later : {i j : ℕ} {e : Event} {after : List Event} → latestNumber last (kind p) v u ≡ suc i → i ≤ j → Occurs es j e after → ¬ Again u (act p t v) after
-  none-later {i} {j} n l o s =
+  none-later : {i j : ℕ} {e : Event} {after : List Event} → latestNumber last (kind p) v u ≡ suc i → i ≤ j → Occurs es j e after → Against u e after (act p t v) → ¬ Again u (act p t v) after
+  none-later {i} {j} n l o b s =
       let (k, x, after′, q, (a, c)) = some-occurs s in
       let (k′, m, r) = occurs-after o q in
-      let b : k′ < latestNumber last (kind p) v u = number-conflicts k′ .1 (k′, le-refl _, record { e = x; after = after′; occurs = r; against = record { by = a; conflict = c } }) in
+      let k : k′ < latestNumber last (kind p) v u = number-conflicts k′ .1 (k′, le-refl _, record { e = x; after = after′; occurs = r; against = against-later b q (a, c) }) in
       omega arith
 
   pub number-final : {i : ℕ} → latestNumber last (kind p) v u ≡ suc i → Final u (act p t v) es i
@@ -121,7 +137,7 @@ module _ {es : List Event} {last : List ℕ} {p : Op} {t v u : ℕ} (h : ExactHi
       let k : j < latestNumber last (kind p) v u = number-conflicts j .1 (j, le-refl _, x) in
       let q : j ≡ i = omega arith in
       subst (Final u (act p t v) es) q
-      (record { x = x .e; after = x .after; occurs = x .occurs; against = x .against; none = none-later n m (x .occurs) })
+      (record { x = x .e; after = x .after; occurs = x .occurs; against = x .against; none = none-later n m (x .occurs) (x .against) })
 
   pub final-number : {i : ℕ} → Final u (act p t v) es i → latestNumber last (kind p) v u ≡ suc i
   final-number {i} f =

@@ -3,17 +3,19 @@ use mathlib.Core.Path.{_≡_, refl, _∙_, subst}
 use mathlib.Core.Bool.{Bool, cond, _&&_}
 use mathlib.Core.Logic.{_↔_, _⊎_, inl, inr, _≢_}
 use mathlib.Core.List.{List, [], _∷_, _++_}
-use Prim.Native.Nat.{ℕ, zero, suc, _+_, _≤_, _<_}
+use Prim.Native.Nat.{ℕ, zero, suc, _+_, _/_, _%_, _≤_, _<_}
 use native.Mathlib.Omega.{arith}
 use lib.Dec.{T}
 use lib.ListN.{length, set, replicate, length-set, length-replicate, getD-replicate}
 use lib.Seq.{getD-set-same, getD-set-other}
 use Rattle.theory.specs.tables.Turns.{turns}
-use Rattle.theory.specs.order.Recording.{Op, Event, act, lost, lossMark, series, kind, kindAt, isAccess}
+use Rattle.theory.specs.order.Recording.{Op, fresh, Event, act, lost, lossMark, Every, no-more, series, kind, kindAt, isAccess}
 use Rattle.theory.specs.order.Path.{rule, clashes}
-use Rattle.theory.specs.history.History.{askers, asker, kindClashes, slot, slots, lastOf, underEach, lastAfter}
+use Rattle.theory.specs.history.History.{askers, asker, kindClashes, slot, slots, lastOf, underEach, emptied, lastAfter}
 use Rattle.theory.specs.order.Limits.{tasks, variables}
-use Rattle.theory.proofs.order.Ops.{kindAt-kind, access-on}
+use Rattle.theory.proofs.order.Ops.{kindAt-kind, access-on, same-op}
+use Rattle.theory.proofs.order.Tests.{every-snoc, snoc-every}
+use Rattle.theory.proofs.history.Emptied.{emptied-length, emptied-other, emptied-at, slot-parts}
 use Rattle.theory.proofs.basics.Reflects.{Reflects, right, wrong, equal, by-test, both, passed}
 use Rattle.theory.proofs.order.Places.{Occurs, nowhere}
 use Rattle.theory.proofs.fillings.Came.{Snoc, old, new, occurs-snoc, occurs-old, occurs-new, occurs-short}
@@ -24,7 +26,11 @@ use Rattle.theory.proofs.fillings.Came.{Snoc, old, new, occurs-snoc, oc
 pub data InSlot (s : ℕ) : Event → Type 0 where
   in-slot : {o : Op} {u v : ℕ} (a : ℕ) → a < length askers → T (clashes o (asker a)) → u < tasks → v < variables → s ≡ slot a v u → InSlot s (act o u v)
 
--- an access in the slot stands at place i or later
+-- the event empties the slot: it is a fresh of the slot's variable
+pub data Frees (s : ℕ) : Event → Type 0 where
+  frees : {t v : ℕ} (a u : ℕ) → u < tasks → v < variables → s ≡ slot a v u → Frees s (act fresh t v)
+
+-- an access in the slot stands at place i or later, and the slot was not emptied since
 pub record Held (es : List Event) (s i : ℕ) : Type 0 where
   pub j : ℕ
   pub e : Event
@@ -32,6 +38,7 @@ pub record Held (es : List Event) (s i : ℕ) : Type 0 where
   pub recent : i ≤ j
   pub occurs : Occurs es j e after
   pub inside : InSlot s e
+  pub since : Every (λ d. ¬ Frees s d) after
 
 pub record ExactHistory (es : List Event) (last : List ℕ) : Type 0 where
   pub size : length last ≡ slots
@@ -128,54 +135,108 @@ no-slot-mark q = elim q [ ]
 
 -- The history
 
-held-snoc : {es : List Event} {x : Event} {s i : ℕ} → Held (es ++ (x ∷ [])) s i → Held es s i ⊎ ((i ≤ length es) × InSlot s x)
-held-snoc {es} {x} {s} {i} h = cases (occurs-snoc es (h .occurs)) (h .recent) (h .inside)
-  where
-    cases : {j : ℕ} {e : Event} {after : List Event} → Snoc es x j e after → i ≤ j → InSlot s e → Held es s i ⊎ ((i ≤ length es) × InSlot s x)
-    cases (old {j = j} {e = e} {after = after} o) r q = inl (record { j = j; e = e; after = after; recent = r; occurs = o; inside = q })
-    cases new r q = inr (r, q)
+-- with one event more, an access is held that was, where the event does not empty the slot, or that the event is
+abbrev HeldWith : List Event → Event → ℕ → ℕ → Type 0
+HeldWith es x s i = (Held es s i × (¬ Frees s x)) ⊎ ((i ≤ length es) × InSlot s x)
 
-snoc-held : (es : List Event) (x : Event) {s i : ℕ} → Held es s i ⊎ ((i ≤ length es) × InSlot s x) → Held (es ++ (x ∷ [])) s i
-snoc-held es x (inl h) = record { j = h .j; e = h .e; after = h .after ++ (x ∷ []); recent = h .recent; occurs = occurs-old x (h .occurs); inside = h .inside }
-snoc-held es x (inr (r, q)) = record { j = length es; e = x; after = []; recent = r; occurs = occurs-new es; inside = q }
+held-snoc : {es : List Event} {x : Event} {s i : ℕ} → Held (es ++ (x ∷ [])) s i → HeldWith es x s i
+held-snoc {es} {x} {s} {i} h = cases (occurs-snoc es (h .occurs)) (h .recent) (h .inside) (h .since)
+  where
+    cases : {j : ℕ} {e : Event} {after : List Event} → Snoc es x j e after → i ≤ j → InSlot s e → Every (λ d. ¬ Frees s d) after → HeldWith es x s i
+    cases (old {j = j} {e = e} {after = after} o) r q f =
+        let (g, n) = every-snoc after f in
+        inl (record { j = j; e = e; after = after; recent = r; occurs = o; inside = q; since = g }, n)
+    cases new r q f = inr (r, q)
+
+snoc-held : (es : List Event) (x : Event) {s i : ℕ} → HeldWith es x s i → Held (es ++ (x ∷ [])) s i
+snoc-held es x (inl (h, n)) =
+    record { j = h .j; e = h .e; after = h .after ++ (x ∷ []); recent = h .recent; occurs = occurs-old x (h .occurs); inside = h .inside; since = snoc-every x (h .since) n }
+snoc-held es x (inr (r, q)) = record { j = length es; e = x; after = []; recent = r; occurs = occurs-new es; inside = q; since = no-more }
+
+-- what is no fresh empties nothing
+keeps-slots : {o : Op} {t n s : ℕ} → ¬ (o ≡ fresh) → ¬ Frees s (act o t n)
+keeps-slots n (frees a u hu hv e) = n refl
+
+-- a fresh is kept nowhere
+no-slot-fresh : {t n s : ℕ} → ¬ InSlot s (act fresh t n)
+no-slot-fresh (in-slot a h c hu hv e) = absurd c
+
+-- an emptied slot has no number, and the others stay
+pub history-fresh : {es : List Event} {last : List ℕ} (t n : ℕ) → n < variables → ExactHistory es last → ExactHistory (es ++ (act fresh t n ∷ [])) (emptied n last)
+history-fresh {es} {last} t n hn h =
+    record { size = emptied-length n last ∙ h .size; held = λ s i l. decided s i l (equal s (slot (s / tasks / variables) n (s % tasks))) }
+  where
+    decided : (s i : ℕ) → s < slots → {b : Bool} → Reflects (s ≡ slot (s / tasks / variables) n (s % tasks)) b → (i < lastOf (emptied n last) s) ↔ Held (es ++ (act fresh t n ∷ [])) s i
+    decided s i l (right e) = (λ q. absurd (gone q), λ d. absurd (out (held-snoc d)))
+      where
+        gone : ¬ (i < lastOf (emptied n last) s)
+        gone q =
+            let k : lastOf (emptied n last) s ≡ 0 = rw e (emptied-at n last (s / tasks / variables) (s % tasks) hn (omega arith) (omega arith) (h .size)) in
+            omega arith
+
+        out : HeldWith es (act fresh t n) s i → ⊥
+        out (inl (d, f)) = f (frees (s / tasks / variables) (s % tasks) (omega arith) hn e)
+        out (inr (r, q)) = no-slot-fresh q
+    decided s i l (wrong d) = (λ q. snoc-held es (act fresh t n) (inl (h .held s i l .0 (rw same at q), stays)), λ x. rw same (h .held s i l .1 (before (held-snoc x))))
+      where
+        same : lastOf (emptied n last) s ≡ lastOf last s
+        same = emptied-other n last s (λ a u hu e. d (slot-parts s a n u hn hu e))
+
+        stays : ¬ Frees s (act fresh t n)
+        stays (frees a u hu hv e) = d (slot-parts s a n u hv hu e)
+
+        before : HeldWith es (act fresh t n) s i → Held es s i
+        before (inl (x, f)) = x
+        before (inr (r, q)) = absurd (no-slot-fresh q)
 
 module _ {es : List Event} {last : List ℕ} {t n number : ℕ} (o : Op) (h : ExactHistory es last) (ht : t < tasks) (hn : n < series o) (numbered : number ≡ suc (length es)) where
   abbrev keep : ℕ → List ℕ → List ℕ
   keep s l = set l s number
 
+  abbrev keptIn : List ℕ
+  keptIn = underEach keep (kind o) n t last
+
   -- a slot has the number where the act is kept in it, and what it had elsewhere
-  kept : (s : ℕ) → WroteTo keep (kind o) n t (λ l. length l ≡ slots) (λ l. lastOf l s ≡ number) (λ l. lastOf l s ≡ lastOf last s) s (length askers) (lastAfter (kind o) t n number last)
+  kept : (s : ℕ) → WroteTo keep (kind o) n t (λ l. length l ≡ slots) (λ l. lastOf l s ≡ number) (λ l. lastOf l s ≡ lastOf last s) s (length askers) keptIn
   kept s = under-each keep (kind o) n t (λ l. length l ≡ slots) (λ l. lastOf l s ≡ number) (λ l. lastOf l s ≡ lastOf last s) s
       (λ a l ha c e. length-set l (slot a n t) number ∙ e)
       (λ a l ha c p e. rw p (getD-set-same l (slot a n t) number 0 (rw e (slot-below ha (kept-on o a hn c) ht))))
       (λ a l ha c d e. (λ q. getD-set-other l (slot a n t) s number 0 d ∙ q, λ q. getD-set-other l (slot a n t) s number 0 d ∙ q))
       last (h .size) refl
 
-  pub history-act : ExactHistory (es ++ (act o t n ∷ [])) (lastAfter (kind o) t n number last)
-  history-act = record { size = kept 0 .0; held = λ s i l. cases s i l (kept s .1) }
+  history-kept : ¬ (o ≡ fresh) → ExactHistory (es ++ (act o t n ∷ [])) keptIn
+  history-kept f = record { size = kept 0 .0; held = λ s i l. cases s i l (kept s .1) }
     where
       cases : (s i : ℕ) → s < slots →
-          (Under keep (kind o) n t (length askers) s × (lastOf (lastAfter (kind o) t n number last) s ≡ number))
-          ⊎ ((¬ Under keep (kind o) n t (length askers) s) × (lastOf (lastAfter (kind o) t n number last) s ≡ lastOf last s)) →
-          (i < lastOf (lastAfter (kind o) t n number last) s) ↔ Held (es ++ (act o t n ∷ [])) s i
+          (Under keep (kind o) n t (length askers) s × (lastOf keptIn s ≡ number)) ⊎ ((¬ Under keep (kind o) n t (length askers) s) × (lastOf keptIn s ≡ lastOf last s)) →
+          (i < lastOf keptIn s) ↔ Held (es ++ (act o t n ∷ [])) s i
       cases s i l (inl (x, e)) = (λ q. snoc-held es (act o t n) (inr (let r : i < number = rw e at q in omega arith, under-in o ht hn x)), λ d. rw e (under (held-snoc d)))
         where
-          under : Held es s i ⊎ ((i ≤ length es) × InSlot s (act o t n)) → i < number
-          under (inl d) = let r = d .recent in let k = occurs-short (d .occurs) in omega arith
+          under : HeldWith es (act o t n) s i → i < number
+          under (inl (d, k)) = let r = d .recent in let k = occurs-short (d .occurs) in omega arith
           under (inr (r, q)) = omega arith
-      cases s i l (inr (x, e)) = (λ q. snoc-held es (act o t n) (inl (h .held s i l .0 (rw e at q))), λ d. rw e (h .held s i l .1 (stays (held-snoc d))))
+      cases s i l (inr (x, e)) = (λ q. snoc-held es (act o t n) (inl (h .held s i l .0 (rw e at q), keeps-slots f)), λ d. rw e (h .held s i l .1 (stays (held-snoc d))))
         where
-          stays : Held es s i ⊎ ((i ≤ length es) × InSlot s (act o t n)) → Held es s i
-          stays (inl d) = d
+          stays : HeldWith es (act o t n) s i → Held es s i
+          stays (inl (d, k)) = d
           stays (inr (_, q)) = absurd (x (in-under q))
+
+pub history-act : {es : List Event} {last : List ℕ} {t n number : ℕ} (o : Op) → ExactHistory es last → t < tasks → n < series o → number ≡ suc (length es) →
+    ExactHistory (es ++ (act o t n ∷ [])) (lastAfter (kind o) t n number last)
+history-act {es} {last} {t} {n} {number} o h ht hn numbered = decided (same-op o fresh)
+  where
+    decided : {b : Bool} → Reflects (o ≡ fresh) b →
+        ExactHistory (es ++ (act o t n ∷ [])) (cond b (emptied n last) (underEach (λ s l. set l s number) (kind o) n t last))
+    decided (right e) = rw e (history-fresh t n (subst (λ (p : Op). n < series p) e hn) h)
+    decided (wrong f) = history-kept o h ht hn numbered f
 
 -- a mark is kept nowhere
 pub history-mark : {es : List Event} {last : List ℕ} (mask t n number : ℕ) → ExactHistory es last → ExactHistory (es ++ (lost mask ∷ [])) (lastAfter lossMark t n number last)
 unfolding underEach turns
-history-mark {es} mask t n number h = record { size = h .size; held = λ s i l. (λ a. snoc-held es (lost mask) (inl (h .held s i l .0 a)), λ d. h .held s i l .1 (stays (held-snoc d))) }
+history-mark {es} mask t n number h = record { size = h .size; held = λ s i l. (λ a. snoc-held es (lost mask) (inl (h .held s i l .0 a, λ q. elim q [ ])), λ d. h .held s i l .1 (stays (held-snoc d))) }
   where
-    stays : {s i : ℕ} → Held es s i ⊎ ((i ≤ length es) × InSlot s (lost mask)) → Held es s i
-    stays (inl d) = d
+    stays : {s i : ℕ} → HeldWith es (lost mask) s i → Held es s i
+    stays (inl (d, k)) = d
     stays (inr (_, q)) = absurd (no-slot-mark q)
 
 pub fresh-history : ExactHistory [] (replicate slots 0)

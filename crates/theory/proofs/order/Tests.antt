@@ -1,13 +1,13 @@
 -- The tests of specs/verdicts/Search.antt tell of what specs/order/Path.antt means: steps, paths and conflicts. Assumes nothing.
 use mathlib.Core.Path.{_≡_, refl}
-use mathlib.Core.Bool.{Bool, true, false}
+use mathlib.Core.Bool.{Bool, true, false, not}
 use mathlib.Core.Logic.{_⊎_, inl, inr, _≢_}
 use mathlib.Core.List.{List, [], _∷_, _++_}
 use Prim.Native.Nat.{ℕ}
 use lib.Dec.{T}
-use Rattle.theory.specs.order.Recording.{Op, take, give, look, set, start, join, Event, act, lost, _is_, ActsIn, acts}
-use Rattle.theory.specs.order.Path.{Step, same-task, gives-takes, sets-looks, starts, joins, clashes, Conflict, conflict}
-use Rattle.theory.specs.verdicts.Search.{steps, any, reaches, conflicts, actsIn, again}
+use Rattle.theory.specs.order.Recording.{Op, take, give, look, set, start, join, fresh, Event, act, lost, Every, no-more, and-more, _is_, ActsIn, acts}
+use Rattle.theory.specs.order.Path.{Step, same-task, gives-takes, sets-looks, starts, joins, clashes, Conflict, conflict, Empties, empties as emptying}
+use Rattle.theory.specs.verdicts.Search.{steps, any, reaches, conflicts, empties, actsIn, again}
 use Rattle.theory.proofs.basics.Reflects.{Reflects, right, wrong, by-test, both, either, fails, same-as, equal}
 use Rattle.theory.proofs.order.Ops.{same-op}
 use Rattle.theory.proofs.order.Leads.{Leads, last, over, via}
@@ -58,6 +58,32 @@ some-test r (e ∷ es) = at-head (r e) (some-test r es)
     at-head (right p) s = right (this p)
     at-head (wrong n) (right s) = right (further s)
     at-head (wrong n) (wrong f) = wrong (neither-of n f)
+
+-- Every event of a list
+
+pub every-map : {P Q : Event → Type 0} {es : List Event} → ((e : Event) → P e → Q e) → Every P es → Every Q es
+every-map h no-more = no-more
+every-map h (and-more p q) = and-more (h _ p) (every-map h q)
+
+pub every-snoc : {P : Event → Type 0} (after : List Event) {x : Event} → Every P (after ++ (x ∷ [])) → Every P after × P x
+every-snoc [] (and-more p q) = (no-more, p)
+every-snoc (e ∷ after) (and-more p q) = let r = every-snoc after q in (and-more p (r .0), r .1)
+
+pub snoc-every : {P : Event → Type 0} {after : List Event} (x : Event) → Every P after → P x → Every P (after ++ (x ∷ []))
+snoc-every x no-more p = and-more p no-more
+snoc-every x (and-more q r) p = and-more q (snoc-every x r p)
+
+-- a list of which no event is as P says
+pub none-every : {P : Event → Type 0} (es : List Event) → ¬ Some P es → Every (λ e. ¬ P e) es
+none-every [] n = no-more
+none-every (e ∷ es) n = and-more (λ p. n (this p)) (none-every es (λ s. n (further s)))
+
+pub every-none : {P : Event → Type 0} {es : List Event} → Every (λ e. ¬ P e) es → ¬ Some P es
+every-none (and-more n r) (this p) = n p
+every-none (and-more n r) (further s) = every-none r s
+
+pub none-test : {P : Event → Type 0} {b : Event → Bool} → ((e : Event) → Reflects (P e) (b e)) → (es : List Event) → Reflects (Every (λ e. ¬ P e) es) (not (any b es))
+none-test r es = same-as (none-every es) every-none (fails (some-test r es))
 
 -- Steps
 
@@ -148,6 +174,15 @@ conflict-test (act o t v) (act p u w) =
 conflict-test (act o t n) (lost mask) = wrong (λ s. elim s [ ])
 conflict-test (lost mask) (act p u m) = wrong (λ s. elim s [ ])
 conflict-test (lost mask) (lost mask′) = wrong (λ s. elim s [ ])
+
+pub empties-test : (e f : Event) → Reflects (Empties e f) (empties e f)
+empties-test (act o t v) (act p u w) = same-as (λ c. rw (c .0, c .1) emptying) parts (both (same-op o fresh) (equal v w))
+  where
+    parts : {o p : Op} {t u v w : ℕ} → Empties (act o t v) (act p u w) → (o ≡ fresh) × (v ≡ w)
+    parts emptying = (refl, refl)
+empties-test (act o t n) (lost mask) = wrong (λ s. elim s [ ])
+empties-test (lost mask) (act p u m) = wrong (λ s. elim s [ ])
+empties-test (lost mask) (lost mask′) = wrong (λ s. elim s [ ])
 
 pub acts-test : (t : ℕ) (e : Event) → Reflects (ActsIn t e) (actsIn t e)
 acts-test t (act o u n) = same-as (λ e. rw (← e) acts) acting (equal t u)

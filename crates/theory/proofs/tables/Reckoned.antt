@@ -10,7 +10,7 @@ use native.Mathlib.Omega.{arith}
 use lib.ListN.{getD}
 use borrow.Author.Tests.{le-ltb}
 use lib.Dec.{T, ltb}
-use Rattle.theory.specs.order.Recording.{Op, Event, act, lost, kind, ActsIn, acts, isAccess}
+use Rattle.theory.specs.order.Recording.{Op, Event, act, lost, Every, kind, ActsIn, acts, isAccess}
 use Rattle.theory.specs.order.Path.{Conflict, conflict}
 use Rattle.theory.specs.fillings.Completion.{bit, fillWith, Filling, filling}
 use Rattle.theory.specs.tables.Rows.{cell}
@@ -22,13 +22,13 @@ use Rattle.theory.proofs.order.Leads.{Leads}
 use Rattle.theory.proofs.order.Carry.{Node, due, Acquires, own, own-next, Carry, pass, move, carry-skip, carry-append}
 use Rattle.theory.proofs.fillings.Reach.{Reach, leads-reach}
 use Rattle.theory.proofs.order.Places.{Occurs, first, next}
-use Rattle.theory.proofs.verdicts.Latest.{Final, some-after, some-occurs, occurs-after}
+use Rattle.theory.proofs.verdicts.Latest.{Final, some-after, some-occurs, occurs-after, every-after}
 use Rattle.theory.proofs.verdicts.Search.{Candidate}
 use Rattle.theory.proofs.tables.Nodes.{due-in, acquiredNode, acquires-cases, plain-acquired}
 use Rattle.theory.proofs.fillings.Came.{Came}
 use Rattle.theory.proofs.tables.ClockTables.{ExactClocks, OfTask}
 use Rattle.theory.proofs.tables.SetTables.{ExactSets, KeptIn}
-use Rattle.theory.proofs.history.Slots.{InSlot, in-slot, ExactHistory, slot-one}
+use Rattle.theory.proofs.history.Slots.{InSlot, in-slot, Frees, ExactHistory, slot-one}
 use Rattle.theory.proofs.history.Numbers.{latest-below, occurs-same, number-final, final-number}
 use Rattle.theory.proofs.order.Ops.{Role, a-take, a-give, a-look, a-set, a-start, a-join, plain, role}
 use Rattle.theory.proofs.tables.Words.{slot-known}
@@ -110,22 +110,33 @@ candidate-apart c = of (c .apart .against .by) (c .apart .against .conflict)
 -- The access that a number tells
 
 module _ {es : List Event} {last : List ℕ} (p : Op) {v u i : ℕ} (h : ExactHistory es last) (hv : v < variables) (hu : u < tasks) (n : latestNumber last (kind p) v u ≡ suc i) where
-  told : (e : Event) × (after : List Event) × Occurs es i e after × InSlot (latestSlot (kind p) v u) e
+  -- since then the slot was not emptied
+  told : (e : Event) × (after : List Event) × Occurs es i e after × (InSlot (latestSlot (kind p) v u) e × Every (λ d. ¬ Frees (latestSlot (kind p) v u) d) after)
   told =
       let d = h .held (latestSlot (kind p) v u) i (latest-below p hv hu) .0 (omega arith) in
-      let k = h .held (latestSlot (kind p) v u) (d .j) (latest-below p hv hu) .1 (record { j = d .j; e = d .e; after = d .after; recent = le-refl _; occurs = d .occurs; inside = d .inside }) in
+      let k =
+      h .held (latestSlot (kind p) v u) (d .j) (latest-below p hv hu) .1
+      (record { j = d .j; e = d .e; after = d .after; recent = le-refl _; occurs = d .occurs; inside = d .inside; since = d .since })
+      in
       let l = d .recent in
       let q : i ≡ d .j = omega arith in
-      (d .e, d .after, occurs-there q (d .occurs), d .inside)
+      (d .e, d .after, occurs-there q (d .occurs), (d .inside, d .since))
 
   -- it is the one that the slot keeps
   kept-at : {e : Event} {after : List Event} → Occurs es i e after → KeptIn (latestSlot (kind p) v u) e after
-  kept-at {after = rest} o = let d = told in (occurs-same (λ e after. InSlot (latestSlot (kind p) v u) e) o (d .2) (d .3), λ s. later (some-occurs s))
+  kept-at {e = here} {after = rest} o = let x = same in (x .0, λ s. later (x .1) (some-occurs s))
     where
-      later : (j : ℕ) × (e : Event) × (after′ : List Event) × Occurs rest j e after′ × InSlot (latestSlot (kind p) v u) e → ⊥
-      later (j, e, after′, q, a) =
+      same : InSlot (latestSlot (kind p) v u) here × Every (λ d. ¬ Frees (latestSlot (kind p) v u) d) rest
+      same = let d = told in occurs-same (λ e after. InSlot (latestSlot (kind p) v u) e × Every (λ d. ¬ Frees (latestSlot (kind p) v u) d) after) o (d .2) (d .3)
+
+      later : Every (λ d. ¬ Frees (latestSlot (kind p) v u) d) rest →
+          (j : ℕ) × (e : Event) × (after′ : List Event) × Occurs rest j e after′ × InSlot (latestSlot (kind p) v u) e → ⊥
+      later f (j, e, after′, q, a) =
           let (j′, m, r) = occurs-after o q in
-          let k = h .held (latestSlot (kind p) v u) j′ (latest-below p hv hu) .1 (record { j = j′; e = e; after = after′; recent = le-refl _; occurs = r; inside = a }) in
+          let k =
+          h .held (latestSlot (kind p) v u) j′ (latest-below p hv hu) .1
+          (record { j = j′; e = e; after = after′; recent = le-refl _; occurs = r; inside = a; since = every-after q f })
+          in
           omega arith
 
 -- a slot keeps one access
@@ -155,7 +166,7 @@ module _ {w : Filling} {es : List Event} {last : List ℕ} {apart : Bool} (p : O
       -- order from a task's own has come to its next act
       other : {i : ℕ} → latestNumber last (kind p) v u ≡ suc i → u ≢ t
       other n q =
-          let (e, after, o, b) = told p h hv hu n in
+          let (e, after, o, (b, _)) = told p h hv hu n in
           let c = slot-task p hv hu b in
           unreached o c n (subst (λ (y : ℕ). Reach w e after (due y)) q (acts-reach c))
 

@@ -212,7 +212,7 @@ abbrev pub stores : ℕ → (ℕ → List ℕ → ℕ) → ℕ → List ℕ → 
 stores k h n b = turns n (λ c x. set x (k + c) (h c x)) b
 
 module _ (k : ℕ) (h : ℕ → List ℕ → ℕ) (b : List ℕ) where
-  stores-length : (n : ℕ) → length (stores k h n b) ≡ length b
+  pub stores-length : (n : ℕ) → length (stores k h n b) ≡ length b
   unfolding turns
   stores-length zero = refl
   stores-length (suc n) = length-set (stores k h n b) (k + n) _ ∙ stores-length n

@@ -8,7 +8,7 @@ use Prim.Native.Nat.{ℕ, zero, suc, _-_, _≤_, _<_}
 use lib.ListN.{take}
 use native.Mathlib.Nat.{le-of-suc-le-suc, not-suc-le-zero}
 use native.Mathlib.Omega.{arith}
-use Rattle.theory.specs.order.Recording.{Event, At, ActsIn, acts}
+use Rattle.theory.specs.order.Recording.{Event, At, Every, and-more, ActsIn, acts}
 use Rattle.theory.specs.order.Path.{Step, same-task, HappensBefore, one, more, Conflict, Against}
 use Rattle.theory.specs.fillings.Completion.{Completion, place}
 use Rattle.theory.specs.verdicts.Verdict.{between, Earlier, Latest, Racy, Unordered}
@@ -36,6 +36,10 @@ some-occurs (further s) = let (j, x, after, o, p) = some-occurs s in (suc j, x, 
 pub occurs-after : {es after after′ : List Event} {i j : ℕ} {e x : Event} → Occurs es i e after → Occurs after j x after′ → (k : ℕ) × (i < k) × Occurs es k x after′
 occurs-after {j = j} first q = (suc j, omega arith, next q)
 occurs-after (next o) q = let (k, h, r) = occurs-after o q in (suc k, omega arith, next r)
+
+pub every-after : {P : Event → Type 0} {es after : List Event} {j : ℕ} {x : Event} → Occurs es j x after → Every P es → Every P after
+every-after first (and-more p q) = q
+every-after (next o) (and-more p q) = every-after o q
 
 -- Earlier accesses by what stands before the access
 
@@ -78,7 +82,7 @@ pub record Final (t : ℕ) (f : Event) (es : List Event) (i : ℕ) : Type 0 wher
 
 -- an access that conflicts and stands after one that counts, counts as well
 pub against-later : {t j : ℕ} {e x f : Event} {after after′ : List Event} → Against t e after f → Occurs after j x after′ → ActsIn t x × Conflict x f → Against t x after′ f
-against-later a o p = record { by = p .0; conflict = p .1 }
+against-later a o p = record { by = p .0; conflict = p .1; since = every-after o (a .since) }
 
 module _ {es before : List Event} {t k : ℕ} {f : Event} (d : Ends es k before f) where
   pub final-latest : {i : ℕ} → Final t f before i → Latest es t i k

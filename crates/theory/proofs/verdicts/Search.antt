@@ -6,15 +6,15 @@ use mathlib.Core.List.{List, [], _∷_}
 use mathlib.Core.Option.{Option, none, some}
 use Prim.Native.Nat.{ℕ, zero, suc, _+_, _≤_}
 use native.Mathlib.Omega.{arith}
-use Rattle.theory.specs.order.Recording.{Op, Event, act, lost, ActsIn, acts}
-use Rattle.theory.specs.order.Path.{Conflict, Against}
+use Rattle.theory.specs.order.Recording.{Op, Event, act, lost, Every, ActsIn, acts}
+use Rattle.theory.specs.order.Path.{Conflict, Empties, Against}
 use Rattle.theory.specs.fillings.Completion.{fillWith}
 use Rattle.theory.specs.verdicts.Verdict.{Latest, Partner}
 use Rattle.theory.specs.verdicts.Search.{Found, found, lower, apart, partner}
 use Rattle.theory.proofs.basics.Reflects.{Reflects, right, wrong, both, fails, at-most}
 use Rattle.theory.proofs.order.Leads.{Leads}
 use Rattle.theory.proofs.order.Places.{Ends, Occurs, first, next, nowhere}
-use Rattle.theory.proofs.order.Tests.{Again, again-test, conflict-test, lead-test}
+use Rattle.theory.proofs.order.Tests.{Again, again-test, conflict-test, empties-test, none-test, lead-test}
 use Rattle.theory.proofs.verdicts.Latest.{final-latest, latest-final}
 
 -- Definition
@@ -45,13 +45,13 @@ acting-bound h t acts = h
 
 module _ {g : ℕ → List Event} {f : Event} where
   apart-test : (e : Event) (after : List Event) → Reflects ((t : ℕ) × Apart g f t e after) (Rattle.theory.specs.verdicts.Search.apart g f e after)
-  apart-test (act o t n) after = of-act (both (conflict-test (act o t n) f) (fails (again-test t f after))) (fails (lead-test (act o t n) (fillWith g after) f))
+  apart-test (act o t n) after = of-act (both (both (conflict-test (act o t n) f) (none-test (λ d. empties-test d f) after)) (fails (again-test t f after))) (fails (lead-test (act o t n) (fillWith g after) f))
     where
-      of-act : {a b : Bool} → Reflects (Conflict (act o t n) f × (¬ Again t f after)) a → Reflects (¬ Leads (act o t n) (fillWith g after) f) b →
+      of-act : {a b : Bool} → Reflects ((Conflict (act o t n) f × Every (λ d. ¬ Empties d f) after) × (¬ Again t f after)) a → Reflects (¬ Leads (act o t n) (fillWith g after) f) b →
           Reflects ((u : ℕ) × Apart g f u (act o t n) after) (elim a [ true ↦ b | false ↦ false ])
-      of-act (right c) (right l) = right (t, record { against = record { by = acts; conflict = c .0 }; none = c .1; unordered = l })
+      of-act (right c) (right l) = right (t, record { against = record { by = acts; conflict = c .0 .0; since = c .0 .1 }; none = c .1; unordered = l })
       of-act (right c) (wrong l) = wrong (λ x. l (x .1 .unordered))
-      of-act (wrong c) l = wrong (λ x. c (x .1 .against .conflict, latest (x .1 .against .by) (x .1 .none)))
+      of-act (wrong c) l = wrong (λ x. c ((x .1 .against .conflict, x .1 .against .since), latest (x .1 .against .by) (x .1 .none)))
         where
           latest : {u : ℕ} → ActsIn u (act o t n) → ¬ Again u f after → ¬ Again t f after
           latest acts n = n

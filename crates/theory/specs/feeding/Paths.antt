@@ -13,10 +13,10 @@ use Rattle.theory.specs.declared.masks.Masks.{Masks}
 use Rattle.theory.specs.declared.state.State.{State}
 use Rattle.theory.specs.declared.state.SetState.{SetState}
 use Rattle.theory.specs.order.Limits.{tasks, variables}
-use Rattle.theory.specs.order.Recording.{Op, take, look, join, Event, act, At, kind, isAccess, opOf, eventOf, accesses, _is_}
+use Rattle.theory.specs.order.Recording.{Op, take, look, join, fresh, Event, act, At, kind, isAccess, opOf, eventOf, accesses, _is_}
 use Rattle.theory.specs.order.Path.{HappensBefore, clashes}
 use Rattle.theory.specs.fillings.Completion.{bit, fullest}
-use Rattle.theory.specs.acceptance.Table.{isAct, refusal, recording}
+use Rattle.theory.specs.acceptance.Table.{isAct, hasKind, refusal, recording}
 use Rattle.theory.specs.history.History.{latestNumber}
 use Rattle.theory.specs.tables.Reckonings.{clockApart, setApart}
 use Rattle.theory.specs.feeding.Step.{apartByClocks, apartBySets, freshState, freshSets}
@@ -60,12 +60,14 @@ leftBy x = afterAll (x .checker) (x .checker .fresh)
 
 -- What Order has
 
--- `Kept es p v u i`: at place i of the recording stands task u's latest access to variable v that clashes with an access of op p
+-- `Kept es p v u i`: at place i of the recording stands task u's latest access to variable v that clashes with an access of op p, and no fresh of v
+-- stands after it
 pub record Kept (es : List Event) (p : Op) (v u i : ℕ) : Type 0 where
   pub op : Op
   pub at : At es i (act op u v)
   pub clash : T (clashes op p)
   pub latest : (j : ℕ) (o : Op) → At es j (act o u v) → T (clashes o p) → j ≤ i
+  pub since : (j t : ℕ) → At es j (act fresh t v) → j ≤ i
 
 -- where the record at place i of a recording stands in its fullest filling: behind all that comes before it there
 abbrev pub inFullest : List Event → ℕ → ℕ
@@ -103,8 +105,10 @@ pub record PathsAfter {S : Type 0} (x : Reckoning S) (rs : List Record) : Type 0
   -- an access that comes next, or another act to which order comes from its own task alone: the state says it before that act is fed
   pub before : (r : Record) → refusal (recording rs) r ≡ 0 → isAct r ≡ true → acquiring (opOf (r .kind)) ≡ false →
       SaysPaths x (leftBy x rs) (recording rs) r
-  -- any act that comes next: the state says it once that act is fed. Where that act is itself kept in the access's place, both are of one task
-  pub after : (r : Record) → refusal (recording rs) r ≡ 0 → isAct r ≡ true → SaysPaths x (x .checker .next (leftBy x rs) r) (recording rs) r
+  -- any act that comes next but a fresh, by which accesses are kept no longer: the state says it once that act is fed. Where that act is itself
+  -- kept in the access's place, both are of one task
+  pub after : (r : Record) → refusal (recording rs) r ≡ 0 → isAct r ≡ true → hasKind r fresh ≡ false →
+      SaysPaths x (x .checker .next (leftBy x rs) r) (recording rs) r
 
 -- after every list of records
 abbrev pub ExactPaths : {S : Type 0} → Reckoning S → Type 0

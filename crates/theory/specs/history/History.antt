@@ -3,10 +3,11 @@
 use Prim.Native.Nat.{ℕ, _+_, _*_}
 use mathlib.Core.Bool.{Bool, false, cond}
 use mathlib.Core.List.{List, [], _∷_}
+use lib.Dec.{eqb}
 use lib.ListN.{getD, set, length}
 use Rattle.theory.specs.tables.Turns.{turns}
 use Rattle.theory.specs.order.Limits.{tasks, variables}
-use Rattle.theory.specs.order.Recording.{Op, read, write, about, accessNumber, opOf, Kind, of-op, of-mark, kindAt}
+use Rattle.theory.specs.order.Recording.{Op, read, write, fresh, kind, about, accessNumber, opOf, Kind, of-op, of-mark, kindAt}
 use Rattle.theory.specs.order.Path.{clashes}
 
 -- the kinds of access by their numbers
@@ -46,6 +47,17 @@ kindClashes of-mark p = false
 unfoldable pub underEach : {A : Type 0} → (ℕ → A → A) → ℕ → ℕ → ℕ → A → A
 underEach f k v u b = turns (length askers) (λ a b. cond (kindClashes (kindAt k) (asker a)) (f (slot a v u) b) b) b
 
--- the history after an accepted record
+-- the history with an access kept; what is no access is kept nowhere
+abbrev pub withAccess : ℕ → ℕ → ℕ → ℕ → List ℕ → List ℕ
+withAccess k task on number last = underEach (λ s l. set l s number) k on task last
+
+-- the history without the accesses to variable v: of every task, for the kind that has number a, and for every kind
+unfoldable pub emptiedUnder : ℕ → ℕ → List ℕ → List ℕ
+emptiedUnder v a last = turns tasks (λ u l. set l (slot a v u) 0) last
+
+unfoldable pub emptied : ℕ → List ℕ → List ℕ
+emptied v last = turns (length askers) (emptiedUnder v) last
+
+-- the history after an accepted record: a fresh empties it for its variable, and an access is kept
 abbrev pub lastAfter : ℕ → ℕ → ℕ → ℕ → List ℕ → List ℕ
-lastAfter k task on number last = underEach (λ s l. set l s number) k on task last
+lastAfter k task on number last = cond (eqb k (kind fresh)) (emptied on last) (withAccess k task on number last)

@@ -4,7 +4,7 @@ use mathlib.Core.List.{List}
 use mathlib.Core.Logic.{_≢_}
 use mathlib.Core.Bool.{Bool, _&&_, _||_}
 use lib.Dec.{T}
-use Rattle.theory.specs.order.Recording.{Op, write, take, give, look, set, start, join, Event, act, At, ActsIn, isAccess, _is_}
+use Rattle.theory.specs.order.Recording.{Op, write, take, give, look, set, start, join, fresh, Event, act, At, Every, ActsIn, isAccess, _is_}
 
 -- "step", by what the two records say: the five lines of document 01, in their order. A loss mark has no step to or from it.
 pub data Step : Event → Event → Type 0 where
@@ -39,7 +39,13 @@ clashes o p = isAccess o && (isAccess p && rule o p)
 pub data Conflict : Event → Event → Type 0 where
   conflict : {o p : Op} {t u v : ℕ} → t ≢ u → T (clashes o p) → Conflict (act o t v) (act p u v)
 
--- task t's access e is one that a later access f is held against, `mid` being what stands between the two
+-- a fresh "empties the access history of variable V": of the one that f accesses
+pub data Empties : Event → Event → Type 0 where
+  empties : {p : Op} {t u v : ℕ} → Empties (act fresh t v) (act p u v)
+
+-- task t's access e is one that a later access f is held against, `mid` being what stands between the two: they conflict, and e is one of the
+-- "accesses since the last fresh of that variable"
 pub record Against (t : ℕ) (e : Event) (mid : List Event) (f : Event) : Type 0 where
   pub by : ActsIn t e
   pub conflict : Conflict e f
+  pub since : Every (λ d. ¬ Empties d f) mid

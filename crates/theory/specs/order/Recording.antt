@@ -9,7 +9,7 @@ use Rattle.theory.specs.declared.record.Record.{Record}
 
 -- "op": what an acting task does. `lost` is no op of a task, see below.
 pub data Op : Type 0 where
-  read write take give look set start join : Op
+  read write take give look set start join fresh : Op
 
 -- "record", one that says something: an act, with its op, its acting task and its number (`on`), or a loss mark, with its mask.
 -- A recording is a list of these, in the order in which they came. Record number n, counted from 1, stands at place n - 1 of the list.
@@ -60,6 +60,7 @@ about look = features 4 flags no-access true keeps
 about set = features 5 flags no-access true keeps
 about start = features 6 tasks no-access false begins
 about join = features 7 tasks no-access false ends
+about fresh = features 9 variables no-access false keeps
 
 abbrev pub kind : Op → ℕ
 kind o = (about o) .kind
@@ -86,6 +87,7 @@ abbrev pub kinds : List Kind
 kinds =
     of-op read ∷ of-op write ∷ of-op take ∷ of-op give ∷ of-op look ∷ of-op set ∷ of-op start ∷ of-op join
     ∷ of-mark
+    ∷ of-op fresh
     ∷ []
 
 abbrev pub kindAt : ℕ → Kind
@@ -124,6 +126,11 @@ o is p = eqb (kind o) (kind p)
 pub data At : List Event → ℕ → Event → Type 0 where
   here : {e : Event} {es : List Event} → At (e ∷ es) zero e
   there : {d e : Event} {es : List Event} {i : ℕ} → At es i e → At (d ∷ es) (suc i) e
+
+-- every event of the list is as P says
+pub data Every (P : Event → Type 0) : List Event → Type 0 where
+  no-more : Every P []
+  and-more : {e : Event} {es : List Event} → P e → Every P es → Every P (e ∷ es)
 
 -- task t acts in the event
 pub data ActsIn (t : ℕ) : Event → Type 0 where

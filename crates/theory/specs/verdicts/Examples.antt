@@ -4,7 +4,7 @@ use Prim.Native.Nat.{ℕ, suc}
 use mathlib.Core.Path.{_≡_}
 use mathlib.Core.List.{List, [], _∷_}
 use lib.Dec.{T}
-use Rattle.theory.specs.order.Recording.{Op, read, write, take, give, look, set, start, join, Event, act, lost, isAccess}
+use Rattle.theory.specs.order.Recording.{Op, read, write, take, give, look, set, start, join, fresh, Event, act, lost, isAccess}
 use Rattle.theory.specs.verdicts.Verdict.{Verdict, Race, Clear, Doubt, With}
 use Rattle.theory.specs.verdicts.Demands.{Firm}
 use Rattle.theory.specs.verdicts.Search.{Finding}
@@ -103,4 +103,22 @@ table =
     ∷ (act start 0 1 ∷ w1 ∷ r1 ∷ r0 ∷ w0 ∷ [] gives (2 ∶ Clear with 0) ∷ (3 ∶ Clear with 0) ∷ (4 ∶ Race with 2) ∷ (5 ∶ Race with 3) ∷ [])
     -- a mark that names all tasks
     ∷ (act start 0 1 ∷ act start 0 2 ∷ act start 0 3 ∷ act start 0 4 ∷ act start 0 5 ∷ act start 0 6 ∷ act start 0 7 ∷ act start 0 8 ∷ act start 0 9 ∷ act start 0 10 ∷ act start 0 11 ∷ act start 0 12 ∷ act start 0 13 ∷ act start 0 14 ∷ act start 0 15 ∷ w0 ∷ lost 65535 ∷ act write 15 5 ∷ [] gives (16 ∶ Clear with 0) ∷ (18 ∶ Doubt with 16) ∷ [])
+    -- F-1: a fresh between two unordered writes: the old table's accesses do not count
+    ∷ (act start 0 1 ∷ w0 ∷ act fresh 0 5 ∷ w1 ∷ [] gives (2 ∶ Clear with 0) ∷ (4 ∶ Clear with 0) ∷ [])
+    -- before both it changes nothing
+    ∷ (act start 0 1 ∷ act fresh 0 5 ∷ w0 ∷ w1 ∷ [] gives (3 ∶ Clear with 0) ∷ (4 ∶ Race with 3) ∷ [])
+    -- nor of another variable
+    ∷ (act start 0 1 ∷ w0 ∷ act fresh 0 6 ∷ w1 ∷ [] gives (2 ∶ Clear with 0) ∷ (4 ∶ Race with 2) ∷ [])
+    -- whoever acts, and whether ordered or not
+    ∷ (act start 0 1 ∷ act start 0 2 ∷ w0 ∷ act fresh 2 5 ∷ w1 ∷ [] gives (3 ∶ Clear with 0) ∷ (5 ∶ Clear with 0) ∷ [])
+    -- between a write and a mark: the same in each completion
+    ∷ (act start 0 1 ∷ w0 ∷ act fresh 1 5 ∷ lost 3 ∷ w1 ∷ [] gives (2 ∶ Clear with 0) ∷ (5 ∶ Clear with 0) ∷ [])
+    -- twice; and accesses since the last one count
+    ∷ (act start 0 1 ∷ w0 ∷ act fresh 0 5 ∷ w1 ∷ act fresh 1 5 ∷ w0 ∷ r1 ∷ [] gives (2 ∶ Clear with 0) ∷ (4 ∶ Clear with 0) ∷ (6 ∶ Clear with 0) ∷ (7 ∶ Race with 6) ∷ [])
+    -- the partner is the newer of two accesses, where without the fresh it would be the older
+    ∷ (act start 0 1 ∷ act start 0 2 ∷ w1 ∷ act fresh 0 5 ∷ act write 2 5 ∷ w0 ∷ [] gives (3 ∶ Clear with 0) ∷ (5 ∶ Clear with 0) ∷ (6 ∶ Race with 5) ∷ [])
+    -- it is an act of its task: a join acquires it
+    ∷ (act start 0 2 ∷ w0 ∷ act start 0 1 ∷ act fresh 1 6 ∷ act join 2 1 ∷ act read 2 5 ∷ [] gives (2 ∶ Clear with 0) ∷ (6 ∶ Clear with 0) ∷ [])
+    -- and makes no step of its own kind: a later fresh or read of the variable is not ordered by it
+    ∷ (act start 0 1 ∷ act write 0 6 ∷ act fresh 0 5 ∷ act fresh 1 5 ∷ r1 ∷ act write 1 6 ∷ [] gives (2 ∶ Clear with 0) ∷ (5 ∶ Clear with 0) ∷ (6 ∶ Race with 2) ∷ [])
     ∷ []

@@ -7,7 +7,7 @@ use mathlib.Core.Option.{Option, none, some}
 use lib.Dec.{leb, eqb}
 use lib.ListN.{getD, length}
 use lib.ListN as ListN
-use Rattle.theory.specs.order.Recording.{take, give, look, set, start, join, Event, act, lost, _is_, isAccess}
+use Rattle.theory.specs.order.Recording.{take, give, look, set, start, join, fresh, Event, act, lost, _is_, isAccess}
 use Rattle.theory.specs.order.Path.{clashes}
 use Rattle.theory.specs.fillings.Completion.{fillWith, nothing, rounds}
 use Rattle.theory.specs.verdicts.Verdict.{Verdict, Race, Clear, Doubt}
@@ -40,6 +40,17 @@ conflicts (act o t v) (lost mask) = false
 conflicts (lost mask) (act p u w) = false
 conflicts (lost mask) (lost mask′) = false
 
+-- whether e empties the history of the variable that f accesses
+abbrev pub empties : Event → Event → Bool
+empties (act o t v) (act p u w) = o is fresh && eqb v w
+empties (act o t v) (lost mask) = false
+empties (lost mask) (act p u w) = false
+empties (lost mask) (lost mask′) = false
+
+-- whether f is held against e, with `mid` between the two
+abbrev pub against : Event → List Event → Event → Bool
+against e mid f = conflicts e f && not (any (λ d. empties d f) mid)
+
 -- whether task t acts in the event
 abbrev pub actsIn : ℕ → Event → Bool
 actsIn t (act o u n) = eqb t u
@@ -54,10 +65,10 @@ pub record Found : Type 0 where
   pub task : ℕ
   pub number : ℕ
 
--- whether e, with `after` between it and f, is its task's latest conflicting access and has no path to f in the filling g
+-- whether e, with `after` between it and f, is its task's latest access that f is held against and has no path to f in the filling g
 abbrev pub apart : (ℕ → List Event) → Event → Event → List Event → Bool
 apart g f (act o t n) after =
-    elim (conflicts (act o t n) f && not (again t f after)) [
+    elim (against (act o t n) after f && not (again t f after)) [
       | true ↦ not (reaches (act o t n ∷ []) (fillWith g after) f)
       | false ↦ false
     ]

@@ -1,10 +1,15 @@
 -- The calls' equations put together.
+use mathlib.Core.Path.{sym, _∙_}
+use Rattle.theory.proofs.history.Accesses.{kept-access}
 use borrow.Author.Needs.{needs}
 use Rattle.checker.proofs.acting.take_in.Statement.{statement}
 use Rattle.checker.proofs.acting.take_in.Tie as tie
 
 returns : tie.Need-returns
-returns c = (c .before .before .judged .ensures, c .keep .ensures)
+returns c =
+    let at-start = c .before .before .before .before in
+    let a = at-start .args in
+    (c .before .before .judged .ensures, c .keep .ensures ∙ sym (kept-access (a .kind) (a .task .0) (a .v .0) (a .number .0) (a .last .now) (at-start .pre .is-access)))
 
 pub take-in-spec : {M : Type 1} → statement M
 take-in-spec = tie.close (tie.spec (λ c κs. search needs) (λ c κs. search needs) returns)
