@@ -1,0 +1,2 @@
+-- Totals do not touch what acceptance looks at, and equal the counts over what feeding answered
+pub mod Raised
