@@ -83,8 +83,8 @@ static inline void order_state_feed(struct order_state *s, uint8_t kind, uint32_
  * number of its accepted accesses; refused records count nowhere, and ORDER_FRESH sets no count back. Where there is no such variable it
  * answers 0, and `totals` is untouched.
  *
- * control: that of a running state or of the sets, which is read alone. It may be asked at any moment between two records. A count at the end
- * of its 32 bits, which no recording comes to, stays there.
+ * control: that of a running state or of the sets, which is read alone. It may be asked at any moment between two records. A count at
+ * the end of its 32 bits, which no recording comes to, stays there.
  *
  * Here as in order_any_race the pointers must be valid for their sizes, aligned and not null, and the two must not overlap. */
 uint32_t order_totals(const uint32_t control[ORDER_CONTROL_CELLS], uint32_t variable, uint32_t totals[3]);
