@@ -96,13 +96,26 @@ fn feed_piece(
     thrown_away(now, goes_on)
 }
 
+// How far the piece that begins at a place may go.
+fn furthest(from: usize, len: usize) -> usize
+    requires { ⌜ from < len ⌝ }
+    ensures { λ r. ⌜ (from < r) × (r ≤ len) ⌝ }
+{
+    if len - from <= PIECE {
+        len
+    } else {
+        from + PIECE
+    }
+}
+
 // Where the piece that begins at a place ends: after the next LF, if that is not too far.
 fn piece_end(block: &[u8], from: usize) -> usize
     requires { ⌜ from < length (now block) ⌝ }
     ensures { λ r. ⌜ (from < r) × (r ≤ length (now (block .entry))) ⌝ }
 {
+    let end = furthest(from, block.len());
     let mut e = from;
-    while e < block.len() && e - from < PIECE {
+    while e < end {
         if block[e] == LF {
             return e + 1;
         }
