@@ -1,3 +1,4 @@
 -- What the functions' proofs share
-pub mod Cells
 pub mod Plain
+pub mod Cells
+pub mod Lines

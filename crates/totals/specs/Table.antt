@@ -1,6 +1,6 @@
 -- The table of totals, as bytes: a head, a line for each variable that was accessed, lowest first, and a line with the sums. Five columns,
 -- right-aligned: the variable, and how many of its accesses were Clear, Race, Doubt, and any of the three.
-use Prim.Native.Nat.{ℕ, zero, suc, _+_, _-_, max}
+use Prim.Native.Nat.{ℕ, zero, suc, _+_, _-_, _^_, _<_, max}
 use mathlib.Core.Bool.{cond}
 use mathlib.Core.List.{List, [], _∷_, _++_}
 use lib.Dec.{eqb}
@@ -22,6 +22,12 @@ added s t = record { clear = s .clear + t .clear; race = s .race + t .race; doub
 
 abbrev pub allOf : Sums → ℕ
 allOf s = s .clear + s .race + s .doubt
+
+-- so small that all of them together are a number of 64 bits
+pub record Small (s : Sums) : Type 0 where
+  pub clear : s .clear < 2 ^ 62
+  pub race : s .race < 2 ^ 62
+  pub doubt : s .doubt < 2 ^ 62
 
 -- over the variables below v
 unfoldable pub sumsBelow : List ℕ → ℕ → Sums

@@ -1,8 +1,7 @@
 // How many accesses were answered by each verdict, of one variable or of several.
 use theory::Totals;
-ghost use Prim.Native.Nat.{_+_, _<_, _^_};
 ghost use mathlib.Core.Path.{_≡_};
-ghost use Rattle.totals.specs.Table.{nothingYet, added, allOf};
+ghost use Rattle.totals.specs.Table.{Small, nothingYet, added, allOf};
 
 pub(crate) struct Sums {
     pub clear: u64,
@@ -22,7 +21,7 @@ pub(crate) fn nothing_yet() -> Sums
 
 // With those of one variable more.
 pub(crate) fn added_to(s: Sums, t: Totals) -> Sums
-    requires { ⌜ (s .clear < 2 ^ 63) × (s .race < 2 ^ 63) × (s .doubt < 2 ^ 63) ⌝ }
+    requires { ⌜ Small s ⌝ }
     ensures { λ r. ⌜ r ≡ added s t ⌝ }
 {
     Sums {
@@ -34,7 +33,7 @@ pub(crate) fn added_to(s: Sums, t: Totals) -> Sums
 
 // All of them together.
 pub(crate) fn all_of(s: Sums) -> u64
-    requires { ⌜ (s .clear < 2 ^ 62) × (s .race < 2 ^ 62) × (s .doubt < 2 ^ 62) ⌝ }
+    requires { ⌜ Small s ⌝ }
     ensures { λ r. ⌜ r ≡ allOf s ⌝ }
 {
     s.clear + s.race + s.doubt

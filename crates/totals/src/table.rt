@@ -7,14 +7,14 @@ use checker::totals_of;
 use theory::Control;
 use theory::Totals;
 use theory::VARIABLES;
-ghost use Prim.Native.Nat.{_+_, _*_, _-_, _<_, _≤_, _^_, max};
+ghost use Prim.Native.Nat.{_+_, _*_, _-_, _<_, _≤_, max};
 ghost use mathlib.Core.Path.{_≡_};
 ghost use mathlib.Core.List.{[], _∷_, _++_};
 ghost use lib.ListN.{length, getD};
 ghost use Rattle.theory.specs.order.Limits.{variables};
 ghost use Rattle.text.specs.Printing.{lastDigit, decimal};
 ghost use Rattle.text.specs.Wrote.{Wrote};
-ghost use Rattle.totals.specs.Table.{line, allOf, sumsBelow, padded, cell, countsOf, variableLine, linesBelow, tableOf};
+ghost use Rattle.totals.specs.Table.{Small, line, sumsBelow, padded, cell, countsOf, variableLine, linesBelow, tableOf};
 
 const NAME_WIDTH: usize = 3;
 
@@ -81,7 +81,7 @@ fn put_cell(out: &mut [u8], at: usize, width: usize, n: u64) -> usize
 
 // The counts of a line, and LF.
 fn put_counts(out: &mut [u8], at: usize, s: Sums) -> usize
-    requires { ⌜ (at + length (countsOf s) ≤ length (now out)) × (s .clear < 2 ^ 62) × (s .race < 2 ^ 62) × (s .doubt < 2 ^ 62) ⌝ }
+    requires { ⌜ (at + length (countsOf s) ≤ length (now out)) × Small s ⌝ }
     ensures { λ r. ⌜ Wrote (now (out .entry)) at (countsOf s) (now (out .exit)) r ⌝ }
 {
     let a = put_cell(out, at, COUNT_WIDTH, s.clear);
@@ -114,7 +114,7 @@ struct Summed {
 fn put_variables(out: &mut [u8], at: usize, control: &Control) -> Summed
     requires { ⌜ at + variables * line ≤ length (now out) ⌝ }
     ensures { λ r. ⌜ Wrote (now (out .entry)) at (linesBelow (now (control .entry)) variables) (now (out .exit)) (r .to)
-        × (r .to ≤ at + variables * line) × (r .sums ≡ sumsBelow (now (control .entry)) variables) ⌝ }
+        × (r .to ≤ at + variables * line) × (r .sums ≡ sumsBelow (now (control .entry)) variables) × Small (r .sums) ⌝ }
 {
     let mut to = at;
     let mut sums = nothing_yet();
