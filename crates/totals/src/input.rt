@@ -1,8 +1,7 @@
 // Standard input in blocks, fed line by line to `report_piece`, which is proved; its report is thrown away, and the totals are what it leaves in
 // the control table. Here is only what moves the bytes and says when a table is due.
-use crate::table::LINE;
 use crate::table::TABLE;
-use crate::table::put_table;
+use crate::table::put_shown;
 use libc::STDERR_FILENO;
 use libc::STDIN_FILENO;
 use libc::STDOUT_FILENO;
@@ -31,14 +30,10 @@ struct Turn {
     now: Progress,
 }
 
-// Writes the table, and an empty line where more tables may follow. Says whether it could be written.
+// Writes the table, as one of several where some are asked for on the way. Says whether it could be written.
 pub(crate) fn show(control: &Control, every: u32) -> bool {
     let mut out = [0u8; TABLE + 1];
-    let mut n = put_table(&mut out, control);
-    if every > 0 {
-        out[n] = LF;
-        n += 1;
-    }
+    let n = put_shown(&mut out, control, every > 0);
     io::write_all(STDOUT_FILENO, &out[..n])
 }
 

@@ -13,15 +13,16 @@ ghost use mathlib.Core.List.{[], _∷_, _++_};
 ghost use lib.ListN.{length, getD};
 ghost use Rattle.theory.specs.order.Limits.{variables};
 ghost use Rattle.text.specs.Printing.{lastDigit, decimal};
+ghost use Rattle.io.specs.Counts.{Counts};
 ghost use Rattle.text.specs.Wrote.{Wrote};
-ghost use Rattle.totals.specs.Table.{Small, line, sumsBelow, padded, cell, countsOf, variableLine, linesBelow, tableOf};
+ghost use Rattle.totals.specs.Table.{Small, line, sumsBelow, padded, cell, countsOf, variableLine, linesBelow, tableOf, shownOf};
 
 const NAME_WIDTH: usize = 3;
 
 const COUNT_WIDTH: usize = 8;
 
 // So much room is asked for a line: it has five numbers, each of 20 digits at most.
-pub(crate) const LINE: usize = 128;
+const LINE: usize = 128;
 
 // The lines of a table: for each variable, its head and its sums.
 const LINES: usize = VARIABLES as usize + 2;
@@ -129,7 +130,7 @@ fn put_variables(out: &mut [u8], at: usize, control: &Control) -> Summed
 }
 
 // The whole table.
-pub(crate) fn put_table(out: &mut [u8], control: &Control) -> usize
+fn put_table(out: &mut [u8], control: &Control) -> usize
     requires { ⌜ (variables + 2) * line ≤ length (now out) ⌝ }
     ensures { λ r. ⌜ Wrote (now (out .entry)) 0 (tableOf (now (control .entry))) (now (out .exit)) r × (r ≤ (variables + 2) * line) ⌝ }
 {
@@ -137,4 +138,16 @@ pub(crate) fn put_table(out: &mut [u8], control: &Control) -> usize
     let b = put_variables(out, a, control);
     let c = put_padded(out, b.to, 0, b"all");
     put_counts(out, c, b.sums)
+}
+
+// The table, and an empty line after it where it is one of several.
+pub(crate) fn put_shown(out: &mut [u8], control: &Control, several: bool) -> usize
+    requires { ⌜ (variables + 2) * line < length (now out) ⌝ }
+    ensures { λ r. ⌜ Wrote (now (out .entry)) 0 (shownOf several (now (control .entry))) (now (out .exit)) r × Counts r (now (out .exit)) ⌝ }
+{
+    let n = put_table(out, control);
+    if !several {
+        return n;
+    }
+    put_padded(out, n, 0, b"\n")
 }
