@@ -1,6 +1,6 @@
 -- The table of totals, as bytes: a head, a line for each variable that was accessed, lowest first, and a line with the sums. Five columns,
 -- right-aligned: the variable, and how many of its accesses were Clear, Race, Doubt, and any of the three.
-use Prim.Native.Nat.{ℕ, zero, suc, _+_, _-_, _^_, _<_, max}
+use Prim.Native.Nat.{ℕ, zero, suc, _+_, _*_, _-_, _^_, _<_, max}
 use mathlib.Core.Bool.{Bool, cond}
 use mathlib.Core.List.{List, [], _∷_, _++_}
 use lib.Dec.{eqb}
@@ -77,6 +77,10 @@ head = bytes "var   clear    race   doubt     all\n"
 -- the whole table, of what a control table holds
 unfoldable pub tableOf : List ℕ → List ℕ
 tableOf control = head ++ linesBelow control variables ++ bytes "all" ++ countsOf (sumsBelow control variables)
+
+-- so much room is enough for one: a line for each variable, its head and its sums
+abbrev pub room : ℕ
+room = (variables + 2) * line
 
 -- the same as one of several: an empty line follows, so that they can be told apart
 unfoldable pub shownOf : Bool → List ℕ → List ℕ

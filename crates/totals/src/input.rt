@@ -13,8 +13,12 @@ use theory::COUNT;
 use theory::Clocks;
 use theory::Control;
 use theory::History;
-ghost use Prim.Native.Nat.{_<_, _≤_};
+ghost use Prim.Native.Nat.{_<_, _≤_, _-_, _^_};
+ghost use mathlib.Core.Path.{_≡_};
+ghost use mathlib.Core.Bool.{cond};
+ghost use lib.Dec.{ltb};
 ghost use lib.ListN.{length};
+ghost use Rattle.totals.specs.Argument.{due};
 
 // A line is fed in pieces of so many bytes at most.
 const PIECE: usize = 1024;
@@ -38,26 +42,27 @@ pub(crate) fn show(control: &Control, every: u32) -> bool {
 }
 
 // A table is due: a record was accepted, and their count is a multiple of what was asked for.
-fn is_due(every: u32, before: u32, count: u32) -> bool {
+fn is_due(every: u32, before: u32, count: u32) -> bool
+    ensures { λ r. ⌜ r ≡ due every before count ⌝ }
+{
     if every == 0 {
         return false;
     }
-    before < count && count % every == 0
+    if count <= before {
+        return false;
+    }
+    count % every == 0
 }
 
-// The report of a piece is thrown away, so that the next one begins where its memory does. Where the piece was not taken in, or the output is
-// closed, `at` stands past the memory, so that nothing more is taken in.
-fn thrown_away(now: Progress, goes_on: bool) -> Progress {
-    let at = if goes_on && now.at < REFUSED {
-        0
-    } else {
-        REFUSED
-    };
-    Progress {
-        lines: now.lines,
-        held: now.held,
-        at,
+// Where the next report begins: at the start of its memory, since that of a piece is thrown away. Where the piece was not taken in, or the output
+// is closed, the place is past the memory, so that nothing more is taken in.
+fn next_place(at: usize, written: bool) -> usize
+    ensures { λ r. ⌜ r ≡ cond written (cond (ltb at (2 ^ 64 - 1)) 0 (2 ^ 64 - 1)) (2 ^ 64 - 1) ⌝ }
+{
+    if !written {
+        return REFUSED;
     }
+    if at < REFUSED { 0 } else { REFUSED }
 }
 
 // Feeds one piece, in which at most one line ends, and writes a table if one is due.
@@ -83,12 +88,16 @@ fn feed_piece(
         clocks,
         fullclocks,
     );
-    let goes_on = if is_due(every, before, control[COUNT]) {
+    let written = if is_due(every, before, control[COUNT]) {
         show(control, every)
     } else {
         true
     };
-    thrown_away(now, goes_on)
+    Progress {
+        lines: now.lines,
+        held: now.held,
+        at: next_place(now.at, written),
+    }
 }
 
 // How far the piece that begins at a place may go.

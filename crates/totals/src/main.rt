@@ -63,7 +63,12 @@ fn run(every: u32) {
 fn say_usage() {
     io::write_all(
         STDERR_FILENO,
-        b"totals: the argument is no number from 1 to 99999, or there is more than one\nusage: totals [N] <RECORDING\nA table of verdicts at the end, and after every N accepted records.\n",
+        b"totals: there is one argument at most, a number from 1 to 99999\n",
+    );
+    io::write_all(STDERR_FILENO, b"usage: totals [N] <RECORDING\n");
+    io::write_all(
+        STDERR_FILENO,
+        b"A table of verdicts at the end, and after every N accepted records.\n",
     );
 }
 

@@ -9,14 +9,15 @@ use theory::Totals;
 use theory::VARIABLES;
 ghost use Prim.Native.Nat.{_+_, _*_, _-_, _<_, _≤_, max};
 ghost use mathlib.Core.Path.{_≡_};
-ghost use mathlib.Core.List.{[], _∷_, _++_};
+ghost use mathlib.Core.List.{[], _∷_};
 ghost use lib.ListN.{length, getD};
 ghost use Rattle.theory.specs.order.Limits.{variables};
-ghost use Rattle.text.specs.Printing.{lastDigit, decimal};
+ghost use Rattle.text.specs.Printing.{lastDigit};
 ghost use Rattle.io.specs.Counts.{Counts};
 ghost use Rattle.text.specs.Wrote.{Wrote};
-ghost use Rattle.totals.specs.Table.{Small, line, sumsBelow, padded, cell, countsOf, variableLine, linesBelow, tableOf, shownOf};
+ghost use Rattle.totals.specs.Table.{Small, line, sumsBelow, padded, cell, countsOf, variableLine, linesBelow, tableOf, room, shownOf};
 
+// The widths of the first column and of the others, with the space before each number.
 const NAME_WIDTH: usize = 3;
 
 const COUNT_WIDTH: usize = 8;
@@ -29,6 +30,7 @@ const LINES: usize = VARIABLES as usize + 2;
 
 pub(crate) const TABLE: usize = LINES * LINE;
 
+// A byte of a padded text.
 fn padded_byte(spaces: usize, bytes: &[u8], i: usize) -> u8
     requires { ⌜ i < spaces + length (now bytes) ⌝ }
     ensures { λ r. ⌜ r ≡ getD (padded spaces (now (bytes .entry))) i 0 ⌝ }
@@ -131,8 +133,8 @@ fn put_variables(out: &mut [u8], at: usize, control: &Control) -> Summed
 
 // The whole table.
 fn put_table(out: &mut [u8], control: &Control) -> usize
-    requires { ⌜ (variables + 2) * line ≤ length (now out) ⌝ }
-    ensures { λ r. ⌜ Wrote (now (out .entry)) 0 (tableOf (now (control .entry))) (now (out .exit)) r × (r ≤ (variables + 2) * line) ⌝ }
+    requires { ⌜ room ≤ length (now out) ⌝ }
+    ensures { λ r. ⌜ Wrote (now (out .entry)) 0 (tableOf (now (control .entry))) (now (out .exit)) r × (r ≤ room) ⌝ }
 {
     let a = put_padded(out, 0, 0, b"var   clear    race   doubt     all\n");
     let b = put_variables(out, a, control);
@@ -142,7 +144,7 @@ fn put_table(out: &mut [u8], control: &Control) -> usize
 
 // The table, and an empty line after it where it is one of several.
 pub(crate) fn put_shown(out: &mut [u8], control: &Control, several: bool) -> usize
-    requires { ⌜ (variables + 2) * line < length (now out) ⌝ }
+    requires { ⌜ room < length (now out) ⌝ }
     ensures { λ r. ⌜ Wrote (now (out .entry)) 0 (shownOf several (now (control .entry))) (now (out .exit)) r × Counts r (now (out .exit)) ⌝ }
 {
     let n = put_table(out, control);
