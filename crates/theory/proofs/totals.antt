@@ -1,2 +1,3 @@
 -- Totals do not touch what acceptance looks at, and equal the counts over what feeding answered
 pub mod Raised
+pub mod Kept
