@@ -13,7 +13,7 @@ use Rattle.theory.specs.order.Recording.{Event}
 use Rattle.theory.specs.acceptance.Control.{countAt}
 use Rattle.theory.specs.verdicts.Verdict.{Verdict, Race, Clear, Doubt}
 use Rattle.theory.specs.feeding.Meaning.{Meaning, refuses, takes, judges}
-use Rattle.theory.specs.totals.Totals.{racesAt, totalAt, oneMore, raise, withVerdict, totalled}
+use Rattle.theory.specs.totals.Totals.{oneMore, raise, withVerdict, totalled}
 use Rattle.theory.proofs.acceptance.ControlTable.{ExactControl}
 
 pub raise-length : (i : ℕ) (control : List ℕ) → length (raise i control) ≡ length control
@@ -39,9 +39,9 @@ exact-raise {control = control} i h x =
     }
 
 exact-verdict : {es : List Event} {control : List ℕ} (w : Verdict) (v : ℕ) → ExactControl es control → ExactControl es (withVerdict w v control)
-exact-verdict Clear v x = exact-raise (totalAt Clear v) (omega arith) x
-exact-verdict Race v x = exact-raise racesAt (omega arith) (exact-raise (totalAt Race v) (omega arith) x)
-exact-verdict Doubt v x = exact-raise (totalAt Doubt v) (omega arith) x
+exact-verdict Clear v x = exact-raise _ (omega arith) x
+exact-verdict Race v x = exact-raise _ (omega arith) (exact-raise _ (omega arith) x)
+exact-verdict Doubt v x = exact-raise _ (omega arith) x
 
 pub exact-totalled : {es : List Event} {control : List ℕ} (m : Meaning) (v : ℕ) → ExactControl es control → ExactControl es (totalled m v control)
 exact-totalled (refuses n) v x = x
