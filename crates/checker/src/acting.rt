@@ -9,8 +9,10 @@ use crate::masks::judged;
 use crate::sets;
 use crate::sets::note_acted;
 use crate::sets::set_masks;
+use crate::totals::total;
 use theory::Answer;
 use theory::Clocks;
+use theory::Control;
 use theory::History;
 use theory::Masks;
 use theory::RecordNumber;
@@ -25,11 +27,14 @@ ghost use Rattle.theory.specs.fillings.Completion.{arrived, full};
 ghost use Rattle.theory.specs.history.History.{lastAfter};
 ghost use Rattle.theory.specs.tables.Reckonings.{clockOwn, clocksBy, setOwn, setsBy, clockMask, clockMasks, setMask, setMasks};
 ghost use Rattle.theory.specs.feeding.Step.{answerByMasks, answeredBy};
+ghost use Rattle.theory.specs.feeding.Meaning.{meaning};
+ghost use Rattle.theory.specs.totals.Totals.{totalled};
 ghost use Rattle.theory.specs.feeding.Lent.{seen};
 ghost use Rattle.theory.proofs.history.Accesses.{OfAccess};
 
-// An access is judged by what was kept before it, then kept itself.
+// An access is judged by what was kept before it, counted by its verdict, then kept itself.
 fn take_in(
+    control: &mut Control,
     last: &mut History,
     kind: u8,
     task: Task,
@@ -38,16 +43,20 @@ fn take_in(
     masks: Masks,
 ) -> Answer
     requires { ⌜ OfAccess kind (task .0) (v .0) ⌝ }
-    ensures { λ a. let l = seen last in ⌜ (a ≡ answerByMasks (l .entry) kind (v .0) (number .0) (masks .full) (masks .arrived))
+    ensures { λ a. let c = seen control in let l = seen last in
+        ⌜ (a ≡ answerByMasks (l .entry) kind (v .0) (number .0) (masks .full) (masks .arrived))
+        × (c .exit ≡ totalled (meaning a) (v .0) (c .entry))
         × (l .exit ≡ lastAfter kind (task .0) (v .0) (number .0) (l .entry)) ⌝ }
 {
     let answer = judged(last, kind, v, number, masks);
+    total(control, v, answer);
     keep(last, kind, task, v, number);
     answer
 }
 
 // An access, by the clocks: its own cells are all that changes there, since it acquires from and releases to no other row.
 fn access_by_clocks(
+    control: &mut Control,
     last: &mut History,
     clocks: &mut Clocks,
     fullclocks: &mut Clocks,
@@ -57,9 +66,10 @@ fn access_by_clocks(
     number: RecordNumber,
 ) -> Answer
     requires { ⌜ OfAccess kind (task .0) (v .0) ⌝ }
-    ensures { λ a. let l = seen last in let c = seen clocks in let f = seen fullclocks in
+    ensures { λ a. let t = seen control in let l = seen last in let c = seen clocks in let f = seen fullclocks in
         ⌜ (a ≡ answerByMasks (l .entry) kind (v .0) (number .0)
         (clockMask (f .entry) (l .entry) kind (task .0) (v .0)) (clockMask (c .entry) (l .entry) kind (task .0) (v .0)))
+        × (t .exit ≡ totalled (meaning a) (v .0) (t .entry))
         × (l .exit ≡ lastAfter kind (task .0) (v .0) (number .0) (l .entry))
         × (c .exit ≡ clockOwn (task .0) (number .0) (c .entry))
         × (f .exit ≡ clockOwn (task .0) (number .0) (f .entry)) ⌝ }
@@ -67,11 +77,12 @@ fn access_by_clocks(
     let masks = clock_masks(clocks, fullclocks, last, kind, task, v);
     clocks::own(clocks, task, number);
     clocks::own(fullclocks, task, number);
-    take_in(last, kind, task, v, number, masks)
+    take_in(control, last, kind, task, v, number, masks)
 }
 
 // An act, by the clocks. One that is no access is kept nowhere, may empty the history of a variable, and passes order on.
 pub(crate) fn act_by_clocks(
+    control: &mut Control,
     last: &mut History,
     clocks: &mut Clocks,
     fullclocks: &mut Clocks,
@@ -81,14 +92,24 @@ pub(crate) fn act_by_clocks(
     number: RecordNumber,
 ) -> Answer
     requires { ⌜ Fitting kind (task .0) on × (kind ≢ lossMark) ⌝ }
-    ensures { λ a. let l = seen last in let c = seen clocks in let f = seen fullclocks in
+    ensures { λ a. let t = seen control in let l = seen last in let c = seen clocks in let f = seen fullclocks in
         ⌜ (a ≡ answeredBy (l .entry) kind on (number .0) (clockMasks (c .entry) (f .entry) (l .entry) kind (task .0) on))
+        × (t .exit ≡ totalled (meaning a) on (t .entry))
         × (l .exit ≡ lastAfter kind (task .0) on (number .0) (l .entry))
         × (c .exit ≡ clocksBy arrived kind (task .0) on (number .0) (c .entry))
         × (f .exit ≡ clocksBy full kind (task .0) on (number .0) (f .entry)) ⌝ }
 {
     if is_access(kind) {
-        return access_by_clocks(last, clocks, fullclocks, kind, task, Variable(on), number);
+        return access_by_clocks(
+            control,
+            last,
+            clocks,
+            fullclocks,
+            kind,
+            task,
+            Variable(on),
+            number,
+        );
     }
     renew(last, kind, on);
     clocks::own(clocks, task, number);
@@ -100,6 +121,7 @@ pub(crate) fn act_by_clocks(
 
 // An access, by the sets: it takes its slots anew.
 fn access_by_sets(
+    control: &mut Control,
     last: &mut History,
     sets: &mut Sets,
     fullsets: &mut Sets,
@@ -109,9 +131,10 @@ fn access_by_sets(
     number: RecordNumber,
 ) -> Answer
     requires { ⌜ OfAccess kind (task .0) (v .0) ⌝ }
-    ensures { λ a. let l = seen last in let s = seen sets in let f = seen fullsets in
+    ensures { λ a. let t = seen control in let l = seen last in let s = seen sets in let f = seen fullsets in
         ⌜ (a ≡ answerByMasks (l .entry) kind (v .0) (number .0)
         (setMask (f .entry) (l .entry) kind (task .0) (v .0)) (setMask (s .entry) (l .entry) kind (task .0) (v .0)))
+        × (t .exit ≡ totalled (meaning a) (v .0) (t .entry))
         × (l .exit ≡ lastAfter kind (task .0) (v .0) (number .0) (l .entry))
         × (s .exit ≡ setOwn kind (task .0) (v .0) (s .entry))
         × (f .exit ≡ setOwn kind (task .0) (v .0) (f .entry)) ⌝ }
@@ -119,11 +142,12 @@ fn access_by_sets(
     let masks = set_masks(sets, fullsets, last, kind, task, v);
     sets::own(sets, kind, task, v);
     sets::own(fullsets, kind, task, v);
-    take_in(last, kind, task, v, number, masks)
+    take_in(control, last, kind, task, v, number, masks)
 }
 
 // An act, by the sets.
 pub(crate) fn act_by_sets(
+    control: &mut Control,
     last: &mut History,
     sets: &mut Sets,
     fullsets: &mut Sets,
@@ -133,14 +157,24 @@ pub(crate) fn act_by_sets(
     number: RecordNumber,
 ) -> Answer
     requires { ⌜ Fitting kind (task .0) on × (kind ≢ lossMark) ⌝ }
-    ensures { λ a. let l = seen last in let s = seen sets in let f = seen fullsets in
+    ensures { λ a. let t = seen control in let l = seen last in let s = seen sets in let f = seen fullsets in
         ⌜ (a ≡ answeredBy (l .entry) kind on (number .0) (setMasks (s .entry) (f .entry) (l .entry) kind (task .0) on))
+        × (t .exit ≡ totalled (meaning a) on (t .entry))
         × (l .exit ≡ lastAfter kind (task .0) on (number .0) (l .entry))
         × (s .exit ≡ setsBy arrived kind (task .0) on (s .entry))
         × (f .exit ≡ setsBy full kind (task .0) on (f .entry)) ⌝ }
 {
     if is_access(kind) {
-        return access_by_sets(last, sets, fullsets, kind, task, Variable(on), number);
+        return access_by_sets(
+            control,
+            last,
+            sets,
+            fullsets,
+            kind,
+            task,
+            Variable(on),
+            number,
+        );
     }
     renew(last, kind, on);
     note_acted(sets, task);

@@ -12,6 +12,7 @@ mod running;
 mod sets;
 mod state;
 mod stepping;
+mod totals;
 
 pub use asking::apart_by_clocks;
 pub use asking::apart_by_sets;
@@ -25,3 +26,5 @@ pub use stepping::set_step;
 pub use stepping::set_step_in_place;
 pub use stepping::step;
 pub use stepping::step_in_place;
+pub use totals::any_race;
+pub use totals::totals_of;

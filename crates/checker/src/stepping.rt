@@ -46,7 +46,16 @@ pub fn step_in_place(
             clocks::mix(fullclocks, r.on);
             Answer::Accepted(number)
         }
-        _ => act_by_clocks(last, clocks, fullclocks, kind, Task(r.task), r.on, number),
+        _ => act_by_clocks(
+            control,
+            last,
+            clocks,
+            fullclocks,
+            kind,
+            Task(r.task),
+            r.on,
+            number,
+        ),
     }
 }
 
@@ -72,7 +81,16 @@ pub fn set_step_in_place(
             sets::mix(fullsets, r.on);
             Answer::Accepted(number)
         }
-        _ => act_by_sets(last, sets, fullsets, kind, Task(r.task), r.on, number),
+        _ => act_by_sets(
+            control,
+            last,
+            sets,
+            fullsets,
+            kind,
+            Task(r.task),
+            r.on,
+            number,
+        ),
     }
 }
 

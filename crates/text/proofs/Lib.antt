@@ -18,3 +18,4 @@ pub mod Pieces
 pub mod Reporting
 pub mod Held
 pub mod TextDemands
+pub mod TextTotals

@@ -41,12 +41,12 @@ module _ (n : ℕ) (s : State) (line : List ℕ) (r : Record) (form : TextForm l
       by-cases (other-taken e q m) = subst (Gives (byClocks .next s r)) (sym m) (taken form e q m)
 
 module _ (line : List ℕ) where
-  parsed-none : parseOf line ≡ Parsed.Nothing → (r : Record) → ¬ TextForm line r
+  pub parsed-none : parseOf line ≡ Parsed.Nothing → (r : Record) → ¬ TextForm line r
   parsed-none e r f =
       let q : Parsed.Nothing ≡ Parsed.Record r = sym e ∙ ap parseOf (f .is-text) ∙ text-taken r (f .sayable) in
       absurd (let z : _≡_ {A = ℕ} 0 1 = cc in omega arith)
 
-  parsed-form : (r : Record) → parseOf line ≡ Parsed.Record r → TextForm line r
+  pub parsed-form : (r : Record) → parseOf line ≡ Parsed.Record r → TextForm line r
   parsed-form r e = record { sayable = only-sayable line r e; is-text = only-text line r e }
 
   line-got : (n : ℕ) (s : State) (p : Parsed) → parseOf line ≡ p → LineGot n s line (stateAfter s p) (saidFor n s p)

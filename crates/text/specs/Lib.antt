@@ -7,6 +7,7 @@ pub mod ReportLines
 pub mod Report
 pub mod Pieces
 pub mod TextDemands
+pub mod TextTotals
 -- As memory: what is written, what answering promises, and how a reader moves
 pub mod Wrote
 pub mod Answers

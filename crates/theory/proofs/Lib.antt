@@ -5,4 +5,5 @@ pub mod fillings
 pub mod verdicts
 pub mod history
 pub mod tables
+pub mod totals
 pub mod feeding

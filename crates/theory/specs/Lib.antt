@@ -8,3 +8,5 @@ pub mod history
 pub mod tables
 -- The step, and the demands on what feeding answers
 pub mod feeding
+-- Totals of the verdicts
+pub mod totals

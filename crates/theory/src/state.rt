@@ -7,10 +7,19 @@ use crate::limits::VARIABLES;
 
 // The tables that a state is made of, by their sizes. crates/theory/specs says which cells hold what.
 
-// Each task's phase (0 unseen, 1 live, 2 ended), then the count of accepted records.
+// Each task's phase (0 unseen, 1 live, 2 ended), then the count of accepted records, the count of Races, and for each verdict a total for each
+// variable: Clear, Race, Doubt.
 pub const COUNT: usize = TASKS as usize;
 
-pub const CONTROL_CELLS: usize = COUNT + 1;
+pub const RACES: usize = COUNT + 1;
+
+pub const CLEAR_TOTALS: usize = RACES + 1;
+
+pub const RACE_TOTALS: usize = CLEAR_TOTALS + VARIABLES as usize;
+
+pub const DOUBT_TOTALS: usize = RACE_TOTALS + VARIABLES as usize;
+
+pub const CONTROL_CELLS: usize = DOUBT_TOTALS + VARIABLES as usize;
 
 pub type Control = [u32; CONTROL_CELLS];
 

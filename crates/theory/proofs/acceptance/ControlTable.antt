@@ -3,7 +3,7 @@
 use mathlib.Core.Path.{_≡_, refl, sym, _∙_, ap, ap₂}
 use mathlib.Core.Bool.{Bool, true, false, cond, not, _&&_, _||_}
 use mathlib.Core.List.{List, [], _∷_, _++_}
-use Prim.Native.Nat.{ℕ, zero, suc, _+_, _≤_, _<_}
+use Prim.Native.Nat.{ℕ, zero, suc, _+_, _-_, _≤_, _<_}
 use native.Mathlib.Omega.{arith}
 use lib.Dec.{eqb, eqb·suc-zero}
 use lib.ListN.{length, getD, set, drop, length-append, length-set, getD-replicate}
@@ -15,7 +15,8 @@ use Rattle.theory.specs.tables.Turns.{turns}
 use Rattle.theory.specs.order.Recording.{Op, Event, act, lost, kind, kinds, lossMark, seriesOf}
 use Rattle.theory.specs.fillings.Completion.{names}
 use Rattle.theory.specs.acceptance.Table.{Phase, isLive, isUnseen, phaseAfter, phaseFrom, phase, Fitting, hasKind, anyBelow, Standing, _when_, firstRow, tableRow, standing, refusal}
-use Rattle.theory.specs.acceptance.Control.{liveIn, unseenIn, countIn, controlStanding, controlRefusal, counted, controlAfter, controlCells}
+use Rattle.theory.specs.acceptance.Control.{liveIn, unseenIn, countIn, controlStanding, controlRefusal, counted, controlAfter}
+use Rattle.theory.specs.totals.Totals.{controlCells}
 use Rattle.theory.specs.feeding.Step.{freshControl}
 use Rattle.theory.proofs.basics.Reflects.{Reflects, right, wrong, equal, at-most}
 use Rattle.theory.proofs.acceptance.Rows.{OfAct, actRows, markRows, act-rows, mark-rows}
@@ -33,11 +34,11 @@ pub record ExactControl (es : List Event) (control : List ℕ) : Type 0 where
 
 fresh-live : (t : ℕ) → t < tasks → liveIn freshControl t ≡ isLive (phase [] t)
 fresh-live zero h = refl
-fresh-live (suc t) h = rw (getD-replicate {A = ℕ} tasks t 0 0 (omega arith), eqb·suc-zero t)
+fresh-live (suc t) h = rw (getD-replicate {A = ℕ} (controlCells - 1) t 0 0 (omega arith), eqb·suc-zero t)
 
 fresh-unseen : (t : ℕ) → t < tasks → unseenIn freshControl t ≡ isUnseen (phase [] t)
 fresh-unseen zero h = refl
-fresh-unseen (suc t) h = rw (getD-replicate {A = ℕ} tasks t 0 0 (omega arith), eqb·suc-zero t)
+fresh-unseen (suc t) h = rw (getD-replicate {A = ℕ} (controlCells - 1) t 0 0 (omega arith), eqb·suc-zero t)
 
 pub fresh-control : ExactControl [] freshControl
 fresh-control = record { size = refl; count = refl; live = fresh-live; unseen = fresh-unseen }

@@ -16,7 +16,9 @@ use Rattle.theory.specs.acceptance.Table.{refusal, recording}
 use Rattle.theory.specs.acceptance.Control.{controlRefusal, controlAfter}
 use Rattle.theory.specs.history.History.{lastAfter}
 use Rattle.theory.specs.tables.Reckonings.{masksBy, clockMasks, setMasks}
-use Rattle.theory.specs.feeding.Step.{nextNumber, answeredBy, masksUnless, apartByClocks, apartBySets, stepBy, stepOf, setStepBy, setStepOf, freshState, freshSets}
+use Rattle.theory.specs.feeding.Meaning.{meaning}
+use Rattle.theory.specs.totals.Totals.{totalled}
+use Rattle.theory.specs.feeding.Step.{nextNumber, answeredBy, masksUnless, apartByClocks, apartBySets, stepBy, stepOf, setStepBy, setStepOf, freshState, freshSets, clockAnswer, setAnswer}
 use Rattle.theory.specs.feeding.Feeding.{Checker, replies, afterAll, byClocks, bySets}
 use Rattle.theory.specs.feeding.Paths.{clocks, sets, leftBy, ExactPaths, ReckoningsMatch}
 use Rattle.theory.proofs.order.Ops.{no-mark, opOf-kind}
@@ -89,32 +91,25 @@ record Beside (s : State) (s′ : SetState) : Type 0 where
   control : s .control ≡ s′ .control
   last : s .last ≡ s′ .last
 
-beside-next : (s : State) (s′ : SetState) (r : Record) → Beside s s′ → Beside (byClocks .next s r) (bySets .next s′ r)
+-- what they answer and leave, where they say the same of the record's paths
+beside-step : (s : State) (s′ : SetState) (r : Record) → Beside s s′ → apartByClocks s r ≡ apartBySets s′ r →
+    (byClocks .answer s r ≡ bySets .answer s′ r) × Beside (byClocks .next s r) (bySets .next s′ r)
 unfolding stepOf setStepOf
-beside-next s s′ r x = rw (ap (λ (c : List ℕ). controlRefusal c r) (x .control)) (decided (controlRefusal (s′ .control) r))
-  where
-    decided : (n : ℕ) → Beside ((stepBy n s r) .state) ((setStepBy n s′ r) .state)
-    decided zero =
-        record {
-          control = ap (controlAfter (r .kind) (r .on)) (x .control);
-          last = ap₂ (λ (c l : List ℕ). lastAfter (r .kind) (r .task) (r .on) (nextNumber c) l) (x .control) (x .last);
-        }
-    decided (suc n) = x
-
-beside-answer : (s : State) (s′ : SetState) (r : Record) → Beside s s′ → apartByClocks s r ≡ apartBySets s′ r → byClocks .answer s r ≡ bySets .answer s′ r
-unfolding stepOf setStepOf
-beside-answer s s′ r x m = rw (ap (λ (c : List ℕ). controlRefusal c r) (x .control)) (decided (controlRefusal (s′ .control) r) (rw (ap (λ (c : List ℕ). controlRefusal c r) (x .control)) at m))
+beside-step s s′ r x m = rw (ap (λ (c : List ℕ). controlRefusal c r) (x .control)) (decided (controlRefusal (s′ .control) r) (rw (ap (λ (c : List ℕ). controlRefusal c r) (x .control)) at m))
   where
     decided : (n : ℕ) →
         masksUnless n (clockMasks (s .clocks) (s .fullclocks) (s .last) (r .kind) (r .task) (r .on))
         ≡ masksUnless n (setMasks (s′ .sets) (s′ .fullsets) (s′ .last) (r .kind) (r .task) (r .on)) →
-        (stepBy n s r) .answer ≡ (setStepBy n s′ r) .answer
-    decided zero m = λ i. answeredBy (x .last i) (r .kind) (r .on) (nextNumber (x .control i)) (m i)
-    decided (suc n) m = refl
-
-beside-all : (s : State) (s′ : SetState) (rs : List Record) → Beside s s′ → Beside (afterAll byClocks s rs) (afterAll bySets s′ rs)
-beside-all s s′ [] x = x
-beside-all s s′ (r ∷ rs) x = beside-all (byClocks .next s r) (bySets .next s′ r) rs (beside-next s s′ r x)
+        ((stepBy n s r) .answer ≡ (setStepBy n s′ r) .answer) × Beside ((stepBy n s r) .state) ((setStepBy n s′ r) .state)
+    decided zero m =
+        let a : clockAnswer s r ≡ setAnswer s′ r = λ i. answeredBy (x .last i) (r .kind) (r .on) (nextNumber (x .control i)) (m i) in (
+          a,
+          record {
+            control = ap₂ (λ (y : Answer) (c : List ℕ). totalled (meaning y) (r .on) (controlAfter (r .kind) (r .on) c)) a (x .control);
+            last = ap₂ (λ (c l : List ℕ). lastAfter (r .kind) (r .task) (r .on) (nextNumber c) l) (x .control) (x .last);
+          },
+        )
+    decided (suc n) m = (refl, x)
 
 fresh-beside : Beside freshState freshSets
 unfolding freshState freshSets
@@ -125,15 +120,16 @@ after-one-more c s [] r = refl
 after-one-more c s (x ∷ rs) r = after-one-more c (c .next s x) rs r
 
 module _ (by-clocks : ExactPaths clocks) (by-sets : ExactPaths sets) where
-  same-answers : (before rest : List Record) → replies byClocks (leftBy clocks before) rest ≡ replies bySets (leftBy sets before) rest
-  same-answers before [] = refl
-  same-answers before (r ∷ rest) =
-      ap₂ (λ (a : Answer) (l : List Answer). a ∷ l)
-      (beside-answer (leftBy clocks before) (leftBy sets before) r (beside-all freshState freshSets before fresh-beside) (same-apart by-clocks by-sets before r))
-      (rw (after-one-more byClocks freshState before r, after-one-more bySets freshSets before r) at (same-answers (before ++ (r ∷ [])) rest))
+  same-answers : (before rest : List Record) → Beside (leftBy clocks before) (leftBy sets before) → replies byClocks (leftBy clocks before) rest ≡ replies bySets (leftBy sets before) rest
+  same-answers before [] x = refl
+  same-answers before (r ∷ rest) x =
+      let (a, y) = beside-step (leftBy clocks before) (leftBy sets before) r x (same-apart by-clocks by-sets before r) in
+      ap₂ (λ (a : Answer) (l : List Answer). a ∷ l) a
+      (rw (after-one-more byClocks freshState before r, after-one-more bySets freshSets before r) at
+      (same-answers (before ++ (r ∷ [])) rest (rw (after-one-more byClocks freshState before r, after-one-more bySets freshSets before r) y)))
 
   pub paths-match : ReckoningsMatch
-  paths-match rs = record { answers = same-answers [] rs; paths = same-apart by-clocks by-sets rs }
+  paths-match rs = record { answers = same-answers [] rs fresh-beside; paths = same-apart by-clocks by-sets rs }
 
 pub reckonings-match : ReckoningsMatch
 reckonings-match = paths-match clock-paths set-paths

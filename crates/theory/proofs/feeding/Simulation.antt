@@ -18,8 +18,9 @@ use Rattle.theory.specs.acceptance.Table.{isLive, phase, Standing, stand
 use Rattle.theory.specs.acceptance.Control.{controlAfter}
 use Rattle.theory.specs.history.History.{slots, lastAfter}
 use Rattle.theory.specs.tables.Reckonings.{clocksBy, setsBy, clockMask, setMask, clockMasks, setMasks}
-use Rattle.theory.specs.feeding.Meaning.{meaning}
-use Rattle.theory.specs.feeding.Step.{nextNumber, answeredBy, stepOf, stepBy, setStepOf, setStepBy, freshControl, freshState, freshSets}
+use Rattle.theory.specs.feeding.Meaning.{Meaning, meaning}
+use Rattle.theory.specs.totals.Totals.{totalled}
+use Rattle.theory.specs.feeding.Step.{nextNumber, answeredBy, clockAnswer, setAnswer, stepOf, stepBy, setStepOf, setStepBy, freshControl, freshState, freshSets}
 use Rattle.theory.specs.verdicts.Search.{partner}
 use Rattle.theory.specs.feeding.Feeding.{Checker, replies, afterAll, byClocks, bySets, acceptedAnswer, answerBy, answerTo, answersFrom}
 use Rattle.theory.proofs.basics.Reflects.{Reflects, right, wrong, by-test, equal, is-true}
@@ -29,6 +30,7 @@ use Rattle.theory.proofs.tables.NamedRows.{bit-named}
 use Rattle.theory.proofs.tables.Exact.{Filled-in, nobody, somebody}
 use Rattle.theory.proofs.fillings.Reach.{arrived-nothing}
 use Rattle.theory.proofs.acceptance.ControlTable.{ExactControl, fresh-control, control-act, control-mark, same-refusal}
+use Rattle.theory.proofs.totals.Raised.{exact-totalled}
 use Rattle.theory.proofs.tables.ClockTables.{ExactClocks, clocks-act, clocks-mark, fresh-clocks}
 use Rattle.theory.proofs.tables.SetTables.{ExactSets, sets-act, sets-mark, fresh-sets}
 use Rattle.theory.proofs.history.Slots.{ExactHistory, history-act, history-mark, fresh-history}
@@ -186,6 +188,10 @@ set-answer {es} {control} {last} {sets} {fullsets} b x (an-act o t n a) = rw (ev
     decided (wrong l) = rw (other-tests o l, is-false {b = isAccess o} l, number)
 set-answer b x (a-mark t n m) = rw (next-number (b .control-exact))
 
+-- a total that is raised changes nothing that the state holds of the recording
+base-totalled : {es : List Event} {control last : List ℕ} (m : Meaning) (v : ℕ) → Base es control last → Base es (totalled m v control) last
+base-totalled m v b = record { control-exact = exact-totalled m v (b .control-exact); history = b .history; ranged = b .ranged; seen = b .seen }
+
 -- One record
 
 pub record Represents (es : List Event) (s : State) : Type 0 where
@@ -227,7 +233,7 @@ clocks-simulate = record { begins = record { base = fresh-base; clocks = record 
         decided : (n : ℕ) → refusal es r ≡ n → (meaning ((stepBy n s r) .answer) ≡ answerBy es r n) × Represents (recordedAfter es r n) ((stepBy n s r) .state)
         decided zero e =
             let h = shape-of es r e in
-            (clock-answer (x .base) (x .clocks) h, record { base = base-next (x .base) h; clocks = clocks-next (x .base) (x .clocks) h })
+            (clock-answer (x .base) (x .clocks) h, record { base = base-totalled (meaning (clockAnswer s r)) (r .on) (base-next (x .base) h); clocks = clocks-next (x .base) (x .clocks) h })
         decided (suc n) e = (refl, x)
 
 pub sets-simulate : Simulates bySets RepresentsSets
@@ -240,5 +246,5 @@ sets-simulate = record { begins = record { base = fresh-base; sets = record { as
         decided : (n : ℕ) → refusal es r ≡ n → (meaning ((setStepBy n s r) .answer) ≡ answerBy es r n) × RepresentsSets (recordedAfter es r n) ((setStepBy n s r) .state)
         decided zero e =
             let h = shape-of es r e in
-            (set-answer (x .base) (x .sets) h, record { base = base-next (x .base) h; sets = sets-next (x .base .seen) (x .sets) h })
+            (set-answer (x .base) (x .sets) h, record { base = base-totalled (meaning (setAnswer s r)) (r .on) (base-next (x .base) h); sets = sets-next (x .base .seen) (x .sets) h })
         decided (suc n) e = (refl, x)

@@ -1,4 +1,5 @@
--- The control table: each task's phase, 0 for unseen, 1 for live and 2 for ended, then the count of accepted records.
+-- The control table: each task's phase, 0 for unseen, 1 for live and 2 for ended, then the count of accepted records; after these the totals
+-- (specs/totals), at which acceptance does not look.
 use Prim.Native.Nat.{ℕ, _+_}
 use mathlib.Core.Bool.{Bool, cond}
 use mathlib.Core.List.{List}
@@ -18,10 +19,6 @@ unseenIn control t = eqb (getD control t 0) 0
 -- the place of the count, after the phases
 abbrev pub countAt : ℕ
 countAt = tasks
-
--- so many cells has the table
-abbrev pub controlCells : ℕ
-controlCells = countAt + 1
 
 abbrev pub countIn : List ℕ → ℕ
 countIn control = getD control countAt 0

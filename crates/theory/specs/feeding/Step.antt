@@ -15,8 +15,9 @@ use Rattle.theory.specs.declared.state.SetState.{SetState}
 use Rattle.theory.specs.declared.state.SetStepped.{SetStepped}
 use Rattle.theory.specs.declared.masks.Masks.{Masks}
 use Rattle.theory.specs.fillings.Completion.{arrived, full}
-use Rattle.theory.specs.acceptance.Control.{controlCells, countIn, controlRefusal, controlAfter}
+use Rattle.theory.specs.acceptance.Control.{countIn, controlRefusal, controlAfter}
 use Rattle.theory.specs.order.Limits.{tasks}
+use Rattle.theory.specs.totals.Totals.{controlCells, totalled}
 use Rattle.theory.specs.order.Recording.{accesses}
 use Rattle.theory.specs.tables.Rows.{cellCount}
 use Rattle.theory.specs.history.History.{slots, latestNumber, lastAfter}
@@ -62,18 +63,21 @@ nextNumber control = countIn control + 1
 
 -- By the clocks
 
+abbrev pub clockAnswer : State → Record → Answer
+clockAnswer s r =
+    answeredBy (s .last) (r .kind) (r .on) (nextNumber (s .control)) (clockMasks (s .clocks) (s .fullclocks) (s .last) (r .kind) (r .task) (r .on))
+
 abbrev pub accepted : State → Record → Stepped
 accepted s r =
     record {
       state =
           record {
-            control = controlAfter (r .kind) (r .on) (s .control);
+            control = totalled (meaning (clockAnswer s r)) (r .on) (controlAfter (r .kind) (r .on) (s .control));
             last = lastAfter (r .kind) (r .task) (r .on) (nextNumber (s .control)) (s .last);
             clocks = clocksBy arrived (r .kind) (r .task) (r .on) (nextNumber (s .control)) (s .clocks);
             fullclocks = clocksBy full (r .kind) (r .task) (r .on) (nextNumber (s .control)) (s .fullclocks);
           };
-      answer =
-          answeredBy (s .last) (r .kind) (r .on) (nextNumber (s .control)) (clockMasks (s .clocks) (s .fullclocks) (s .last) (r .kind) (r .task) (r .on));
+      answer = clockAnswer s r;
     }
 
 -- a refused record leaves the state as it was
@@ -86,18 +90,20 @@ stepOf s r = stepBy (controlRefusal (s .control) r) s r
 
 -- By the sets
 
+abbrev pub setAnswer : SetState → Record → Answer
+setAnswer s r = answeredBy (s .last) (r .kind) (r .on) (nextNumber (s .control)) (setMasks (s .sets) (s .fullsets) (s .last) (r .kind) (r .task) (r .on))
+
 abbrev pub setAccepted : SetState → Record → SetStepped
 setAccepted s r =
     record {
       state =
           record {
-            control = controlAfter (r .kind) (r .on) (s .control);
+            control = totalled (meaning (setAnswer s r)) (r .on) (controlAfter (r .kind) (r .on) (s .control));
             last = lastAfter (r .kind) (r .task) (r .on) (nextNumber (s .control)) (s .last);
             sets = setsBy arrived (r .kind) (r .task) (r .on) (s .sets);
             fullsets = setsBy full (r .kind) (r .task) (r .on) (s .fullsets);
           };
-      answer =
-          answeredBy (s .last) (r .kind) (r .on) (nextNumber (s .control)) (setMasks (s .sets) (s .fullsets) (s .last) (r .kind) (r .task) (r .on));
+      answer = setAnswer s r;
     }
 
 abbrev pub setStepBy : ℕ → SetState → Record → SetStepped

@@ -1,5 +1,5 @@
 -- An access acquires from and releases to no other row; another act is kept nowhere, may empty the history of a variable, and passes order on.
-use mathlib.Core.Path.{sym, _∙_}
+use mathlib.Core.Path.{refl, sym, _∙_}
 use mathlib.Core.Bool.{true, false}
 use borrow.Author.Tests.{ne-eqb}
 use Rattle.theory.specs.order.Limits.{tasks}
@@ -13,21 +13,22 @@ use Rattle.checker.proofs.acting.act_by_clocks.Tie as tie
 
 access-by-clocks-requires : tie.Need-access-by-clocks-requires
 access-by-clocks-requires c κs =
-    let at-if1 = c .before .before .before in
+    let at-if1 = c .before .before .before .before in
     let h = sym (at-if1 .before .is-access .ensures) ∙ at-if1 .if1 .taken in
     of-access (at-if1 .before .before .pre .0) h
 
 returns : tie.Need-returns
 returns c =
-    let at-if1 = c .before .before .before .before in
+    let at-if1 = c .before .before .before .before .before in
     let a = at-if1 .before .before .args in
     let (f, n) = at-if1 .before .before .pre in
     let h = sym (at-if1 .before .is-access .ensures) ∙ at-if1 .if1 .taken in
     let q = c .access-by-clocks .ensures in (
       simp h (q .0),
       q .1,
-      simp (ne-eqb _ _ n) (accessed same-max tasks false (a .kind) (a .task .0) (a .on) (clockOwn (a .task .0) (a .number .0) (a .clocks .now)) (q .2) h (f .task-fits)),
-      simp (ne-eqb _ _ n) (accessed same-max tasks true (a .kind) (a .task .0) (a .on) (clockOwn (a .task .0) (a .number .0) (a .fullclocks .now)) (q .3) h (f .task-fits)),
+      q .2,
+      simp (ne-eqb _ _ n) (accessed same-max tasks false (a .kind) (a .task .0) (a .on) (clockOwn (a .task .0) (a .number .0) (a .clocks .now)) (q .3) h (f .task-fits)),
+      simp (ne-eqb _ _ n) (accessed same-max tasks true (a .kind) (a .task .0) (a .on) (clockOwn (a .task .0) (a .number .0) (a .fullclocks .now)) (q .4) h (f .task-fits)),
     )
 
 renew-requires : tie.Need-renew-requires
@@ -55,6 +56,7 @@ returns-2 c =
     let (f, n) = at-if1 .before .before .pre in
     let h = sym (at-if1 .before .is-access .ensures) ∙ at-if1 .if1 .left in (
       simp h,
+      refl,
       at-renew .renew .ensures ∙ sym (kept-other (a .kind) (a .task .0) (a .on) (a .number .0) (a .last .now) h),
       simp (ne-eqb _ _ n) (passed-on same-max tasks false (a .kind) (a .task .0) (a .on) (clockOwn (a .task .0) (a .number .0) (a .clocks .now)) (at-own .own .ensures) (c .before .before .pass-on .ensures)),
       simp (ne-eqb _ _ n) (passed-on same-max tasks true (a .kind) (a .task .0) (a .on) (clockOwn (a .task .0) (a .number .0) (a .fullclocks .now)) (at-own2 .own2 .ensures) (c .pass-on2 .ensures)),

@@ -1,5 +1,5 @@
 -- An access acquires from and releases to no other row; another act is kept nowhere, may empty the history of a variable, and passes order on.
-use mathlib.Core.Path.{_≡_, sym, ap, _∙_}
+use mathlib.Core.Path.{_≡_, refl, sym, ap, _∙_}
 use mathlib.Core.Bool.{true, false}
 use mathlib.Core.List.{List}
 use Prim.Native.Nat.{ℕ}
@@ -21,21 +21,22 @@ noted k t n b h e = e ∙ ap (noteActed slotWords t) (sym (kept-nowhere (λ s b.
 
 access-by-sets-requires : tie.Need-access-by-sets-requires
 access-by-sets-requires c κs =
-    let at-if1 = c .before .before .before in
+    let at-if1 = c .before .before .before .before in
     let h = sym (at-if1 .before .is-access .ensures) ∙ at-if1 .if1 .taken in
     of-access (at-if1 .before .before .pre .0) h
 
 returns : tie.Need-returns
 returns c =
-    let at-if1 = c .before .before .before .before in
+    let at-if1 = c .before .before .before .before .before in
     let a = at-if1 .before .before .args in
     let (f, n) = at-if1 .before .before .pre in
     let h = sym (at-if1 .before .is-access .ensures) ∙ at-if1 .if1 .taken in
     let q = c .access-by-sets .ensures in (
       simp h (q .0),
       q .1,
-      simp (ne-eqb _ _ n) (accessed same-or slotWords false (a .kind) (a .task .0) (a .on) (setOwn (a .kind) (a .task .0) (a .on) (a .sets .now)) (q .2) h (f .task-fits)),
-      simp (ne-eqb _ _ n) (accessed same-or slotWords true (a .kind) (a .task .0) (a .on) (setOwn (a .kind) (a .task .0) (a .on) (a .fullsets .now)) (q .3) h (f .task-fits)),
+      q .2,
+      simp (ne-eqb _ _ n) (accessed same-or slotWords false (a .kind) (a .task .0) (a .on) (setOwn (a .kind) (a .task .0) (a .on) (a .sets .now)) (q .3) h (f .task-fits)),
+      simp (ne-eqb _ _ n) (accessed same-or slotWords true (a .kind) (a .task .0) (a .on) (setOwn (a .kind) (a .task .0) (a .on) (a .fullsets .now)) (q .4) h (f .task-fits)),
     )
 
 renew-requires : tie.Need-renew-requires
@@ -63,6 +64,7 @@ returns-2 c =
     let (f, n) = at-if1 .before .before .pre in
     let h = sym (at-if1 .before .is-access .ensures) ∙ at-if1 .if1 .left in (
       simp h,
+      refl,
       at-renew .renew .ensures ∙ sym (kept-other (a .kind) (a .task .0) (a .on) (a .number .0) (a .last .now) h),
       simp (ne-eqb _ _ n) (passed-on same-or slotWords false (a .kind) (a .task .0) (a .on) (setOwn (a .kind) (a .task .0) (a .on) (a .sets .now)) (noted (a .kind) (a .task .0) (a .on) (a .sets .now) h (at-own .note-acted .ensures)) (c .before .before .pass-on .ensures)),
       simp (ne-eqb _ _ n) (passed-on same-or slotWords true (a .kind) (a .task .0) (a .on) (setOwn (a .kind) (a .task .0) (a .on) (a .fullsets .now)) (noted (a .kind) (a .task .0) (a .on) (a .fullsets .now) h (at-own2 .note-acted2 .ensures)) (c .pass-on2 .ensures)),

@@ -29,7 +29,7 @@ note-requires c κs = let a = accepted (c .before .before) in (names-task (a .pr
 
 act-by-clocks-requires : tie.Need-act-by-clocks-requires
 act-by-clocks-requires c κs =
-    let at-match = c .before .before .before in
+    let at-match = c .before .before .before .before in
     let n = at-match .match .rest .1 in
     (accepted (at-match .before .before .before .before) .proper .act-fits n, n)
 
@@ -50,10 +50,10 @@ returns-2 c =
 returns-3 : tie.Need-returns-3
 unfolding stepOf
 returns-3 c =
-    let at-note = c .before .before .before .before .before in
+    let at-note = c .before .before .before .before .before .before in
     let at-if1 = at-note .before .before .before in
     let t = c .act-by-clocks .ensures in
-    rw (← at-if1 .before .refusal .ensures, at-if1 .if1 .left, at-note .note .ensures, t .0, t .1, t .2, t .3)
+    rw (← at-if1 .before .refusal .ensures, at-if1 .if1 .left, t .1, t .0, at-note .note .ensures, t .2, t .3, t .4)
 
 pub step-in-place-spec : {M : Type 1} → statement M
 step-in-place-spec = tie.close (tie.spec

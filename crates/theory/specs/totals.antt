@@ -1,0 +1,3 @@
+-- Totals of verdicts, kept as records come in
+pub mod Totals
+pub mod Counting
