@@ -85,10 +85,18 @@ pub(crate) fn kind(s: &[u8]) -> u8
     KINDS
 }
 
-// The kind that the first word of a line names; the count of the words where it names none.
+// The kind that the first word of a line names; the count of the words where it names none. An op whose space is one of the first eight bytes,
+// such as that of a loss mark, is known by them.
 pub(crate) fn op(line: &[u8]) -> u8
     ensures { λ r. ⌜ r ≡ kindOf (upTo space (now (line .entry))) ⌝ }
 {
+    if 8 <= line.len() {
+        let bytes = eight(line, 0);
+        let o = guess(bytes);
+        if bytes == o.bytes && o.len < 8 {
+            return o.kind;
+        }
+    }
     let e = place_of(line, 0, SPACE);
     kind(&line[..e])
 }

@@ -4,7 +4,7 @@ use mathlib.Core.List.{List, [], _∷_, _++_, map}
 use Prim.Native.Nat.{ℕ, zero, suc, _+_, _-_, _≤_, _<_}
 use native.Mathlib.Omega.{arith}
 use lib.ListN.{length, getD, take, drop, take-append-drop}
-use lib.Seq.{length-take-le}
+use lib.Seq.{length-take-le, take-append-le}
 use borrow.Author.Tests.{leb-true, eqb-true}
 use lib.Dec.{leb, eqb}
 use Rattle.theory.specs.tables.Turns.{turns}
@@ -12,10 +12,10 @@ use Rattle.text.specs.declared.parsed.Parsed.{Parsed}
 use Rattle.text.specs.Bytes.{indexOf, upTo, after, startsWith, isWord, little}
 use Rattle.text.specs.LineForm.{words, opName, wordOf, space, kindOf, restOf, parseOf}
 use Rattle.text.specs.Places.{StandsAt, opening, openingOf, opBytes}
-use Rattle.text.proofs.Bytes.{index-fits, is-the-word, Below, allBelow, all-below}
+use Rattle.text.proofs.Bytes.{index-fits, index-front, is-the-word, Below, allBelow, all-below}
 use Rattle.text.proofs.LineForm.{rest-none}
-use Rattle.text.proofs.Places.{says-first, says-little}
-use Rattle.text.proofs.RoundTrip.{each-kind, op-is}
+use Rattle.text.proofs.Places.{says-split, says-first, says-little}
+use Rattle.text.proofs.RoundTrip.{each-kind, op-kind, op-is}
 
 -- The openings of the kinds
 
@@ -50,6 +50,11 @@ module _ (k : ℕ) (h : k < length words) where
   unfolding turns
   op-bytes = eqb-true _ _ (each-kind (λ k. eqb (opBytes (openingOf k)) (length (opName ++ wordOf k))) refl k h)
 
+  -- the op ends at their first space, or with them
+  opening-ends : indexOf space (openingOf k) ≡ length (opName ++ wordOf k)
+  unfolding turns indexOf
+  opening-ends = eqb-true _ _ (each-kind (λ k. eqb (indexOf space (openingOf k)) (length (opName ++ wordOf k))) refl k h)
+
   -- and without `op=` the word
   opening-rest : take (length (opName ++ wordOf k) - 3) (drop 3 (openingOf k)) ≡ wordOf k
   unfolding turns isWord startsWith
@@ -62,15 +67,33 @@ module _ (k : ℕ) (h : k < length words) where
 -- The op
 
 -- eight bytes that are those of a kind
-pub says-op : (s : List ℕ) (at k : ℕ) → k < length words → Below 256 s → at + 8 ≤ length s → little (take 8 (drop at s)) ≡ little (openingOf k)
-    → StandsAt s at (opName ++ wordOf k)
-says-op s at k h b l e =
-    let w : List ℕ = opName ++ wordOf k in
+module _ (s : List ℕ) (at k : ℕ) (h : k < length words) (b : Below 256 s) (l : at + 8 ≤ length s) (e : little (take 8 (drop at s)) ≡ little (openingOf k)) where
+  says-opening : StandsAt s at (openingOf k)
+  says-opening =
+      let n : length (openingOf k) ≡ 8 = opening-long k h in
+      says-little s at (openingOf k) (omega arith) b (opening-below k h) (ap (λ (i : ℕ). little (take i (drop at s))) n ∙ e)
+
+  pub says-op : StandsAt s at (opName ++ wordOf k)
+  says-op =
+      let w : List ℕ = opName ++ wordOf k in
+      let o : List ℕ = openingOf k in
+      let q : w ++ drop (length w) o ≡ o = ap (λ (t : List ℕ). t ++ drop (length w) o) (sym (opening-op k h)) ∙ take-append-drop (length w) o in
+      says-first s at w (drop (length w) o) (subst (StandsAt s at) (sym q) says-opening)
+
+-- a line that begins with those of a kind names it, where the space after the op is one of them
+pub opens-kind : (s : List ℕ) (k : ℕ) → k < length words → Below 256 s → 8 ≤ length s → little (take 8 s) ≡ little (openingOf k) → opBytes (openingOf k) < 8
+    → kindOf (upTo space s) ≡ k
+opens-kind s k h b l e m =
     let o : List ℕ = openingOf k in
-    let n : length o ≡ 8 = opening-long k h in
-    let q : w ++ drop (length w) o ≡ o = ap (λ (t : List ℕ). t ++ drop (length w) o) (sym (opening-op k h)) ∙ take-append-drop (length w) o in
-    let p : StandsAt s at o = says-little s at o (omega arith) b (opening-below k h) (ap (λ (i : ℕ). little (take i (drop at s))) n ∙ e) in
-    says-first s at w (drop (length w) o) (subst (StandsAt s at) (sym q) p)
+    let n : ℕ = length (opName ++ wordOf k) in
+    let r : List ℕ = drop (0 + length o) s in
+    let i : indexOf space o ≡ n = opening-ends k h in
+    let f : n ≤ length o = omega (arith, op-long k h, opening-long k h) in
+    let g : indexOf space o < length o = omega (arith, op-bytes k h, opening-long k h) in
+    ap (λ (t : List ℕ). kindOf (upTo space t)) (says-split (says-opening s 0 k h b l e))
+    ∙ ap (λ (j : ℕ). kindOf (take j (o ++ r))) (index-front space o r g ∙ i)
+    ∙ ap kindOf (take-append-le n o r f ∙ opening-op k h)
+    ∙ op-kind k h
 
 -- an op of a kind ends at the first space
 pub op-ends : (s : List ℕ) (k : ℕ) → k ≡ kindOf (upTo space s) → k < length words → length (opName ++ wordOf k) ≡ 0 + indexOf space s
