@@ -93,7 +93,7 @@ abbrev pub same : Bool → Bool → Bool
 same true b = b
 same false b = not b
 
-same-true : (a b : Bool) → same a b ≡ true → a ≡ b
+pub same-true : (a b : Bool) → same a b ≡ true → a ≡ b
 same-true true b e = sym e
 same-true false b e = sym (negated b e)
 

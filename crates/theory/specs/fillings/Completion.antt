@@ -1,7 +1,7 @@
 -- Loss marks and what may be filled in for them: completions, and the fullest of them ("Verdicts", demand 3).
 use Prim.Native.Nat.{ℕ, zero, suc, _+_, _-_, _/_, _%_, _^_, _<_}
 use mathlib.Core.Path.{_≡_}
-use mathlib.Core.Logic.{_⊎_}
+use mathlib.Core.Logic.{_↔_, _⊎_}
 use mathlib.Core.Bool.{Bool, true, false, _&&_}
 use mathlib.Core.List.{List, [], _∷_, _++_}
 use lib.Dec.{T, ltb, eqb}
@@ -27,8 +27,8 @@ pub data Filler (mask : ℕ) : Event → Type 0 where
 
 -- "A completion puts .. any finite list of takes, gives, looks and sets", and "may contain misses as well"; nothing else: "A completion never
 -- contains a fresh"
-abbrev pub OnlyHandOvers : Type 0
-OnlyHandOvers = (mask t n : ℕ) (o : Op) → Filler mask (act o t n) → (o ≡ take) ⊎ ((o ≡ give) ⊎ ((o ≡ look) ⊎ ((o ≡ set) ⊎ (o ≡ miss))))
+abbrev pub CanBeLost : Type 0
+CanBeLost = (o : Op) → T (losable o) ↔ ((o ≡ take) ⊎ ((o ≡ give) ⊎ ((o ≡ look) ⊎ ((o ≡ set) ⊎ (o ≡ miss)))))
 
 -- `Filled Fills es fs`: fs is es with each mark replaced by a list that `Fills` allows for its mask, and nothing else altered
 pub data Filled (Fills : ℕ → List Event → Type 0) : List Event → List Event → Type 0 where
