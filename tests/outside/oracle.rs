@@ -16,6 +16,7 @@ pub enum Op {
     Start,
     Join,
     Fresh,
+    Miss,
 }
 
 use Op::*;
@@ -31,6 +32,7 @@ pub const OPS: &[(&str, u8, Op, u32)] = &[
     ("start", 6, Start, 15),
     ("join", 7, Join, 15),
     ("fresh", 9, Fresh, 63),
+    ("miss", 10, Miss, 31),
 ];
 
 /// The kind number of a loss mark.
