@@ -1,8 +1,8 @@
-/* Writes a recording to standard output: generate SEED RECORDS TASKS [NOISE [FRESH]]
+/* Writes a recording to standard output: generate SEED RECORDS TASKS [NOISE [PLAIN]]
  *
  * The same words give the same bytes. Half of the records are accesses, one in fifty is a loss mark, the rest are hand-overs; tasks are
- * started early and some are joined late. NOISE lines in 1,000 (none if not given) are bent: wrong numbers, words, bytes or length; FRESH
- * records in 1,000 (none if not given) are a fresh. */
+ * started early and some are joined late. NOISE lines in 1,000 (none if not given) are bent: wrong numbers, words, bytes or length; PLAIN
+ * records in 1,000 (none if not given) are a fresh or a miss. */
 #include <stdint.h>
 #include <stdio.h>
 #include <stdlib.h>
@@ -66,17 +66,17 @@ static void bent(void) {
 }
 
 int main(int argc, char **argv) {
-    if (argc < 4) return fprintf(stderr, "usage: generate SEED RECORDS TASKS [NOISE [FRESH]]\n"), 2;
+    if (argc < 4) return fprintf(stderr, "usage: generate SEED RECORDS TASKS [NOISE [PLAIN]]\n"), 2;
     seed = strtoull(argv[1], 0, 10);
     unsigned records = (unsigned)atoi(argv[2]), tasks = (unsigned)atoi(argv[3]), noise = argc > 4 ? (unsigned)atoi(argv[4]) : 0;
-    unsigned fresh = argc > 5 ? (unsigned)atoi(argv[5]) : 0;
+    unsigned plain = argc > 5 ? (unsigned)atoi(argv[5]) : 0;
     if (tasks < 1 || tasks > 16) return fprintf(stderr, "generate: 1 to 16 tasks\n"), 2;
     for (unsigned i = 0; i < records; i++) {
         if (noise && below(1000) < noise) bent();
         if (started < tasks && below(8) == 0) start();
         else if (lives > tasks / 2 + 1 && i > records - records / 10 && below(64) == 0) join();
         else if (below(50) == 0) mark();
-        else if (fresh && below(1000) < fresh) act("fresh", any_live(), below(64));
+        else if (plain && below(1000) < plain) below(2) ? act("fresh", any_live(), below(64)) : act("miss", any_live(), below(32));
         else if (below(100) < 51) act(below(5) < 3 ? "read" : "write", any_live(), below(64));
         else hand_over();
     }

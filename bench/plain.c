@@ -4,7 +4,7 @@
 #include <stdint.h>
 #include <string.h>
 
-enum { READ, WRITE, TAKE, GIVE, LOOK, SET, START, JOIN, LOST, FRESH, KINDS };
+enum { READ, WRITE, TAKE, GIVE, LOOK, SET, START, JOIN, LOST, FRESH, MISS, KINDS };
 
 /* rows: 16 tasks' next acts, 16 tasks' having acted, 32 semaphores, 32 flags */
 typedef struct {
@@ -42,7 +42,7 @@ static void fill(uint32_t (*c)[16], uint32_t mask) {
 }
 
 static int refusal(const State *s, int kind, uint32_t task, uint32_t on) {
-    static const uint32_t series[] = {64, 64, 32, 32, 32, 32, 16, 16, 0, 64};
+    static const uint32_t series[] = {64, 64, 32, 32, 32, 32, 16, 16, 0, 64, 32};
     if (kind == LOST) {
         if (on == 0 || on > 65535) return 4;
         if (s->count >= 60000) return 5;
@@ -137,8 +137,8 @@ static const uint8_t *number(const uint8_t *p, const uint8_t *end, uint32_t *v) 
 }
 
 static int op(const uint8_t *p, size_t n) {
-    static const char *const words[] = {"read", "write", "take", "give", "look", "set", "start", "join", "lost", "fresh"};
-    static const uint8_t lengths[] = {4, 5, 4, 4, 4, 3, 5, 4, 4, 5};
+    static const char *const words[] = {"read", "write", "take", "give", "look", "set", "start", "join", "lost", "fresh", "miss"};
+    static const uint8_t lengths[] = {4, 5, 4, 4, 4, 3, 5, 4, 4, 5, 4};
     for (int k = 0; k < KINDS; k++)
         if (n == lengths[k] && p[0] == (uint8_t)words[k][0] && !memcmp(p, words[k], n)) return k;
     return -1;

@@ -20,7 +20,7 @@
 #define LIMIT 60000u
 #define TOO_SMALL UINT64_MAX
 
-enum { READ, WRITE, TAKE, GIVE, LOOK, SET, START, JOIN, LOST, FRESH, NONE };
+enum { READ, WRITE, TAKE, GIVE, LOOK, SET, START, JOIN, LOST, FRESH, MISS, NONE };
 
 #ifdef WIDE
 
@@ -186,7 +186,7 @@ static uint8_t *put_refused(uint8_t *o, uint64_t line, uint32_t refusal) {
 
 /* ---- the step */
 
-static uint32_t series(uint32_t kind) { return kind <= WRITE || kind == FRESH ? 64 : kind <= SET ? 32 : 16; }
+static uint32_t series(uint32_t kind) { return kind <= WRITE || kind == FRESH ? 64 : kind <= SET || kind == MISS ? 32 : 16; }
 
 static uint32_t refusal(const State *s, uint32_t kind, uint32_t task, uint32_t on) {
     if (kind == LOST) {
@@ -264,6 +264,7 @@ static uint32_t op(const uint8_t *p, unsigned *len) {
     case EIGHT('o', 'p', '=', 'l', 'o', 'o', 'k', ' '): return LOOK;
     case EIGHT('o', 'p', '=', 'j', 'o', 'i', 'n', ' '): return JOIN;
     case EIGHT('o', 'p', '=', 'l', 'o', 's', 't', ' '): return LOST;
+    case EIGHT('o', 'p', '=', 'm', 'i', 's', 's', ' '): return MISS;
     case EIGHT('o', 'p', '=', 's', 'e', 't', ' ', 't'): return *len = 7, SET;
     case EIGHT('o', 'p', '=', 'w', 'r', 'i', 't', 'e'): return *len = 9, p[8] == ' ' ? WRITE : NONE;
     case EIGHT('o', 'p', '=', 's', 't', 'a', 'r', 't'): return *len = 9, p[8] == ' ' ? START : NONE;

@@ -39,6 +39,7 @@ uint64_t order_report(const uint8_t *text, size_t text_len, uint8_t *report, siz
 #define ORDER_JOIN 7
 #define ORDER_LOST 8
 #define ORDER_FRESH 9 /* a variable is laid out anew: what was done to it before no longer counts */
+#define ORDER_MISS 10 /* a wait for a semaphore that ran out */
 
 /* An answer is three numbers. The first is one of these. The second is the number of the refusal where the record was refused, and
  * the record number where it was taken. The third is the record number of the partner, for Race and Doubt, and 0 otherwise. */

@@ -181,7 +181,7 @@ impl Maker<'_> {
     }
 
     fn exchange(&mut self) {
-        let word = self.random.pick(&["take", "give", "look", "set"]);
+        let word = self.random.pick(&["take", "take", "give", "give", "look", "look", "set", "set", "miss"]);
         let (task, on) = (self.actor(), self.random.below(self.shape.objects));
         self.act(word, task, on);
     }
@@ -196,9 +196,10 @@ impl Maker<'_> {
             1 => {}
             _ => self.act(out, from, on),
         }
-        match self.random.below(6) {
+        match self.random.below(7) {
             0 => self.mark_of(1 << to),
             1 => {}
+            2 => self.act("miss", to, on),
             _ => self.act(into, to, on),
         }
         self.access_by(to);
@@ -212,6 +213,7 @@ impl Maker<'_> {
         self.act("start", from, courier as usize);
         match self.random.below(3) {
             0 => self.mark_of(1 << courier),
+            1 if self.random.percent(30) => self.act("miss", courier, 0),
             1 => self.access_by(courier),
             _ => {}
         }
@@ -287,7 +289,7 @@ pub fn damage(random: &mut Random, line: &mut Vec<u8>) {
 pub fn filling(random: &mut Random, mask: u32, objects: usize) -> Vec<Act> {
     let tasks: Vec<u32> = (0..16).filter(|task| mask >> task & 1 == 1).collect();
     let one = |random: &mut Random| Act {
-        op: random.pick(&[Op::Take, Op::Give, Op::Look, Op::Set]),
+        op: random.pick(&[Op::Take, Op::Give, Op::Look, Op::Set, Op::Miss]),
         task: random.pick(&tasks),
         on: random.below(objects) as u32,
     };

@@ -72,7 +72,7 @@ fn run_full(tally: &mut Tally, order: Option<&str>) {
 }
 
 /// What may stand between a write by task 0 and a write by task 1, where task 2 may come and go.
-const BETWEEN: [&str; 21] = [
+const BETWEEN: [&str; 23] = [
     "op=write task=0 on=5",
     "op=write task=1 on=5",
     "op=take task=0 on=1",
@@ -90,6 +90,8 @@ const BETWEEN: [&str; 21] = [
     "op=fresh task=0 on=5",
     "op=fresh task=1 on=5",
     "op=fresh task=2 on=6",
+    "op=miss task=1 on=1",
+    "op=miss task=2 on=1",
     "op=lost tasks=1",
     "op=lost tasks=2",
     "op=lost tasks=3",

@@ -17,6 +17,7 @@ pub enum Op {
     Start,
     Join,
     Fresh,
+    Miss,
 }
 
 use Op::*;
@@ -32,6 +33,7 @@ pub const OPS: &[(&str, u8, Op, u32)] = &[
     ("start", 6, Start, 15),
     ("join", 7, Join, 15),
     ("fresh", 9, Fresh, 63),
+    ("miss", 10, Miss, 31),
 ];
 
 /// The kind number of a loss mark.

@@ -14,6 +14,7 @@ fn main() {
     recordings::lossy();
     recordings::longer();
     recordings::renewed();
+    recordings::missed();
     recordings::whole();
     recordings::refused();
     edges::rows();

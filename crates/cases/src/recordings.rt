@@ -60,6 +60,17 @@ pub(crate) fn renewed() {
     );
 }
 
+// A wait that ran out acquires and releases nothing, and is an act of its task.
+pub(crate) fn missed() {
+    run(b"miss", b"0+1 0w5 0g4 1m4 1r5");
+    run(b"take after a miss", b"0+1 0w5 0g4 1m4 1t4 1r5");
+    run(b"miss and take", b"0+1 0w5 0m4 1t4 1w5");
+    run(
+        b"join of a task that acted by a miss",
+        b"0+2 0w5 0+1 1m4 2-1 2r5",
+    );
+}
+
 // Refused records between accepted ones.
 pub(crate) fn refused() {
     run_clocks(

@@ -21,8 +21,10 @@ pub(crate) const LOST: u8 = 8;
 
 pub(crate) const FRESH: u8 = 9;
 
+pub(crate) const MISS: u8 = 10;
+
 // The first number of no kind.
-pub(crate) const NONE: u8 = 10;
+pub(crate) const NONE: u8 = 11;
 
 pub(crate) fn record(kind: u8, task: u32, on: u32) -> Record {
     Record { kind, task, on }

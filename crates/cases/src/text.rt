@@ -4,6 +4,7 @@ use crate::records::GIVE;
 use crate::records::JOIN;
 use crate::records::LOOK;
 use crate::records::LOST;
+use crate::records::MISS;
 use crate::records::NONE;
 use crate::records::READ;
 use crate::records::SET;
@@ -26,6 +27,7 @@ fn kind_of(sign: u8) -> u8 {
         b'-' => JOIN,
         b'?' => LOST,
         b'f' => FRESH,
+        b'm' => MISS,
         _ => NONE,
     }
 }

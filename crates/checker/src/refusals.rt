@@ -16,6 +16,7 @@ use theory::LAST_TASK;
 use theory::LAST_VARIABLE;
 use theory::LOOK;
 use theory::LOST;
+use theory::MISS;
 use theory::RECORDS;
 use theory::Record;
 use theory::SET;
@@ -27,7 +28,7 @@ ghost use mathlib.Core.Path.{_≡_};
 ghost use mathlib.Core.Bool.{cond, not, _&&_, _||_};
 ghost use Prim.Native.Nat.{_<_, _^_};
 ghost use lib.Dec.{leb, eqb};
-ghost use Rattle.theory.specs.order.Limits.{tasks, records};
+ghost use Rattle.theory.specs.order.Limits.{tasks, semaphores, flags, variables, records};
 ghost use Rattle.theory.specs.order.Recording.{lossMark, seriesOf};
 ghost use Rattle.theory.proofs.acceptance.Rows.{OfAct};
 ghost use Rattle.theory.specs.fillings.Completion.{names};
@@ -39,27 +40,56 @@ const LAST_KIND: u8 = KINDS - 1;
 
 const LAST_MASK: u32 = MASKS - 1;
 
+// Row 2: there is no such task.
+fn no_task(task: u32) -> bool
+    ensures { λ r. ⌜ r ≡ leb tasks task ⌝ }
+{
+    match task {
+        0..=LAST_TASK => false,
+        _ => true,
+    }
+}
+
+fn no_semaphore(on: u32) -> bool
+    ensures { λ r. ⌜ r ≡ leb semaphores on ⌝ }
+{
+    match on {
+        0..=LAST_SEMAPHORE => false,
+        _ => true,
+    }
+}
+
+fn no_flag(on: u32) -> bool
+    ensures { λ r. ⌜ r ≡ leb flags on ⌝ }
+{
+    match on {
+        0..=LAST_FLAG => false,
+        _ => true,
+    }
+}
+
+fn no_variable(on: u32) -> bool
+    ensures { λ r. ⌜ r ≡ leb variables on ⌝ }
+{
+    match on {
+        0..=LAST_VARIABLE => false,
+        _ => true,
+    }
+}
+
 // Row 3: the number is none of the kind's series.
 fn outside(kind: u8, on: u32) -> bool
     ensures { λ r. ⌜ r ≡ leb (seriesOf kind) on ⌝ }
 {
     match kind {
-        TAKE | GIVE => match on {
-            0..=LAST_SEMAPHORE => false,
-            _ => true,
-        },
-        LOOK | SET => match on {
-            0..=LAST_FLAG => false,
-            _ => true,
-        },
-        START | JOIN => match on {
-            0..=LAST_TASK => false,
-            _ => true,
-        },
-        _ => match on {
-            0..=LAST_VARIABLE => false,
-            _ => true,
-        },
+        TAKE => no_semaphore(on),
+        GIVE => no_semaphore(on),
+        MISS => no_semaphore(on),
+        LOOK => no_flag(on),
+        SET => no_flag(on),
+        START => no_task(on),
+        JOIN => no_task(on),
+        _ => no_variable(on),
     }
 }
 
@@ -141,16 +171,6 @@ fn mark_refusal(control: &Control, r: Record) -> u32
         return 9;
     }
     0
-}
-
-// Row 2: there is no such task.
-fn no_task(task: u32) -> bool
-    ensures { λ r. ⌜ r ≡ leb tasks task ⌝ }
-{
-    match task {
-        0..=LAST_TASK => false,
-        _ => true,
-    }
 }
 
 // The rows that can apply to an act. Rows 2 and 3 come first, so that those after them find the tasks in the table.

@@ -28,6 +28,7 @@ const OPENINGS: [[u8; 8]; KINDS as usize] = [
     *b"op=join ",
     *b"op=lost ",
     *b"op=fresh",
+    *b"op=miss ",
 ];
 
 // The part starts with the word.

@@ -50,6 +50,7 @@ words =
     ∷ bytes "join"
     ∷ bytes "lost"
     ∷ bytes "fresh"
+    ∷ bytes "miss"
     ∷ []
 
 abbrev pub opName : List ℕ

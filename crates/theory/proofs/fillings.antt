@@ -5,4 +5,4 @@ pub mod Came
 pub mod Between
 pub mod Bounds
 pub mod HasActed
-pub mod HandOvers
+pub mod Lost

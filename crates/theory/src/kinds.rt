@@ -19,8 +19,10 @@ pub const LOST: u8 = 8;
 
 pub const FRESH: u8 = 9;
 
+pub const MISS: u8 = 10;
+
 // How many of the kinds are accesses: each asks the history.
 pub const ASKERS: usize = 2;
 
 // How many kinds there are.
-pub const KINDS: u8 = FRESH + 1;
+pub const KINDS: u8 = MISS + 1;

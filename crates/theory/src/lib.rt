@@ -17,6 +17,7 @@ pub use kinds::JOIN;
 pub use kinds::KINDS;
 pub use kinds::LOOK;
 pub use kinds::LOST;
+pub use kinds::MISS;
 pub use kinds::READ;
 pub use kinds::SET;
 pub use kinds::START;

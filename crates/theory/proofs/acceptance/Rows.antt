@@ -19,21 +19,6 @@ use Rattle.theory.proofs.basics.Reflects.{Reflects, right, wrong, equal
 
 -- The series of the kinds
 
--- the series that a kind and the next have in common
-pub series-pair : (a k n : ℕ) → seriesOf a ≡ n → seriesOf (a + 1) ≡ n → a ≤ k → k < a + 2 → seriesOf k ≡ n
-series-pair a k n p q h l = decided (equal k a)
-  where
-    decided : {b : Bool} → Reflects (k ≡ a) b → seriesOf k ≡ n
-    decided (right e) = rw e p
-    decided (wrong f) = let e : k ≡ a + 1 = omega arith in rw e q
-
--- row 3 of a kind whose series has n numbers
-pub within : (k n on : ℕ) → seriesOf k ≡ n → on < n → false ≡ leb (seriesOf k) on
-within k n on e h = rw e (sym (lt-leb n on h))
-
-pub beyond : (k n on : ℕ) → seriesOf k ≡ n → n ≤ on → true ≡ leb (seriesOf k) on
-beyond k n on e h = rw e (sym (le-leb n on h))
-
 -- Rows that do not apply
 
 -- where `anyBelow` fails, the test fails at each number below n

@@ -5,12 +5,12 @@ use mathlib.Core.Logic.{_≢_}
 use mathlib.Core.List.{List, [], _∷_}
 use Prim.Native.Nat.{ℕ, _≤_, _<_}
 use native.Mathlib.Omega.{arith}
-use borrow.Author.Tests.{eqb-true, ne-eqb, le-ltb, not-false}
-use lib.Dec.{ltb, eqb}
+use borrow.Author.Tests.{eqb-true, ne-eqb, not-false}
+use lib.Dec.{eqb}
 use lib.ListN.{length, drop, List·getD-eq-default}
 use Rattle.theory.specs.order.Limits.{variables}
 use Rattle.theory.specs.tables.Turns.{turns}
-use Rattle.theory.specs.order.Recording.{Op, kind, Kind, of-op, of-mark, kinds, kindAt, accessBy, accesses, lossMark, seriesOf}
+use Rattle.theory.specs.order.Recording.{Op, take, give, look, set, start, join, miss, kind, Kind, of-op, of-mark, kinds, kindAt, accessBy, accesses, seriesOf}
 use Rattle.theory.specs.order.Path.{clashes}
 use Rattle.theory.specs.acceptance.Table.{anyBelow}
 use Rattle.theory.specs.history.History.{askers, asker, askAt, kindClashes}
@@ -93,7 +93,7 @@ abbrev pub same : Bool → Bool → Bool
 same true b = b
 same false b = not b
 
-same-true : (a b : Bool) → same a b ≡ true → a ≡ b
+pub same-true : (a b : Bool) → same a b ≡ true → a ≡ b
 same-true true b e = sym e
 same-true false b e = sym (negated b e)
 
@@ -102,14 +102,18 @@ each-asker o f tried a h = same-true (f a) (clashes o (asker a)) (not-false _ (n
 
 -- Series
 
-series-tried : anyBelow (length kinds) (λ k. not (ltb k lossMark || eqb (seriesOf k) variables)) ≡ false
+-- the ops over semaphores, flags and tasks
+abbrev pub objectOps : List Op
+objectOps = take ∷ give ∷ miss ∷ look ∷ set ∷ start ∷ join ∷ []
+
+series-tried : anyBelow (length kinds) (λ k. not (isOneOf objectOps k || eqb (seriesOf k) variables)) ≡ false
 unfolding turns
 series-tried = refl
 
--- from the loss mark on the series is that of a read
-pub series-above : (k : ℕ) → lossMark ≤ k → seriesOf k ≡ variables
-series-above k h =
-    eqb-true (seriesOf k) variables (rw (le-ltb k lossMark h) at (each-number (λ k. ltb k lossMark || eqb (seriesOf k) variables) series-tried beyond k))
+-- any other kind is over the variables
+pub series-else : (k : ℕ) → NoneOf objectOps k → seriesOf k ≡ variables
+series-else k n =
+    eqb-true (seriesOf k) variables (rw (none-is objectOps k n) at (each-number (λ k. isOneOf objectOps k || eqb (seriesOf k) variables) series-tried beyond k))
   where
-    beyond : (k : ℕ) → length kinds ≤ k → (ltb k lossMark || eqb (seriesOf k) variables) ≡ true
-    beyond k h = rw (kind-above k h, le-ltb k lossMark (omega arith))
+    beyond : (k : ℕ) → length kinds ≤ k → (isOneOf objectOps k || eqb (seriesOf k) variables) ≡ true
+    beyond k h = rw (kind-above k h) (or-true (isOneOf objectOps k))

@@ -9,7 +9,7 @@ use Rattle.theory.specs.declared.record.Record.{Record}
 
 -- "op": what an acting task does. `lost` is no op of a task, see below.
 pub data Op : Type 0 where
-  read write take give look set start join fresh : Op
+  read write take give look set start join fresh miss : Op
 
 -- "record", one that says something: an act, with its op, its acting task and its number (`on`), or a loss mark, with its mask.
 -- A recording is a list of these, in the order in which they came. Record number n, counted from 1, stands at place n - 1 of the list.
@@ -42,7 +42,7 @@ pub record Features : Type 0 where
   -- the series that its number is of, by size: `on` is one of the numbers below it
   pub series : ℕ
   pub access : Access
-  -- a completion may put it: takes, gives, looks and sets. Starts and joins are resent until they arrive, and lost accesses lie outside: a
+  -- a completion may put it: takes, gives, looks, sets and misses. Starts and joins are resent until they arrive, and lost accesses lie outside: a
   -- verdict is about accesses that arrived
   pub losable : Bool
   pub effect : Effect
@@ -61,6 +61,7 @@ about set = features 5 flags no-access true keeps
 about start = features 6 tasks no-access false begins
 about join = features 7 tasks no-access false ends
 about fresh = features 9 variables no-access false keeps
+about miss = features 10 semaphores no-access true keeps
 
 abbrev pub kind : Op → ℕ
 kind o = (about o) .kind
@@ -87,7 +88,7 @@ abbrev pub kinds : List Kind
 kinds =
     of-op read ∷ of-op write ∷ of-op take ∷ of-op give ∷ of-op look ∷ of-op set ∷ of-op start ∷ of-op join
     ∷ of-mark
-    ∷ of-op fresh
+    ∷ of-op fresh ∷ of-op miss
     ∷ []
 
 abbrev pub kindAt : ℕ → Kind

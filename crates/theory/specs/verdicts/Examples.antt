@@ -4,7 +4,7 @@ use Prim.Native.Nat.{ℕ, suc}
 use mathlib.Core.Path.{_≡_}
 use mathlib.Core.List.{List, [], _∷_}
 use lib.Dec.{T}
-use Rattle.theory.specs.order.Recording.{Op, read, write, take, give, look, set, start, join, fresh, Event, act, lost, isAccess}
+use Rattle.theory.specs.order.Recording.{Op, read, write, take, give, look, set, start, join, fresh, miss, Event, act, lost, isAccess}
 use Rattle.theory.specs.verdicts.Verdict.{Verdict, Race, Clear, Doubt, With}
 use Rattle.theory.specs.verdicts.Demands.{Firm}
 use Rattle.theory.specs.verdicts.Search.{Finding}
@@ -121,4 +121,14 @@ table =
     ∷ (act start 0 2 ∷ w0 ∷ act start 0 1 ∷ act fresh 1 6 ∷ act join 2 1 ∷ act read 2 5 ∷ [] gives (2 ∶ Clear with 0) ∷ (6 ∶ Clear with 0) ∷ [])
     -- and makes no step of its own kind: a later fresh or read of the variable is not ordered by it
     ∷ (act start 0 1 ∷ act write 0 6 ∷ act fresh 0 5 ∷ act fresh 1 5 ∷ r1 ∷ act write 1 6 ∷ [] gives (2 ∶ Clear with 0) ∷ (5 ∶ Clear with 0) ∷ (6 ∶ Race with 2) ∷ [])
+    -- F-3: a wait that ran out acquires nothing
+    ∷ (act start 0 1 ∷ w0 ∷ act give 0 4 ∷ act miss 1 4 ∷ r1 ∷ [] gives (2 ∶ Clear with 0) ∷ (5 ∶ Race with 2) ∷ [])
+    -- and leaves the semaphore as it was: a take after it acquires what was given
+    ∷ (act start 0 1 ∷ w0 ∷ act give 0 4 ∷ act miss 1 4 ∷ act take 1 4 ∷ r1 ∷ [] gives (2 ∶ Clear with 0) ∷ (6 ∶ Clear with 0) ∷ [])
+    -- it releases nothing either
+    ∷ (act start 0 1 ∷ w0 ∷ act miss 0 4 ∷ act take 1 4 ∷ w1 ∷ [] gives (2 ∶ Clear with 0) ∷ (5 ∶ Race with 2) ∷ [])
+    -- it is an act of its task: a join acquires it
+    ∷ (act start 0 2 ∷ w0 ∷ act start 0 1 ∷ act miss 1 4 ∷ act join 2 1 ∷ act read 2 5 ∷ [] gives (2 ∶ Clear with 0) ∷ (6 ∶ Clear with 0) ∷ [])
+    -- a mark whose named task may have lost a miss and nothing else
+    ∷ (act start 0 2 ∷ act give 0 4 ∷ w0 ∷ act start 0 1 ∷ lost 2 ∷ act join 2 1 ∷ act read 2 5 ∷ [] gives (3 ∶ Clear with 0) ∷ (7 ∶ Doubt with 3) ∷ [])
     ∷ []

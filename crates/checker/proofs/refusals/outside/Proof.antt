@@ -1,54 +1,36 @@
--- `checker::refusals::outside` compares with the series of the kind. Assumes nothing.
-use mathlib.Core.Path.{refl}
-use mathlib.Core.Logic.{⊎-elim}
-use native.Mathlib.Omega.{arith}
-use Rattle.theory.specs.order.Limits.{tasks, semaphores, flags, variables}
-use Rattle.theory.specs.order.Recording.{Op, kind}
-use Rattle.theory.proofs.acceptance.Rows.{series-pair, within, beyond}
-use Rattle.theory.proofs.order.Numbered.{series-above}
+-- Each kind's series; what is none of the ops over objects and tasks is over the variables.
+use Rattle.theory.proofs.order.Numbered.{series-else}
+use borrow.Author.Needs.{needs}
 use Rattle.checker.proofs.refusals.outside.Statement.{statement}
 use Rattle.checker.proofs.refusals.outside.Tie as tie
 
 returns : tie.Need-returns
-returns c =
-    let a = c .before .before .before .args in
-    within (a .kind) semaphores (a .on) (series-pair (kind Op.take) (a .kind) semaphores refl refl (c .before .before .if1 .left) (c .before .if2 .taken)) (c .if3 .taken)
+returns c = rw (c .before .match .keys1) (c .no-semaphore .ensures)
 
 returns-2 : tie.Need-returns-2
-returns-2 c =
-    let a = c .before .before .before .args in
-    beyond (a .kind) semaphores (a .on) (series-pair (kind Op.take) (a .kind) semaphores refl refl (c .before .before .if1 .left) (c .before .if2 .taken)) (c .if3 .left)
+returns-2 c = rw (c .before .match .keys2) (c .no-semaphore2 .ensures)
 
 returns-3 : tie.Need-returns-3
-returns-3 c =
-    let a = c .before .before .before .before .args in
-    within (a .kind) flags (a .on) (series-pair (kind Op.look) (a .kind) flags refl refl (c .before .before .if2 .left) (c .before .if4 .taken)) (c .if5 .taken)
+returns-3 c = rw (c .before .match .keys3) (c .no-semaphore3 .ensures)
 
 returns-4 : tie.Need-returns-4
-returns-4 c =
-    let a = c .before .before .before .before .args in
-    beyond (a .kind) flags (a .on) (series-pair (kind Op.look) (a .kind) flags refl refl (c .before .before .if2 .left) (c .before .if4 .taken)) (c .if5 .left)
+returns-4 c = rw (c .before .match .keys4) (c .no-flag .ensures)
 
 returns-5 : tie.Need-returns-5
-returns-5 c =
-    let a = c .before .before .before .before .before .args in
-    within (a .kind) tasks (a .on) (series-pair (kind Op.start) (a .kind) tasks refl refl (c .before .before .if4 .left) (c .before .if6 .taken)) (c .if7 .taken)
+returns-5 c = rw (c .before .match .keys5) (c .no-flag2 .ensures)
 
 returns-6 : tie.Need-returns-6
-returns-6 c =
-    let a = c .before .before .before .before .before .args in
-    beyond (a .kind) tasks (a .on) (series-pair (kind Op.start) (a .kind) tasks refl refl (c .before .before .if4 .left) (c .before .if6 .taken)) (c .if7 .left)
+returns-6 c = rw (c .before .match .keys6) (c .no-task .ensures)
 
 returns-7 : tie.Need-returns-7
-returns-7 c =
-    let a = c .before .before .args in
-    within (a .kind) variables (a .on) (⊎-elim (λ w. series-pair (kind Op.read) (a .kind) variables refl refl (omega arith) (w .taken)) (λ w. series-above (a .kind) (w .3 .left)) (c .before .if1 .came)) (c .if8 .taken)
+returns-7 c = rw (c .before .match .keys7) (c .no-task2 .ensures)
 
 returns-8 : tie.Need-returns-8
-returns-8 c =
-    let a = c .before .before .args in
-    beyond (a .kind) variables (a .on) (⊎-elim (λ w. series-pair (kind Op.read) (a .kind) variables refl refl (omega arith) (w .taken)) (λ w. series-above (a .kind) (w .3 .left)) (c .before .if1 .came)) (c .if8 .left)
+returns-8 c = rw (series-else (c .before .before .args .kind) (search needs)) (c .no-variable .ensures)
 
 pub outside-spec : {M : Type 1} → statement M
-outside-spec = tie.close (tie.spec
+outside-spec =
+    tie.close (tie.spec
+    (λ c κs. search needs) (λ c κs. search needs) (λ c κs. search needs) (λ c κs. search needs) (λ c κs. search needs)
+    (λ c κs. search needs) (λ c κs. search needs) (λ c κs. search needs)
     returns returns-2 returns-3 returns-4 returns-5 returns-6 returns-7 returns-8)
