@@ -1,6 +1,7 @@
 // Clocks: a table with a row for each node and a column for each task, and one row more that says which tasks have acted. A cell has the
 // number of the task's last record from which order has come to the row's node. One table is for the recording as it arrived, one for the
 // fullest filling.
+use crate::bools::both;
 use crate::bools::either;
 use crate::history::ask_at;
 use crate::history::slot;
@@ -12,8 +13,10 @@ use crate::rows::has_bit;
 use crate::rows::named_row;
 use crate::rows::released_by;
 use crate::rows::released_row;
+use crate::rows::semaphore_row;
 use crate::rows::task_row;
 use theory::ACTED;
+use theory::Acquired;
 use theory::COLUMNS;
 use theory::Clocks;
 use theory::FIRST_SEMAPHORE;
@@ -22,6 +25,8 @@ use theory::History;
 use theory::JOIN;
 use theory::Masks;
 use theory::RecordNumber;
+use theory::SEMAPHORES;
+use theory::Semaphore;
 use theory::TASKS;
 use theory::Task;
 use theory::Variable;
@@ -33,7 +38,8 @@ ghost use Rattle.theory.specs.order.Limits.{tasks};
 ghost use Rattle.theory.specs.order.Recording.{Op, kind as number};
 ghost use Rattle.theory.specs.acceptance.Table.{Fitting};
 ghost use Rattle.theory.specs.history.History.{slots};
-ghost use Rattle.theory.specs.tables.Rows.{actedRow, cellCount, cell, joinRow, rowOf, joinWith, acquiredWith, putRow, flow, joinsActed, onward, gather, spread, noteNamed, mix};
+ghost use Rattle.theory.specs.tables.Rows.{anyNewer, actedRow, cellCount, cell, joinRow, rowOf, joinWith, acquiredWith, putRow, flow, joinsActed, onward, gather, spread, noteNamed, mix};
+ghost use Rattle.theory.specs.tables.Joining.{acquiredBy, afterAcquiring};
 ghost use Rattle.theory.specs.tables.Reckonings.{clockOwn, maskOf, clockMask, masksBy};
 ghost use Rattle.theory.proofs.history.Accesses.{OfAccess};
 
@@ -46,7 +52,23 @@ fn greater(a: u32, b: u32) -> u32
     if a < b { b } else { a }
 }
 
-// What row `from` knows is known to row `to` as well.
+// What row `from` knows is known to row `to` as well, in one pass: each newer entry is copied, and the answer is whether any was newer.
+fn join_newer(cells: &mut Clocks, to: usize, from: usize) -> bool
+    requires { ⌜ (to ≤ actedRow) × (from ≤ actedRow) ⌝ }
+    ensures { λ r. ⌜ (r ≡ anyNewer tasks to from (now (cells .entry)))
+        × (now (cells .exit) ≡ joinRow max tasks to from (now (cells .entry))) ⌝ }
+{
+    let mut newer = false;
+    let mut c = 0;
+    while c < COLUMNS {
+        newer = either(newer, cells[to * COLUMNS + c] < cells[from * COLUMNS + c]);
+        cells[to * COLUMNS + c] = greater(cells[to * COLUMNS + c], cells[from * COLUMNS + c]);
+        c += 1;
+    }
+    newer
+}
+
+// The same where the answer is not asked for.
 fn join_row(cells: &mut Clocks, to: usize, from: usize)
     requires { ⌜ (to ≤ actedRow) × (from ≤ actedRow) ⌝ }
     ensures { λ _. ⌜ now (cells .exit) ≡ joinRow max tasks to from (now (cells .entry)) ⌝ }
@@ -54,11 +76,7 @@ fn join_row(cells: &mut Clocks, to: usize, from: usize)
     if to == from {
         return;
     }
-    let mut c = 0;
-    while c < COLUMNS {
-        cells[to * COLUMNS + c] = greater(cells[to * COLUMNS + c], cells[from * COLUMNS + c]);
-        c += 1;
-    }
+    join_newer(cells, to, from);
 }
 
 // A row by itself.
@@ -260,5 +278,25 @@ pub(crate) fn clock_masks(
     Masks {
         full: lower_half(mask(fullclocks, last, row, from)),
         arrived: lower_half(mask(clocks, last, row, from)),
+    }
+}
+
+// What a take does to a table of clocks beside its own part: the semaphore's clock is joined into the task's, in one pass. Answers whether any
+// entry was newer. Where there is no such task or semaphore nothing is changed.
+pub fn acquire(cells: &mut Clocks, task: u32, semaphore: u32) -> Acquired
+    ensures { λ r. ⌜ (r ≡ acquiredBy (now (cells .entry)) task semaphore)
+        × (now (cells .exit) ≡ afterAcquiring (now (cells .entry)) task semaphore) ⌝ }
+{
+    if both(task < TASKS, semaphore < SEMAPHORES) {
+        let newer = join_newer(
+            cells,
+            task_row(Task(task)),
+            semaphore_row(Semaphore(semaphore)),
+        );
+        return Acquired { known: true, newer };
+    }
+    Acquired {
+        known: false,
+        newer: false,
     }
 }

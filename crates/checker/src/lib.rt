@@ -16,6 +16,7 @@ mod totals;
 
 pub use asking::apart_by_clocks;
 pub use asking::apart_by_sets;
+pub use clocks::acquire;
 pub use refusals::refusal;
 pub use running::feed;
 pub use state::begin;

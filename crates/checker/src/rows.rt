@@ -36,7 +36,7 @@ fn task_row_of(first: bool, one: Task, other: Task) -> usize
     }
 }
 
-fn semaphore_row(s: Semaphore) -> usize
+pub(crate) fn semaphore_row(s: Semaphore) -> usize
     ensures { λ r. ⌜ r ≡ semaphoreRow (s .0) ⌝ }
 {
     FIRST_SEMAPHORE + s.0 as usize

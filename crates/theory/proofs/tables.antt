@@ -1,5 +1,6 @@
 -- Rows and columns of any width and any join; acts and marks; clocks and sets are exact; their masks find the partner
 pub mod Rows
+pub mod Joining
 pub mod Words
 pub mod Bits
 pub mod MaskBits

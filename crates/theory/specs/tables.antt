@@ -2,3 +2,4 @@
 pub mod Turns
 pub mod Rows
 pub mod Reckonings
+pub mod Joining

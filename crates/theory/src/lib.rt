@@ -1,5 +1,6 @@
 // What the checker is judged by: specs/ says what order, completions and verdicts are and which demands follow, proofs/ what is known of them.
 // No code stands here, only the types that the definitions speak of, and the numbers of kinds and limits for the code.
+mod acquired;
 mod answer;
 mod kinds;
 mod limits;
@@ -9,6 +10,7 @@ mod record;
 mod state;
 mod verdict_totals;
 
+pub use acquired::Acquired;
 pub use answer::Answer;
 pub use kinds::ASKERS;
 pub use kinds::FRESH;

@@ -106,7 +106,7 @@ cell-set-other w b q d v r c m l n = getD-set-other b (q * w + d) (r * w + c) v 
 -- Joining a row
 
 -- n turns leave the other rows as they were, and the columns from n on
-turns-other : (j : ℕ → ℕ → ℕ) (w : ℕ) (b : List ℕ) (to from n r c : ℕ) → n ≤ w → c < w → ¬ ((r ≡ to) × (c < n)) →
+pub turns-other : (j : ℕ → ℕ → ℕ) (w : ℕ) (b : List ℕ) (to from n r c : ℕ) → n ≤ w → c < w → ¬ ((r ≡ to) × (c < n)) →
     cell w (turns n (joinCell j w to from) b) r c ≡ cell w b r c
 unfolding turns
 turns-other j w b to from zero r c h l f = refl

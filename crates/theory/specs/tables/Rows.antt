@@ -10,6 +10,7 @@ use Rattle.theory.specs.tables.Turns.{turns}
 use Rattle.theory.specs.order.Limits.{tasks, semaphores, flags}
 use Rattle.theory.specs.order.Recording.{Op, kind}
 use Rattle.theory.specs.fillings.Completion.{bit}
+use Rattle.theory.specs.acceptance.Table.{anyBelow}
 
 -- the rows: each task's next act, the semaphores, the flags, and the hub, which knows what any semaphore or flag knows
 abbrev pub taskRow : ℕ → ℕ
@@ -68,6 +69,10 @@ joinCell j w to from c b = set b (to * w + c) (j (cell w b to c) (cell w b from 
 
 unfoldable pub joinRow : (ℕ → ℕ → ℕ) → ℕ → ℕ → ℕ → List ℕ → List ℕ
 joinRow j w to from b = turns w (joinCell j w to from) b
+
+-- some entry of row `from` is newer than that of row `to`
+unfoldable pub anyNewer : ℕ → ℕ → ℕ → List ℕ → Bool
+anyNewer w to from b = anyBelow w (λ c. ltb (cell w b to c) (cell w b from c))
 
 -- the cells of a row by themselves
 unfoldable pub rowOf : ℕ → ℕ → List ℕ → List ℕ
