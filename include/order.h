@@ -1,5 +1,6 @@
 /* The order checker for a host program in C. Link the archives whose functions are used: `rt staticlib NAME` writes libNAME.a, where NAME is
- * report (order_report), host (a running state and the sets, fed record by record), gateway (order_step) or pieces (order_piece). */
+ * report (order_report), host (a running state and the sets, fed record by record, and their totals), gateway (order_step) or pieces
+ * (order_piece). */
 #ifndef ORDER_H
 #define ORDER_H
 
@@ -49,7 +50,7 @@ uint64_t order_report(const uint8_t *text, size_t text_len, uint8_t *report, siz
 #define ORDER_DOUBT 4
 
 /* How many cells each table of a running state has. */
-#define ORDER_CONTROL_CELLS 17
+#define ORDER_CONTROL_CELLS 210
 #define ORDER_HISTORY_CELLS 2048
 #define ORDER_CLOCK_CELLS 1312
 #define ORDER_SET_CELLS 5248
@@ -79,7 +80,29 @@ static inline void order_state_feed(struct order_state *s, uint8_t kind, uint32_
     order_feed(s->control, s->last, s->clocks, s->fullclocks, kind, task, on, answer);
 }
 
-/* The same as order_state_feed by one call that is lent the whole state. It copies the state there and back, 19 kilobytes, so that a record
+/* How many accesses of a variable were Clear, Race and Doubt so far, in this order: writes the three counts and answers 1. Their sum is the
+ * number of its accepted accesses; refused records count nowhere, and ORDER_FRESH sets no count back. Where there is no such variable it
+ * answers 0, and `totals` is untouched.
+ *
+ * control: that of a running state or of the sets, which is read alone. It may be asked at any moment between two records. A count at
+ * the end of its 32 bits, which no recording comes to, stays there.
+ *
+ * Here as in order_any_race the pointers must be valid for their sizes, aligned and not null, and the two must not overlap. */
+uint32_t order_totals(const uint32_t control[ORDER_CONTROL_CELLS], uint32_t variable, uint32_t totals[3]);
+
+/* Whether any access of any variable was a Race so far: 1 or 0. It looks at one cell. */
+uint32_t order_any_race(const uint32_t control[ORDER_CONTROL_CELLS]);
+
+/* The two with a whole state. */
+static inline uint32_t order_state_totals(const struct order_state *s, uint32_t variable, uint32_t totals[3]) {
+    return order_totals(s->control, variable, totals);
+}
+
+static inline uint32_t order_state_any_race(const struct order_state *s) {
+    return order_any_race(s->control);
+}
+
+/* The same as order_state_feed by one call that is lent the whole state. It copies the state there and back, 20 kilobytes, so that a record
  * takes some twenty times as long; the two may be mixed. Needs libgateway.a. */
 void order_step(struct order_state *s, uint8_t kind, uint32_t task, uint32_t on, uint32_t answer[3]);
 
@@ -139,6 +162,15 @@ static inline uint64_t order_text_end(struct order_text *t, uint8_t *report, siz
     return t->progress[1] == 0 ? 0 : order_text_piece(t, &lf, 1, report, report_len);
 }
 
+/* The totals of the lines that have ended, between two pieces. */
+static inline uint32_t order_text_totals(const struct order_text *t, uint32_t variable, uint32_t totals[3]) {
+    return order_state_totals(&t->state, variable, totals);
+}
+
+static inline uint32_t order_text_any_race(const struct order_text *t) {
+    return order_state_any_race(&t->state);
+}
+
 /* The same reckoned by sets in place of clocks, for a host that wants a second opinion: a state of its own, the same answer to each
  * record. */
 struct order_sets {
@@ -157,6 +189,14 @@ static inline void order_sets_state_begin(struct order_sets *s) {
 
 static inline void order_sets_state_feed(struct order_sets *s, uint8_t kind, uint32_t task, uint32_t on, uint32_t answer[3]) {
     order_sets_feed(s->control, s->last, s->sets, s->fullsets, kind, task, on, answer);
+}
+
+static inline uint32_t order_sets_state_totals(const struct order_sets *s, uint32_t variable, uint32_t totals[3]) {
+    return order_totals(s->control, variable, totals);
+}
+
+static inline uint32_t order_sets_state_any_race(const struct order_sets *s) {
+    return order_any_race(s->control);
 }
 
 #ifdef __cplusplus

@@ -1,5 +1,5 @@
 /* A host program in C over the archives: document 01's example, row 11 at its edge, kept bytes, the empty text; then the same example fed
- * record by record to a running state and to the sets, and as a text in pieces. */
+ * record by record to a running state and to the sets, and as a text in pieces, and its totals at each moment. */
 #include <stdio.h>
 #include <string.h>
 
@@ -71,6 +71,13 @@ static void row_11(void) {
     check("no line wants no memory", report_of("", 0, memory, 0) == 0);
 }
 
+/* The document's variables, and how many of their accesses are Clear, Race and Doubt where the example ends. */
+static const struct {
+    uint32_t variable, totals[3];
+} totals[] = {{5, {2, 0, 1}}, {6, {1, 1, 0}}};
+
+enum { VARIABLES = 64, TOTALS = sizeof totals / sizeof totals[0] };
+
 /* A record and its answer. */
 struct fed {
     uint8_t kind;
@@ -106,11 +113,13 @@ static const struct fed refused[] = {
 
 enum { RECORDS = sizeof example / sizeof example[0], REFUSED = sizeof refused / sizeof refused[0], BEHIND = 3 };
 
-/* The clocks or the sets: their two calls, and memory for two states and for a copy. */
+/* The clocks or the sets: their calls, and memory for two states and for a copy. */
 struct way {
     const char *name;
     void (*begin)(void *state);
     void (*feed)(void *state, uint8_t kind, uint32_t task, uint32_t on, uint32_t answer[3]);
+    uint32_t (*totals)(const void *state, uint32_t variable, uint32_t totals[3]);
+    uint32_t (*any_race)(const void *state);
     size_t size;
     void *one, *two, *copy;
 };
@@ -127,9 +136,49 @@ static void feed_mixed(void *state, uint8_t kind, uint32_t task, uint32_t on, ui
     static unsigned turn;
     (turn++ % 2 ? feed_whole : feed_clocks)(state, kind, task, on, answer);
 }
+static uint32_t totals_clocks(const void *state, uint32_t variable, uint32_t totals[3]) { return order_state_totals(state, variable, totals); }
+static uint32_t any_race_clocks(const void *state) { return order_state_any_race(state); }
 static void begin_sets(void *state) { order_sets_state_begin(state); }
 static void feed_sets(void *state, uint8_t kind, uint32_t task, uint32_t on, uint32_t answer[3]) {
     order_sets_state_feed(state, kind, task, on, answer);
+}
+static uint32_t totals_sets(const void *state, uint32_t variable, uint32_t totals[3]) { return order_sets_state_totals(state, variable, totals); }
+static uint32_t any_race_sets(const void *state) { return order_sets_state_any_race(state); }
+
+/* A variable's totals are just these, and whether there was a Race anywhere is just this. Reading changes nothing. */
+static int totals_are(const struct way *way, const void *state, uint32_t variable, const uint32_t expected[3], uint32_t any_race) {
+    uint32_t got[5] = {77, 77, 77, 77, 77};
+    return way->totals(state, variable, got + 1) == 1 && memcmp(got + 1, expected, 3 * sizeof got[0]) == 0 && got[0] == 77 && got[4] == 77 &&
+           way->any_race(state) == any_race;
+}
+
+/* Numbers that are no variable's: the answer is 0, and the memory is as it was. */
+static void unknown(const struct way *way, const void *state) {
+    static const uint32_t numbers[] = {VARIABLES, VARIABLES + 5, 256, 65536, 1u << 31, UINT32_MAX};
+    for (size_t i = 0; i < sizeof numbers / sizeof numbers[0]; i++) {
+        uint32_t got[3] = {77, 78, 79};
+        int untouched = way->totals(state, numbers[i], got) == 0 && got[0] == 77 && got[1] == 78 && got[2] == 79;
+        char name[80];
+        snprintf(name, sizeof name, "%s: no totals of variable %u", way->name, (unsigned)numbers[i]);
+        check(name, untouched);
+    }
+}
+
+/* All totals where so many records of the example have been fed, counted from the answers that it expects. */
+static void count(const struct way *way, const void *state, size_t records) {
+    int right = 1;
+    for (uint32_t v = 0; v < VARIABLES; v++) {
+        uint32_t expected[3] = {0}, races = 0;
+        for (size_t i = 0; i < records; i++) {
+            uint32_t said = example[i].answer[0];
+            if (said >= ORDER_CLEAR && example[i].on == v) expected[said - ORDER_CLEAR]++;
+            races += said == ORDER_RACE;
+        }
+        right = right && totals_are(way, state, v, expected, races > 0);
+    }
+    char name[80];
+    snprintf(name, sizeof name, "%s: totals after %zu records", way->name, records);
+    check(name, right);
 }
 
 /* Feeds one record and says what differs, if anything does. */
@@ -156,21 +205,51 @@ static void run(const struct way *way) {
     memset(way->two, 0x5a, way->size);
     way->begin(way->two);
     same(way, "a fresh state is the same whatever was there", way->two, way->copy);
+    count(way, way->one, 0);
+    unknown(way, way->one);
 
     /* Two states side by side, the second some records behind. */
     for (size_t i = 0; i < RECORDS + BEHIND; i++) {
         if (i < RECORDS) feed(way, way->one, &example[i]);
         if (i >= BEHIND) feed(way, way->two, &example[i - BEHIND]);
+        count(way, way->one, i < RECORDS ? i + 1 : RECORDS);
+        count(way, way->two, i < BEHIND ? 0 : i + 1 - BEHIND);
     }
     same(way, "the same records leave the same state", way->one, way->two);
+    for (size_t i = 0; i < TOTALS; i++) check("document 01's totals", totals_are(way, way->one, totals[i].variable, totals[i].totals, 1));
+    unknown(way, way->one);
+    same(way, "reading changes nothing", way->one, way->two);
 
-    for (size_t i = 0; i < REFUSED; i++) feed(way, way->one, &refused[i]);
+    for (size_t i = 0; i < REFUSED; i++) {
+        feed(way, way->one, &refused[i]);
+        count(way, way->one, RECORDS);
+    }
     same(way, "refused records leave the state as it was", way->one, way->two);
 
     way->begin(way->one);
     same(way, "a used state is made fresh", way->one, way->copy);
     for (size_t i = 0; i < RECORDS; i++) feed(way, way->one, &example[i]);
     same(way, "and the other is left alone", way->one, way->two);
+}
+
+/* Totals at the end of their range stay there, also where a record is taken: the control table is the first of a state, and has the phase of
+ * task 0 in its first cell and the count of records after the sixteen phases. */
+static void range_end(const struct way *way) {
+    enum { COUNT = 16 };
+    static const uint32_t end[3] = {UINT32_MAX, UINT32_MAX, UINT32_MAX};
+    uint32_t *control = way->one, got[3];
+    memset(way->one, 0xff, way->size);
+    unknown(way, way->one);
+    control[0] = 1;
+    control[COUNT] = 0;
+    int right = 1;
+    for (uint32_t v = 0; v < VARIABLES; v++) {
+        way->feed(way->one, ORDER_WRITE, 0, v, got);
+        right = right && got[0] >= ORDER_CLEAR && got[1] == v + 1 && totals_are(way, way->one, v, end, 1);
+    }
+    char name[80];
+    snprintf(name, sizeof name, "%s: totals at the end of their range stay there", way->name);
+    check(name, right);
 }
 
 /* Cells that no begin or record left: the count is past the limit, so that row 5 refuses what rows 1 to 4 do not. */
@@ -205,12 +284,14 @@ static void layout(void) {
 static void states(void) {
     static struct order_state clocks[3];
     static struct order_sets sets[3];
-    const struct way ways[] = {{"clocks", begin_clocks, feed_clocks, sizeof clocks[0], &clocks[0], &clocks[1], &clocks[2]},
-                               {"whole", begin_clocks, feed_whole, sizeof clocks[0], &clocks[0], &clocks[1], &clocks[2]},
-                               {"mixed", begin_clocks, feed_mixed, sizeof clocks[0], &clocks[0], &clocks[1], &clocks[2]},
-                               {"sets", begin_sets, feed_sets, sizeof sets[0], &sets[0], &sets[1], &sets[2]}};
+#define BY_CLOCKS totals_clocks, any_race_clocks, sizeof clocks[0], &clocks[0], &clocks[1], &clocks[2]
+    const struct way ways[] = {{"clocks", begin_clocks, feed_clocks, BY_CLOCKS},
+                               {"whole", begin_clocks, feed_whole, BY_CLOCKS},
+                               {"mixed", begin_clocks, feed_mixed, BY_CLOCKS},
+                               {"sets", begin_sets, feed_sets, totals_sets, any_race_sets, sizeof sets[0], &sets[0], &sets[1], &sets[2]}};
     for (size_t i = 0; i < sizeof ways / sizeof ways[0]; i++) {
         run(&ways[i]);
+        range_end(&ways[i]);
         one_bits(&ways[i]);
     }
 }
@@ -271,6 +352,23 @@ static void pieces(size_t len) {
         cut_feed(&cut, text + at, len - at);
         cut_end(&cut, "cut at", at);
     }
+}
+
+static uint32_t totals_text(const void *text, uint32_t variable, uint32_t totals[3]) { return order_text_totals(text, variable, totals); }
+static uint32_t any_race_text(const void *text) { return order_text_any_race(text); }
+
+/* The totals between two pieces are those of the lines that have ended, wherever the text is cut. */
+static void text_totals(void) {
+    const struct way way = {.name = "text", .totals = totals_text, .any_race = any_race_text};
+    cut_begin(&cut);
+    size_t ended = 0;
+    for (size_t at = 0; at < TEXT; at++) {
+        cut_feed(&cut, text + at, 1);
+        ended += text[at] == '\n';
+        count(&way, &cut.kept, ended);
+    }
+    unknown(&way, &cut.kept);
+    cut_end(&cut, "with its totals, in pieces of", 1);
 }
 
 /* The running state of a text is that of its records, and may be fed records too. */
@@ -343,6 +441,7 @@ int main(void) {
     layout();
     pieces(TEXT);
     pieces(TEXT - 1);
+    text_totals();
     text_and_records();
     too_little();
     any_text();

@@ -1,6 +1,6 @@
 //! The running state and the sets, fed without text, in lent tables with guard cells on both sides.
 
-use crate::oracle::{self, Act, Judged, Reading, Record};
+use crate::oracle::{self, Act, Judged, Reading, Record, Totals, VARIABLES};
 use crate::tally::Tally;
 
 const GUARD: usize = 64;
@@ -37,6 +37,8 @@ extern "C" {
         on: u32,
         answer: *mut u32,
     );
+    fn order_totals(control: *const u32, variable: u32, totals: *mut u32) -> u32;
+    fn order_any_race(control: *const u32) -> u32;
 }
 
 /// One of the two reckonings: how large its tables are, and its calls.
@@ -47,8 +49,8 @@ pub struct Reckoning {
     feed: Feed,
 }
 
-pub const CLOCKS: Reckoning = Reckoning { name: "clocks", sizes: [17, 2048, 1312, 1312], begin: order_begin, feed: order_feed };
-pub const SETS: Reckoning = Reckoning { name: "sets", sizes: [17, 2048, 5248, 5248], begin: order_sets_begin, feed: order_sets_feed };
+pub const CLOCKS: Reckoning = Reckoning { name: "clocks", sizes: [210, 2048, 1312, 1312], begin: order_begin, feed: order_feed };
+pub const SETS: Reckoning = Reckoning { name: "sets", sizes: [210, 2048, 5248, 5248], begin: order_sets_begin, feed: order_sets_feed };
 pub const BOTH: [Reckoning; 2] = [CLOCKS, SETS];
 
 /// A state in one piece of memory, a guard before, between and after its tables.
@@ -111,26 +113,59 @@ impl Lent<'_> {
         }
         Ok(answer)
     }
+
+    /// A variable's totals, or what the memory for them held where there are none.
+    fn totals(&mut self, variable: u32) -> (u32, [u32; 5]) {
+        let mut memory = [FILL; 5];
+        let [control, ..] = self.tables();
+        // SAFETY: the control table and the three cells are valid and do not overlap.
+        let known = unsafe { order_totals(control, variable, memory[1..].as_mut_ptr()) };
+        (known, memory)
+    }
+
+    /// The totals of all variables, and whether there was a Race anywhere, are just these; there are none of other numbers.
+    pub fn expect_totals(&mut self, expected: &Totals) -> Result<(), String> {
+        for (variable, &[clear, race, doubt]) in expected.0.iter().enumerate() {
+            let totals = self.totals(variable as u32);
+            if totals != (1, [FILL, clear, race, doubt, FILL]) {
+                return Err(format!("totals of variable {variable}: {totals:?}, and not {:?}", [clear, race, doubt]));
+            }
+        }
+        for other in [VARIABLES as u32, 256, u32::MAX] {
+            let totals = self.totals(other);
+            if totals != (0, [FILL; 5]) {
+                return Err(format!("totals of variable {other}, which is none: {totals:?}"));
+            }
+        }
+        let [control, ..] = self.tables();
+        // SAFETY: the control table is valid.
+        let any_race = unsafe { order_any_race(control) };
+        (any_race == expected.any_race() as u32).then_some(()).ok_or(format!("a Race anywhere: {any_race}"))
+    }
 }
 
-/// Feeds the records to a fresh state and holds each answer against what is expected. Says what differs.
-fn compare(by: &Reckoning, records: &[Numbers], expected: &[[u32; 3]]) -> Result<(), String> {
+/// Feeds the records to a fresh state and holds each answer, and all totals after it, against what is expected. Says what differs.
+fn compare(by: &Reckoning, records: &[Numbers], expected: &[([u32; 3], Totals)]) -> Result<(), String> {
     let mut lent = Lent::fresh(by)?;
-    for (at, (record, expected)) in records.iter().zip(expected).enumerate() {
+    lent.expect_totals(&Totals::NONE)?;
+    for (at, (record, (expected, totals))) in records.iter().zip(expected).enumerate() {
+        let fed = || {
+            let last = &records[at.saturating_sub(SHOWN)..=at];
+            format!("record {} of those fed; up to it, by kind, task and number\n{last:?}", at + 1)
+        };
         let answer = lent.feed(*record, expected[0] == 0);
         if answer.as_ref() != Ok(expected) {
             let got = answer.map_or_else(|why| why, |got| format!("{got:?}"));
-            let last = &records[at.saturating_sub(SHOWN)..=at];
-            let fed = format!("record {} of those fed; up to it, by kind, task and number\n{last:?}", at + 1);
-            return Err(format!("{fed}\n--- expected\n{expected:?}\n--- got\n{got}\n---"));
+            return Err(format!("{}\n--- expected\n{expected:?}\n--- got\n{got}\n---", fed()));
         }
+        lent.expect_totals(totals).map_err(|why| format!("{}\n--- {why}\n---", fed()))?;
     }
     Ok(())
 }
 
-/// Both reckonings answer each of these records, as it was read, just as the path search does.
+/// Both reckonings answer each of these records, as it was read, just as the path search does, and count its verdicts.
 pub fn expect(tally: &mut Tally, name: &str, records: &[Numbers], reading: &Reading, judged: &[Judged]) {
-    let expected = oracle::answers(reading, judged);
+    let expected: Vec<_> = oracle::answers(reading, judged).into_iter().zip(oracle::totals(reading, judged)).collect();
     assert_eq!(records.len(), expected.len());
     for by in &BOTH {
         let result = compare(by, records, &expected);

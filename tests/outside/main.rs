@@ -1,6 +1,7 @@
-//! Tests from outside: the C entry, texts in pieces and the program `order` against the plain path search, byte for byte, and bad input at
-//! scale; the program on input that pauses; the running state and the sets, fed without text, against the same search, answer for answer.
-//! `outside [PROGRAM]` runs them; without a program only the archive is tested.
+//! Tests from outside: the C entry, texts in pieces and the programs `order` and `totals` against the plain path search, byte for byte, and bad
+//! input at scale; the programs on input that pauses; the running state and the sets, fed without text, against the same search, answer for answer,
+//! and their totals after each record.
+//! `outside [ORDER TOTALS]` runs them; without the programs only the archive is tested.
 //! `outside --report` prints what the plain path search says of the recording on standard input.
 
 mod bad;
@@ -15,6 +16,7 @@ mod pauses;
 mod program;
 mod streaming;
 mod tally;
+mod totals;
 
 use cuts::{Cuts, WAYS};
 use generate::{filling, recording, shape, Random, Shape};
@@ -238,10 +240,10 @@ fn main() {
         print!("{}", oracle::report_of(&text));
         return;
     }
-    run_all(word.as_deref());
+    run_all(word.as_deref(), std::env::args().nth(2).as_deref());
 }
 
-fn run_all(order: Option<&str>) {
+fn run_all(order: Option<&str>, totals: Option<&str>) {
     let mut tally = Tally::new();
     run_examples(&mut tally, order);
     tally.part("examples");
@@ -249,6 +251,9 @@ fn run_all(order: Option<&str>) {
     tally.part("row 5");
     if let Some(order) = order {
         pauses::run(&mut tally, order);
+    }
+    if let Some(totals) = totals {
+        totals::run(&mut tally, totals);
     }
     run_between(&mut tally);
     tally.part("every short recording between two writes");

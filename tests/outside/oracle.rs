@@ -3,6 +3,7 @@
 use std::fmt::Write;
 
 pub const TASKS: u32 = 16;
+pub const VARIABLES: usize = 64;
 pub const LIMIT: usize = 60_000;
 
 #[derive(Clone, Copy, PartialEq, Eq, Debug)]
@@ -291,7 +292,7 @@ pub struct Access {
 
 pub fn accesses(recording: &[Record]) -> Vec<Access> {
     let mut list = Vec::new();
-    let mut since = [0; 64];
+    let mut since = [0; VARIABLES];
     for (at, record) in recording.iter().enumerate() {
         match *record {
             Record::Act(Act { op: Fresh, on, .. }) => since[on as usize] = at + 1,
@@ -395,6 +396,75 @@ pub fn judge(recording: &[Record]) -> Vec<Judged> {
         list.push(Judged { access: accesses[this], verdict, with });
     }
     list
+}
+
+// ---- Totals
+
+/// How many accesses of each variable were Clear, Race and Doubt.
+#[derive(Clone, Copy)]
+pub struct Totals(pub [[u32; 3]; VARIABLES]);
+
+impl Totals {
+    pub const NONE: Totals = Totals([[0; 3]; VARIABLES]);
+
+    fn count(&mut self, one: &Judged) {
+        let of_verdict = match one.verdict {
+            Verdict::Clear => 0,
+            Verdict::Race => 1,
+            Verdict::Doubt => 2,
+        };
+        self.0[one.access.var as usize][of_verdict] += 1;
+    }
+
+    pub fn any_race(&self) -> bool {
+        self.0.iter().any(|of_variable| of_variable[1] > 0)
+    }
+
+    /// The table: a head, a line for each variable that was accessed, and the sums, in five right-aligned columns.
+    fn table(&self) -> String {
+        let mut out = format!("{:>3} {:>7} {:>7} {:>7} {:>7}\n", "var", "clear", "race", "doubt", "all");
+        let mut line = |name: &str, [clear, race, doubt]: [u32; 3]| {
+            writeln!(out, "{name:>3} {clear:>7} {race:>7} {doubt:>7} {:>7}", clear + race + doubt).unwrap();
+        };
+        let mut sums = [0; 3];
+        for (variable, of_variable) in self.0.iter().enumerate().filter(|(_, of_variable)| **of_variable != [0; 3]) {
+            line(&variable.to_string(), *of_variable);
+            sums.iter_mut().zip(of_variable).for_each(|(sum, count)| *sum += count);
+        }
+        line("all", sums);
+        out
+    }
+}
+
+/// The totals after each line or record.
+pub fn totals<'a>(reading: &'a Reading, judged: &'a [Judged]) -> impl Iterator<Item = Totals> + 'a {
+    let mut so_far = Totals::NONE;
+    let mut judged = judged.iter().peekable();
+    reading.fates.iter().map(move |fate| {
+        if let Fate::Accepted(rec) = *fate {
+            judged.next_if(|one| one.access.rec == rec).into_iter().for_each(|one| so_far.count(one));
+        }
+        so_far
+    })
+}
+
+/// The tables of a recording: one after every so many accepted records, none where `every` is 0, and one at the end if it has ended. An empty
+/// line follows each where there may be several.
+pub fn tables(reading: &Reading, judged: &[Judged], every: usize, ended: bool) -> String {
+    let mut out = String::new();
+    let mut show = |totals: &Totals| out += &(totals.table() + if every > 0 { "\n" } else { "" });
+    let mut last = Totals::NONE;
+    for (fate, totals) in reading.fates.iter().zip(totals(reading, judged)) {
+        last = totals;
+        match *fate {
+            Fate::Accepted(rec) if every > 0 && rec % every == 0 => show(&last),
+            _ => {}
+        }
+    }
+    if ended {
+        show(&last);
+    }
+    out
 }
 
 // ---- Report

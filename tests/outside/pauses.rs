@@ -1,4 +1,4 @@
-//! The program `order` on a recording that is still coming: what is ready is written before it waits for more input.
+//! The programs on a recording that is still coming: what is ready is written before they wait for more input.
 
 use crate::oracle;
 use crate::program::{ended, start, PATIENCE};
@@ -7,7 +7,7 @@ use std::io::{Read, Write};
 use std::sync::mpsc::{channel, Receiver};
 use std::time::{Duration, Instant};
 
-/// How long a report line that should not come yet is waited for.
+/// How long output that should not come yet is waited for.
 const QUIET: Duration = Duration::from_millis(50);
 
 /// What the program has written so far.
@@ -41,21 +41,21 @@ impl Watched {
         }
     }
 
-    /// The report of these lines has come, and nothing else.
-    fn expect(&mut self, text: &[u8]) -> Result<(), String> {
-        let expected = oracle::report_of(text);
+    /// This has come after so many bytes of input, and nothing else.
+    fn expect(&mut self, input: usize, expected: &str) -> Result<(), String> {
         self.wait(expected.len(), PATIENCE);
         self.wait(expected.len() + 1, QUIET);
         if self.got == expected.as_bytes() {
             return Ok(());
         }
-        Err(format!("after {} bytes of input {} bytes of the report have come, and not {}", text.len(), self.got.len(), expected.len()))
+        Err(format!("after {input} bytes of input {} bytes of output have come, and not {}", self.got.len(), expected.len()))
     }
 }
 
-/// Feeds the parts one after the other through a pipe that stays open: after each, the report of the lines that have ended is there.
-fn watch(program: &str, parts: &[String]) -> Result<(), String> {
-    let mut child = start(program)?;
+/// Feeds the parts one after the other through a pipe that stays open: after each, what is due for the lines that have ended is there, and after
+/// the last what is due at the end. `due` says it of the text so far, and is told whether that has ended.
+pub fn watch(program: &str, words: &[String], parts: &[String], due: &dyn Fn(&[u8], bool) -> String) -> Result<(), String> {
+    let mut child = start(program, words)?;
     let mut input = child.stdin.take().unwrap();
     let mut watched = Watched::new(child.stdout.take().unwrap());
     let mut text = Vec::new();
@@ -64,31 +64,35 @@ fn watch(program: &str, parts: &[String]) -> Result<(), String> {
         text.extend(part.bytes());
         seen = input.write_all(part.as_bytes()).map_err(|e| e.to_string()).and_then(|()| input.flush().map_err(|e| e.to_string()));
         let lines = text.iter().rposition(|byte| *byte == b'\n').map_or(0, |at| at + 1);
-        seen = seen.and_then(|()| watched.expect(&text[..lines]));
+        seen = seen.and_then(|()| watched.expect(text.len(), &due(&text[..lines], false)));
         if seen.is_err() {
             break;
         }
     }
     drop(input);
-    let seen = seen.and_then(|()| watched.expect(&text)).and_then(|()| ended(&mut child, Instant::now()));
+    let seen = seen.and_then(|()| watched.expect(text.len(), &due(&text, true))).and_then(|()| ended(&mut child, Instant::now()));
     let _ = child.kill();
     let _ = child.wait();
     seen
 }
 
-pub fn run(tally: &mut Tally, program: &str) {
+/// Recordings in parts, each with its name.
+pub fn cases() -> [(&'static str, Vec<String>); 5] {
     let line = |op: &str| format!("op={op}\n");
     let some = line("start task=0 on=1") + &line("write task=0 on=5") + &line("read task=1 on=5");
     let many: String = (0..4_000).map(|n| line(&format!("read task=0 on={}", n % 64))).collect();
-    let cases: [(&str, Vec<String>); 5] = [
+    [
         ("line by line", some.split_inclusive('\n').map(String::from).collect()),
         ("a half line", vec![some.clone(), "op=write ta".into(), "sk=1 on=6\nop=re".into(), "ad task=0 on=6".into(), "\n".into()]),
         ("more than a block", vec![some.clone(), many.clone(), line("write task=1 on=9"), many]),
         ("an LF by itself", vec!["op=read task=0 on=64".into(), "\n".into(), "\n".into(), some]),
         ("a rest at the end", vec![line("write task=0 on=5"), "op=read task=0 on=5".into()]),
-    ];
-    for (name, parts) in cases {
-        let seen = watch(program, &parts);
+    ]
+}
+
+pub fn run(tally: &mut Tally, program: &str) {
+    for (name, parts) in cases() {
+        let seen = watch(program, &[], &parts, &|text, _| oracle::report_of(text));
         tally.check(seen.is_ok(), || format!("program, pauses, {name}: {}", seen.unwrap_err()));
     }
     tally.part("a recording that pauses");

@@ -1,4 +1,4 @@
-//! The program `order`, fed through a pipe in pieces.
+//! The programs, fed through a pipe in pieces.
 
 use crate::cuts::{pieces, Cuts};
 use std::io::{Read, Write};
@@ -55,15 +55,20 @@ pub fn ended(child: &mut Child, since: Instant) -> Result<(), String> {
 }
 
 /// Starts the program, with pipes to it and from it.
-pub fn start(program: &str) -> Result<Child, String> {
-    let pipes = Command::new(program).stdin(Stdio::piped()).stdout(Stdio::piped()).spawn();
+pub fn start(program: &str, words: &[String]) -> Result<Child, String> {
+    let pipes = Command::new(program).args(words).stdin(Stdio::piped()).stdout(Stdio::piped()).spawn();
     pipes.map_err(|e| format!("{program} cannot be started: {e}"))
 }
 
-/// Runs the program on a text and answers what it wrote to standard output.
+/// Runs the program without arguments.
 pub fn report(program: &str, text: &[u8], cuts: Cuts) -> Result<Vec<u8>, String> {
+    run(program, &[], text, cuts)
+}
+
+/// Runs the program on a text and answers what it wrote to standard output.
+pub fn run(program: &str, words: &[String], text: &[u8], cuts: Cuts) -> Result<Vec<u8>, String> {
     let since = Instant::now();
-    let mut child = start(program)?;
+    let mut child = start(program, words)?;
     let mut output = child.stdout.take().unwrap();
     let reader = std::thread::spawn(move || {
         let mut wrote = Vec::new();

@@ -3,6 +3,7 @@ mod asking;
 mod edges;
 mod feeding;
 mod full;
+mod joining;
 mod recordings;
 mod records;
 mod source;
@@ -22,5 +23,6 @@ fn main() {
     edges::series();
     edges::huge();
     edges::masks();
+    joining::joins();
     recordings::full();
 }

@@ -19,6 +19,10 @@ fn told(word: &[u8], n: u32) {
     io::write_all(1, b"\n");
 }
 
+pub(crate) fn tell_entry(n: u32) {
+    told(b"entry ", n);
+}
+
 pub(crate) fn tell(a: Answer) {
     match a {
         Answer::Refused(row) => told(b"refused ", row),
