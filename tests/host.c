@@ -136,20 +136,24 @@ static void feed_mixed(void *state, uint8_t kind, uint32_t task, uint32_t on, ui
     static unsigned turn;
     (turn++ % 2 ? feed_whole : feed_clocks)(state, kind, task, on, answer);
 }
-static uint32_t totals_clocks(const void *state, uint32_t variable, uint32_t totals[3]) { return order_state_totals(state, variable, totals); }
+static uint32_t totals_clocks(const void *state, uint32_t variable, uint32_t counts[3]) {
+    return order_state_totals(state, variable, counts);
+}
 static uint32_t any_race_clocks(const void *state) { return order_state_any_race(state); }
 static void begin_sets(void *state) { order_sets_state_begin(state); }
 static void feed_sets(void *state, uint8_t kind, uint32_t task, uint32_t on, uint32_t answer[3]) {
     order_sets_state_feed(state, kind, task, on, answer);
 }
-static uint32_t totals_sets(const void *state, uint32_t variable, uint32_t totals[3]) { return order_sets_state_totals(state, variable, totals); }
+static uint32_t totals_sets(const void *state, uint32_t variable, uint32_t counts[3]) {
+    return order_sets_state_totals(state, variable, counts);
+}
 static uint32_t any_race_sets(const void *state) { return order_sets_state_any_race(state); }
 
 /* A variable's totals are just these, and whether there was a Race anywhere is just this. Reading changes nothing. */
 static int totals_are(const struct way *way, const void *state, uint32_t variable, const uint32_t expected[3], uint32_t any_race) {
     uint32_t got[5] = {77, 77, 77, 77, 77};
-    return way->totals(state, variable, got + 1) == 1 && memcmp(got + 1, expected, 3 * sizeof got[0]) == 0 && got[0] == 77 && got[4] == 77 &&
-           way->any_race(state) == any_race;
+    int known = way->totals(state, variable, got + 1) == 1;
+    return known && memcmp(got + 1, expected, 3 * sizeof got[0]) == 0 && got[0] == 77 && got[4] == 77 && way->any_race(state) == any_race;
 }
 
 /* Numbers that are no variable's: the answer is 0, and the memory is as it was. */
@@ -216,7 +220,9 @@ static void run(const struct way *way) {
         count(way, way->two, i < BEHIND ? 0 : i + 1 - BEHIND);
     }
     same(way, "the same records leave the same state", way->one, way->two);
-    for (size_t i = 0; i < TOTALS; i++) check("document 01's totals", totals_are(way, way->one, totals[i].variable, totals[i].totals, 1));
+    for (size_t i = 0; i < TOTALS; i++) {
+        check("document 01's totals", totals_are(way, way->one, totals[i].variable, totals[i].totals, 1));
+    }
     unknown(way, way->one);
     same(way, "reading changes nothing", way->one, way->two);
 
@@ -354,8 +360,8 @@ static void pieces(size_t len) {
     }
 }
 
-static uint32_t totals_text(const void *text, uint32_t variable, uint32_t totals[3]) { return order_text_totals(text, variable, totals); }
-static uint32_t any_race_text(const void *text) { return order_text_any_race(text); }
+static uint32_t totals_text(const void *kept, uint32_t variable, uint32_t counts[3]) { return order_text_totals(kept, variable, counts); }
+static uint32_t any_race_text(const void *kept) { return order_text_any_race(kept); }
 
 /* The totals between two pieces are those of the lines that have ended, wherever the text is cut. */
 static void text_totals(void) {

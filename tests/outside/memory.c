@@ -60,7 +60,7 @@ static uint32_t sum(const uint32_t *memory, size_t count) {
 typedef void begin_call(uint32_t *, uint32_t *, uint32_t *, uint32_t *);
 typedef void feed_call(uint32_t *, uint32_t *, uint32_t *, uint32_t *, uint8_t, uint32_t, uint32_t, uint32_t *);
 
-/* Tables and answers are unset before their calls. Starts come first and joins last, so that there are tasks to act. */
+/* Tables, answers and totals are unset before their calls. Starts come first and joins last, so that there are tasks to act. */
 static void fed(const char *name, begin_call *begin, feed_call *feed, size_t size) {
     static const uint8_t kinds[] = {ORDER_START, ORDER_WRITE, ORDER_GIVE, ORDER_SET,  ORDER_LOST,
                                     ORDER_TAKE,  ORDER_LOOK,  ORDER_READ, ORDER_JOIN, 255};
@@ -75,6 +75,12 @@ static void fed(const char *name, begin_call *begin, feed_call *feed, size_t siz
         right = right && answer[0] <= ORDER_DOUBT && answer[1] > 0 && (answer[2] > 0) == (answer[0] >= ORDER_RACE);
         free(answer);
     }
+    for (size_t i = 0; i < NUMBERS; i++) {
+        uint32_t *totals = cells(3), known = order_totals(control, numbers[i], totals);
+        right = right && known == (numbers[i] < 64) && (!known || sum(totals, 3) < KINDS * NUMBERS * NUMBERS);
+        free(totals);
+    }
+    right = right && order_any_race(control) <= 1;
     right = right && sum(control, ORDER_CONTROL_CELLS) > 0 && sum(last, ORDER_HISTORY_CELLS) > 0 && sum(arrived, size) > 0 && sum(full, size) > 0;
     if (right) {
         passed++;

@@ -1,12 +1,11 @@
 -- The argument's cases by its length and its first byte.
 use mathlib.Core.Path.{_≡_, refl, _∙_}
-use mathlib.Core.Bool.{true}
 use mathlib.Core.List.{List, [], _∷_}
 use Prim.Native.Nat.{ℕ, _≤_, _<_}
 use native.Mathlib.Omega.{arith}
 use lib.ListN.{length, getD}
 use borrow.Author.Tests.{eq-eqb, ne-eqb}
-use Rattle.text.specs.LineForm.{digits, isPlain, digitsFrom, decimalOf}
+use Rattle.text.specs.LineForm.{digits, digitsFrom, decimalOf}
 use Rattle.text.proofs.Numerals.{plain-none, plain-one, plain-long, plain-some, decimal-plain, decimal-other}
 use Rattle.totals.specs.Argument.{everyOf}
 

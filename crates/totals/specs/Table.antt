@@ -2,7 +2,7 @@
 -- right-aligned: the variable, and how many of its accesses were Clear, Race, Doubt, and any of the three.
 use Prim.Native.Nat.{ℕ, zero, suc, _+_, _*_, _-_, _^_, _<_, max}
 use mathlib.Core.Bool.{Bool, cond}
-use mathlib.Core.List.{List, [], _∷_, _++_}
+use mathlib.Core.List.{List, [], _++_}
 use lib.Dec.{eqb}
 use lib.ListN.{length, replicate}
 use Rattle.theory.specs.declared.verdict_totals.Totals.{Totals}
