@@ -2,7 +2,7 @@
  *
  * The same words give the same bytes. Half of the records are accesses, one in fifty is a loss mark, the rest are hand-overs; tasks are
  * started early and some are joined late. NOISE lines in 1,000 (none if not given) are bent: wrong numbers, words, bytes or length; PLAIN
- * records in 1,000 (none if not given) are a fresh or a miss. */
+ * records in 1,000 (none if not given) are a fresh, a miss or a bump. */
 #include <stdint.h>
 #include <stdio.h>
 #include <stdlib.h>
@@ -48,6 +48,11 @@ static void hand_over(void) {
     act(words[below(4)], any_live(), below(32));
 }
 
+static void plain_act(void) {
+    static const char *const words[] = {"fresh", "miss", "bump"};
+    act(words[below(3)], any_live(), below(32));
+}
+
 static void bent(void) {
     static const char *const lines[] = {
         "op=read task=16 on=1", "op=write task=0 on=64",     "op=take task=0 on=32",     "op=set task=0 on=99999", "op=lost tasks=0",
@@ -76,7 +81,7 @@ int main(int argc, char **argv) {
         if (started < tasks && below(8) == 0) start();
         else if (lives > tasks / 2 + 1 && i > records - records / 10 && below(64) == 0) join();
         else if (below(50) == 0) mark();
-        else if (plain && below(1000) < plain) below(2) ? act("fresh", any_live(), below(64)) : act("miss", any_live(), below(32));
+        else if (plain && below(1000) < plain) plain_act();
         else if (below(100) < 51) act(below(5) < 3 ? "read" : "write", any_live(), below(64));
         else hand_over();
     }

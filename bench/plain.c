@@ -4,12 +4,12 @@
 #include <stdint.h>
 #include <string.h>
 
-enum { READ, WRITE, TAKE, GIVE, LOOK, SET, START, JOIN, LOST, FRESH, MISS, KINDS };
+enum { READ, WRITE, TAKE, GIVE, LOOK, SET, START, JOIN, LOST, FRESH, MISS, BUMP, KINDS };
 
 /* rows: 16 tasks' next acts, 16 tasks' having acted, 32 semaphores, 32 flags */
 typedef struct {
     uint32_t clock[2][96][16];
-    uint32_t last[2][64][16];
+    uint32_t last[3][64][16]; /* reads, writes, bumps */
     uint8_t phase[16];
     uint32_t count;
 } State;
@@ -42,7 +42,7 @@ static void fill(uint32_t (*c)[16], uint32_t mask) {
 }
 
 static int refusal(const State *s, int kind, uint32_t task, uint32_t on) {
-    static const uint32_t series[] = {64, 64, 32, 32, 32, 32, 16, 16, 0, 64, 32};
+    static const uint32_t series[] = {64, 64, 32, 32, 32, 32, 16, 16, 0, 64, 32, 64};
     if (kind == LOST) {
         if (on == 0 || on > 65535) return 4;
         if (s->count >= 60000) return 5;
@@ -65,7 +65,8 @@ static int apart(const State *s, int filling, int kind, uint32_t task, uint32_t 
     const uint32_t *known = s->clock[filling][task];
     for (uint32_t u = 0; u < 16; u++) {
         uint32_t latest = s->last[WRITE][on][u];
-        if (kind == WRITE && s->last[READ][on][u] > latest) latest = s->last[READ][on][u];
+        if (kind != READ && s->last[READ][on][u] > latest) latest = s->last[READ][on][u];
+        if (kind != BUMP && s->last[2][on][u] > latest) latest = s->last[2][on][u];
         if (u != task && known[u] < latest) return *with = latest, (int)u;
     }
     return -1;
@@ -101,7 +102,7 @@ static uint8_t *feed(State *s, uint8_t *o, uint64_t line, int kind, uint32_t tas
     int refused = refusal(s, kind, task, on);
     if (refused) return put_refused(o, line, refused);
     uint32_t number = ++s->count, with = 0;
-    if (kind <= WRITE) {
+    if (kind <= WRITE || kind == BUMP) {
         const char *verdict = " verdict=clear with=";
         if (apart(s, 1, kind, task, on, &with) >= 0) verdict = " verdict=race with=";
         else if (apart(s, 0, kind, task, on, &with) >= 0) verdict = " verdict=doubt with=";
@@ -110,10 +111,11 @@ static uint8_t *feed(State *s, uint8_t *o, uint64_t line, int kind, uint32_t tas
         o = put_decimal(put(o, " var="), on);
         o = put_five(put(o, verdict), with);
         o = put(o, "\n");
-        s->last[kind][on][task] = number;
+        s->last[kind == BUMP ? 2 : kind][on][task] = number;
     }
     if (kind == LOST) return fill(s->clock[1], on), o;
-    if (kind == FRESH) memset(s->last[READ][on], 0, sizeof s->last[READ][on]), memset(s->last[WRITE][on], 0, sizeof s->last[WRITE][on]);
+    if (kind == FRESH)
+        for (int a = 0; a < 3; a++) memset(s->last[a][on], 0, sizeof s->last[a][on]);
     if (kind == START) s->phase[on] = 1;
     if (kind == JOIN) s->phase[on] = 2;
     act(s->clock[0], kind, task, on, number);
@@ -137,8 +139,8 @@ static const uint8_t *number(const uint8_t *p, const uint8_t *end, uint32_t *v) 
 }
 
 static int op(const uint8_t *p, size_t n) {
-    static const char *const words[] = {"read", "write", "take", "give", "look", "set", "start", "join", "lost", "fresh", "miss"};
-    static const uint8_t lengths[] = {4, 5, 4, 4, 4, 3, 5, 4, 4, 5, 4};
+    static const char *const words[] = {"read", "write", "take", "give", "look", "set", "start", "join", "lost", "fresh", "miss", "bump"};
+    static const uint8_t lengths[] = {4, 5, 4, 4, 4, 3, 5, 4, 4, 5, 4, 4};
     for (int k = 0; k < KINDS; k++)
         if (n == lengths[k] && p[0] == (uint8_t)words[k][0] && !memcmp(p, words[k], n)) return k;
     return -1;

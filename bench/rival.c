@@ -20,7 +20,7 @@
 #define LIMIT 60000u
 #define TOO_SMALL UINT64_MAX
 
-enum { READ, WRITE, TAKE, GIVE, LOOK, SET, START, JOIN, LOST, FRESH, MISS, NONE };
+enum { READ, WRITE, TAKE, GIVE, LOOK, SET, START, JOIN, LOST, FRESH, MISS, BUMP, NONE };
 
 #ifdef WIDE
 
@@ -48,7 +48,7 @@ typedef struct {
 
 typedef struct {
     Filling arrived, fullest;
-    Clock any[64], writes[64]; /* the latest access and the latest write of each variable by each task */
+    Clock latest[3][64]; /* by the kind that asks (read, write, bump): the latest access of each variable by each task that conflicts with it */
     uint32_t live, unseen, count;
     uint64_t line;
 } State;
@@ -186,7 +186,7 @@ static uint8_t *put_refused(uint8_t *o, uint64_t line, uint32_t refusal) {
 
 /* ---- the step */
 
-static uint32_t series(uint32_t kind) { return kind <= WRITE || kind == FRESH ? 64 : kind <= SET || kind == MISS ? 32 : 16; }
+static uint32_t series(uint32_t kind) { return kind <= WRITE || kind == FRESH || kind == BUMP ? 64 : kind <= SET || kind == MISS ? 32 : 16; }
 
 static uint32_t refusal(const State *s, uint32_t kind, uint32_t task, uint32_t on) {
     if (kind == LOST) {
@@ -204,7 +204,8 @@ static uint32_t refusal(const State *s, uint32_t kind, uint32_t task, uint32_t o
 }
 
 static uint8_t *judge(State *s, uint8_t *o, uint32_t kind, uint32_t task, uint32_t on, uint32_t number) {
-    Clock *latest = kind == WRITE ? &s->any[on] : &s->writes[on];
+    uint32_t asks = kind == BUMP ? 2 : kind;
+    Clock *latest = &s->latest[asks][on];
     uint32_t verdict = 1, with = 0;
     uint32_t mask = apart(latest, &s->fullest.task[task]);
     if (!mask) {
@@ -213,8 +214,9 @@ static uint8_t *judge(State *s, uint8_t *o, uint32_t kind, uint32_t task, uint32
     }
     /* A task's own cell is the number of its last act, so it is never apart from itself. */
     if (mask) with = cells(latest)[__builtin_ctz(mask)];
-    cells(&s->any[on])[task] = (Cell)number;
-    if (kind == WRITE) cells(&s->writes[on])[task] = (Cell)number;
+    if (asks != 0) cells(&s->latest[0][on])[task] = (Cell)number;
+    cells(&s->latest[1][on])[task] = (Cell)number;
+    if (asks != 2) cells(&s->latest[2][on])[task] = (Cell)number;
     cells(&s->arrived.task[task])[task] = (Cell)number;
     cells(&s->fullest.task[task])[task] = (Cell)number;
     s->arrived.acted |= 1u << task;
@@ -226,9 +228,10 @@ static uint8_t *feed(State *s, uint8_t *o, uint32_t kind, uint32_t task, uint32_
     uint32_t refused = refusal(s, kind, task, on);
     if (refused) return put_refused(o, s->line, refused);
     uint32_t number = ++s->count;
-    if (kind <= WRITE) return judge(s, o, kind, task, on, number);
+    if (kind <= WRITE || kind == BUMP) return judge(s, o, kind, task, on, number);
     if (kind == LOST) return fill(&s->fullest, on), o;
-    if (kind == FRESH) memset(&s->any[on], 0, sizeof s->any[on]), memset(&s->writes[on], 0, sizeof s->writes[on]);
+    if (kind == FRESH)
+        for (int a = 0; a < 3; a++) memset(&s->latest[a][on], 0, sizeof s->latest[a][on]);
     if (kind == START) s->live |= 1u << on, s->unseen &= ~(1u << on);
     if (kind == JOIN) s->live &= ~(1u << on);
     act(&s->arrived, kind, task, on, number);
@@ -265,6 +268,7 @@ static uint32_t op(const uint8_t *p, unsigned *len) {
     case EIGHT('o', 'p', '=', 'j', 'o', 'i', 'n', ' '): return JOIN;
     case EIGHT('o', 'p', '=', 'l', 'o', 's', 't', ' '): return LOST;
     case EIGHT('o', 'p', '=', 'm', 'i', 's', 's', ' '): return MISS;
+    case EIGHT('o', 'p', '=', 'b', 'u', 'm', 'p', ' '): return BUMP;
     case EIGHT('o', 'p', '=', 's', 'e', 't', ' ', 't'): return *len = 7, SET;
     case EIGHT('o', 'p', '=', 'w', 'r', 'i', 't', 'e'): return *len = 9, p[8] == ' ' ? WRITE : NONE;
     case EIGHT('o', 'p', '=', 's', 't', 'a', 'r', 't'): return *len = 9, p[8] == ' ' ? START : NONE;

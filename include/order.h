@@ -40,6 +40,7 @@ uint64_t order_report(const uint8_t *text, size_t text_len, uint8_t *report, siz
 #define ORDER_LOST 8
 #define ORDER_FRESH 9 /* a variable is laid out anew: what was done to it before no longer counts */
 #define ORDER_MISS 10 /* a wait for a semaphore that ran out */
+#define ORDER_BUMP 11 /* raises or lowers a variable in one stroke: an access */
 
 /* An answer is three numbers. The first is one of these. The second is the number of the refusal where the record was refused, and
  * the record number where it was taken. The third is the record number of the partner, for Race and Doubt, and 0 otherwise. */
@@ -51,9 +52,9 @@ uint64_t order_report(const uint8_t *text, size_t text_len, uint8_t *report, siz
 
 /* How many cells each table of a running state has. */
 #define ORDER_CONTROL_CELLS 210
-#define ORDER_HISTORY_CELLS 2048
+#define ORDER_HISTORY_CELLS 3072
 #define ORDER_CLOCK_CELLS 1312
-#define ORDER_SET_CELLS 5248
+#define ORDER_SET_CELLS 7872
 
 /* A running state, which the host keeps and lends to each call. Nobody else may write to it between its begin and its last record.
  * What its cells hold is the checker's own affair; there may be as many states as the host likes. */

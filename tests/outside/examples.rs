@@ -95,6 +95,18 @@ const SHORT: &[(&str, &str, &str)] = &[
     ("a join hears a miss", "start 0 2, write 0 5, start 0 1, miss 1 4, join 2 1, read 2 5", "2 0 clear 0, 6 2 clear 0"),
     ("a lost miss would do", "start 0 2, give 0 4, write 0 5, start 0 1, lost 2, join 2 1, read 2 5", "3 0 clear 0, 7 2 doubt 3"),
     ("miss of the last semaphore and past it", "miss 0 31, miss 0 32, miss 16 0, miss 1 0", "!2 3, !3 2, !4 6"),
+    ("two bumps", "start 0 1, bump 0 5, bump 1 5", "2 0 clear 0, 3 1 clear 0"),
+    ("a bump after a write", "start 0 1, write 0 5, bump 1 5", "2 0 clear 0, 3 1 race 2"),
+    ("a write after a bump", "start 0 1, bump 0 5, write 1 5", "2 0 clear 0, 3 1 race 2"),
+    ("a read after a bump", "start 0 1, bump 0 5, read 1 5", "2 0 clear 0, 3 1 race 2"),
+    ("a bump after a read", "start 0 1, read 0 5, bump 1 5", "2 0 clear 0, 3 1 race 2"),
+    ("a bump after a write, handed over", "start 0 1, write 0 5, give 0 4, take 1 4, bump 1 5", "2 0 clear 0, 5 1 clear 0"),
+    ("a write after a bump, handed over", "start 0 1, bump 0 5, give 0 4, take 1 4, write 1 5", "2 0 clear 0, 5 1 clear 0"),
+    ("a read after a bump, handed over", "start 0 1, bump 0 5, give 0 4, take 1 4, read 1 5", "2 0 clear 0, 5 1 clear 0"),
+    ("a bump after a read, handed over", "start 0 1, read 0 5, give 0 4, take 1 4, bump 1 5", "2 0 clear 0, 5 1 clear 0"),
+    ("an older read behind a bump", "start 0 1, read 0 5, bump 0 5, bump 1 5", "2 0 clear 0, 3 0 clear 0, 4 1 race 2"),
+    ("a bump across a mark", "start 0 1, write 0 5, lost 3, bump 1 5", "2 0 clear 0, 4 1 doubt 2"),
+    ("a bump after a fresh", "start 0 1, write 0 5, fresh 0 5, bump 1 5", "2 0 clear 0, 4 1 clear 0"),
     ("row 2", "read 16 1", "!1 2"),
     ("row 3", "take 0 32", "!1 3"),
     ("row 4", "lost 0", "!1 4"),
@@ -104,14 +116,14 @@ const SHORT: &[(&str, &str, &str)] = &[
     ("row 9", "lost 2", "!1 9"),
     ("row 9 of a join", "join 0 1", "!1 9"),
     ("the lower row goes first", "read 16 64, take 1 32, start 1 0, join 1 1, start 1 1, join 1 2", "!1 2, !2 3, !3 6, !4 6, !5 6, !6 6"),
-    ("the first past each series", "read 0 64, write 0 64, take 0 32, give 0 32, look 0 32, set 0 32, start 0 16, join 0 16, fresh 0 64, miss 0 32", TEN_THREES),
+    ("the first past each series", "read 0 64, write 0 64, take 0 32, give 0 32, look 0 32, set 0 32, start 0 16, join 0 16, fresh 0 64, miss 0 32, bump 0 64", ELEVEN_THREES),
     ("the last of each series", "take 0 31, give 0 31, look 0 31, set 0 31, start 0 15, lost 32769, join 0 15", ""),
     ("masks", "lost 65536, lost 65535, lost 99999, lost 1", "!1 4, !2 9, !3 4"),
     ("a joined task is done", "start 0 1, join 0 1, join 0 1, start 0 1, read 1 5, lost 2, lost 3", "!3 9, !4 7, !5 6, !6 9, !7 9"),
     ("a refused record changes nothing", "start 1 2, read 2 5, start 0 1, start 0 1, read 1 5, start 1 2", "!1 6, !2 6, !4 7, 2 1 clear 0"),
 ];
 
-const TEN_THREES: &str = "!1 3, !2 3, !3 3, !4 3, !5 3, !6 3, !7 3, !8 3, !9 3, !10 3";
+const ELEVEN_THREES: &str = "!1 3, !2 3, !3 3, !4 3, !5 3, !6 3, !7 3, !8 3, !9 3, !10 3, !11 3";
 
 const NOT_OF_THE_FORM: &[&str] = &[
     "",

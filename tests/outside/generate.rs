@@ -170,7 +170,7 @@ impl Maker<'_> {
     }
 
     fn access_by(&mut self, task: u32) {
-        let word = self.random.pick(&["read", "write"]);
+        let word = self.random.pick(&["read", "read", "write", "write", "bump"]);
         let on = self.random.below(self.shape.variables);
         self.act(word, task, on);
     }

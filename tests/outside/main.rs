@@ -72,9 +72,11 @@ fn run_full(tally: &mut Tally, order: Option<&str>) {
 }
 
 /// What may stand between a write by task 0 and a write by task 1, where task 2 may come and go.
-const BETWEEN: [&str; 23] = [
+const BETWEEN: [&str; 25] = [
     "op=write task=0 on=5",
     "op=write task=1 on=5",
+    "op=bump task=0 on=5",
+    "op=bump task=1 on=5",
     "op=take task=0 on=1",
     "op=take task=1 on=1",
     "op=give task=0 on=1",

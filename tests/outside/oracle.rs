@@ -18,6 +18,7 @@ pub enum Op {
     Join,
     Fresh,
     Miss,
+    Bump,
 }
 
 use Op::*;
@@ -34,6 +35,7 @@ pub const OPS: &[(&str, u8, Op, u32)] = &[
     ("join", 7, Join, 15),
     ("fresh", 9, Fresh, 63),
     ("miss", 10, Miss, 31),
+    ("bump", 11, Bump, 63),
 ];
 
 /// The kind number of a loss mark.
@@ -269,14 +271,18 @@ pub fn fullest(mask: u32) -> Vec<Act> {
     list
 }
 
-/// A read or a write.
+/// A read, a write or a bump.
 pub fn is_access(op: Op) -> bool {
-    matches!(op, Read | Write)
+    matches!(op, Read | Write | Bump)
 }
 
-/// Two accesses of which one writes at least.
+/// Two accesses of which one writes at least; a bump and a read do too, and two bumps never.
 fn clash(a: Op, b: Op) -> bool {
-    a == Write || b == Write
+    match (a, b) {
+        (Write, _) | (_, Write) => true,
+        (Bump, Read) | (Read, Bump) => true,
+        _ => false,
+    }
 }
 
 /// An accepted access.

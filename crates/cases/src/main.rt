@@ -16,6 +16,7 @@ fn main() {
     recordings::longer();
     recordings::renewed();
     recordings::missed();
+    recordings::bumped();
     recordings::whole();
     recordings::refused();
     edges::rows();

@@ -71,6 +71,18 @@ pub(crate) fn missed() {
     );
 }
 
+// Two bumps never conflict; a bump conflicts with a read and with a write.
+pub(crate) fn bumped() {
+    run(b"two bumps", b"0+1 0b5 1b5");
+    run(b"bump after a write", b"0+1 0w5 1b5");
+    run(b"write after a bump", b"0+1 0b5 1w5");
+    run(b"read after a bump", b"0+1 0b5 1r5");
+    run(b"bump after a read", b"0+1 0r5 1b5");
+    run(b"bump handed over", b"0+1 0b5 0g4 1t4 1w5");
+    run(b"older read behind a bump", b"0+1 0r5 0b5 1b5");
+    run(b"bump across a mark", b"0+1 0w5 _?3 1b5");
+}
+
 // Refused records between accepted ones.
 pub(crate) fn refused() {
     run_clocks(

@@ -23,8 +23,10 @@ pub(crate) const FRESH: u8 = 9;
 
 pub(crate) const MISS: u8 = 10;
 
+pub(crate) const BUMP: u8 = 11;
+
 // The first number of no kind.
-pub(crate) const NONE: u8 = 11;
+pub(crate) const NONE: u8 = 12;
 
 pub(crate) fn record(kind: u8, task: u32, on: u32) -> Record {
     Record { kind, task, on }

@@ -1,4 +1,5 @@
 // Recordings as text: a record is its task, a sign for its kind and its number, as `0w5`, with one byte between two records.
+use crate::records::BUMP;
 use crate::records::FRESH;
 use crate::records::GIVE;
 use crate::records::JOIN;
@@ -28,6 +29,7 @@ fn kind_of(sign: u8) -> u8 {
         b'?' => LOST,
         b'f' => FRESH,
         b'm' => MISS,
+        b'b' => BUMP,
         _ => NONE,
     }
 }

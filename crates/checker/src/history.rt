@@ -3,6 +3,7 @@
 use crate::bools::both;
 use crate::bools::either;
 use theory::ASKERS;
+use theory::BUMP;
 use theory::COLUMNS;
 use theory::FRESH;
 use theory::History;
@@ -29,6 +30,7 @@ pub(crate) fn ask_at(kind: u8) -> usize
     match kind {
         READ => 0,
         WRITE => 1,
+        BUMP => 2,
         _ => ASKERS,
     }
 }

@@ -29,6 +29,7 @@ const OPENINGS: [[u8; 8]; KINDS as usize] = [
     *b"op=lost ",
     *b"op=fresh",
     *b"op=miss ",
+    *b"op=bump ",
 ];
 
 // The part starts with the word.

@@ -51,6 +51,7 @@ words =
     ∷ bytes "lost"
     ∷ bytes "fresh"
     ∷ bytes "miss"
+    ∷ bytes "bump"
     ∷ []
 
 abbrev pub opName : List ℕ

@@ -21,8 +21,10 @@ pub const FRESH: u8 = 9;
 
 pub const MISS: u8 = 10;
 
+pub const BUMP: u8 = 11;
+
 // How many of the kinds are accesses: each asks the history.
-pub const ASKERS: usize = 2;
+pub const ASKERS: usize = 3;
 
 // How many kinds there are.
-pub const KINDS: u8 = MISS + 1;
+pub const KINDS: u8 = BUMP + 1;

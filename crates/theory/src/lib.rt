@@ -13,6 +13,7 @@ mod verdict_totals;
 pub use acquired::Acquired;
 pub use answer::Answer;
 pub use kinds::ASKERS;
+pub use kinds::BUMP;
 pub use kinds::FRESH;
 pub use kinds::GIVE;
 pub use kinds::JOIN;

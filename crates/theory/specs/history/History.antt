@@ -7,12 +7,12 @@ use lib.Dec.{eqb}
 use lib.ListN.{getD, set, length}
 use Rattle.theory.specs.tables.Turns.{turns}
 use Rattle.theory.specs.order.Limits.{tasks, variables}
-use Rattle.theory.specs.order.Recording.{Op, read, write, fresh, kind, about, accessNumber, opOf, Kind, of-op, of-mark, kindAt}
+use Rattle.theory.specs.order.Recording.{Op, read, write, bump, fresh, kind, about, accessNumber, opOf, Kind, of-op, of-mark, kindAt}
 use Rattle.theory.specs.order.Path.{clashes}
 
 -- the kinds of access by their numbers
 abbrev pub askers : List Op
-askers = read ∷ write ∷ []
+askers = read ∷ write ∷ bump ∷ []
 
 abbrev pub asker : ℕ → Op
 asker a = getD askers a read

@@ -4,7 +4,7 @@ use mathlib.Core.List.{List}
 use mathlib.Core.Logic.{_≢_}
 use mathlib.Core.Bool.{Bool, _&&_, _||_}
 use lib.Dec.{T}
-use Rattle.theory.specs.order.Recording.{Op, write, take, give, look, set, start, join, fresh, Event, act, At, Every, ActsIn, isAccess, _is_}
+use Rattle.theory.specs.order.Recording.{Op, read, write, bump, take, give, look, set, start, join, fresh, Event, act, At, Every, ActsIn, isAccess, _is_}
 
 -- "step", by what the two records say: the five lines of document 01, in their order. A loss mark has no step to or from it.
 pub data Step : Event → Event → Type 0 where
@@ -28,14 +28,15 @@ pub data HappensBefore (es : List Event) : ℕ → ℕ → Type 0 where
   one : {i j : ℕ} → StepAt es i j → HappensBefore es i j
   more : {i j k : ℕ} → StepAt es i j → HappensBefore es j k → HappensBefore es i k
 
--- which two accesses clash: "at least one writes"
+-- which two accesses clash: "at least one writes", or one is a bump and the other a read: "Two bumps never conflict. A bump conflicts with a read
+-- and with a write"
 unfoldable pub rule : Op → Op → Bool
-rule o p = o is write || p is write
+rule o p = o is write || p is write || (o is bump && p is read) || (o is read && p is bump)
 
 abbrev pub clashes : Op → Op → Bool
 clashes o p = isAccess o && (isAccess p && rule o p)
 
--- "two accesses conflict": the variable is the same, the tasks differ and at least one writes
+-- "two accesses conflict": the variable is the same, the tasks differ and they clash
 pub data Conflict : Event → Event → Type 0 where
   conflict : {o p : Op} {t u v : ℕ} → t ≢ u → T (clashes o p) → Conflict (act o t v) (act p u v)
 

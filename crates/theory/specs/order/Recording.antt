@@ -9,7 +9,7 @@ use Rattle.theory.specs.declared.record.Record.{Record}
 
 -- "op": what an acting task does. `lost` is no op of a task, see below.
 pub data Op : Type 0 where
-  read write take give look set start join fresh miss : Op
+  read write take give look set start join fresh miss bump : Op
 
 -- "record", one that says something: an act, with its op, its acting task and its number (`on`), or a loss mark, with its mask.
 -- A recording is a list of these, in the order in which they came. Record number n, counted from 1, stands at place n - 1 of the list.
@@ -22,7 +22,7 @@ pub data Event : Type 0 where
 pub data Effect : Type 0 where
   keeps begins ends : Effect
 
--- "access": a read or a write. The kinds of access are numbered, for their histories (History.antt)
+-- "access": a read, a write or a bump. The kinds of access are numbered, for their histories (History.antt)
 pub data Access : Type 0 where
   no-access : Access
   access : ℕ → Access
@@ -62,6 +62,7 @@ about start = features 6 tasks no-access false begins
 about join = features 7 tasks no-access false ends
 about fresh = features 9 variables no-access false keeps
 about miss = features 10 semaphores no-access true keeps
+about bump = features 11 variables (access 2) false keeps
 
 abbrev pub kind : Op → ℕ
 kind o = (about o) .kind
@@ -88,7 +89,7 @@ abbrev pub kinds : List Kind
 kinds =
     of-op read ∷ of-op write ∷ of-op take ∷ of-op give ∷ of-op look ∷ of-op set ∷ of-op start ∷ of-op join
     ∷ of-mark
-    ∷ of-op fresh ∷ of-op miss
+    ∷ of-op fresh ∷ of-op miss ∷ of-op bump
     ∷ []
 
 abbrev pub kindAt : ℕ → Kind

@@ -4,7 +4,7 @@ use Prim.Native.Nat.{ℕ, suc}
 use mathlib.Core.Path.{_≡_}
 use mathlib.Core.List.{List, [], _∷_}
 use lib.Dec.{T}
-use Rattle.theory.specs.order.Recording.{Op, read, write, take, give, look, set, start, join, fresh, miss, Event, act, lost, isAccess}
+use Rattle.theory.specs.order.Recording.{Op, read, write, take, give, look, set, start, join, fresh, miss, bump, Event, act, lost, isAccess}
 use Rattle.theory.specs.verdicts.Verdict.{Verdict, Race, Clear, Doubt, With}
 use Rattle.theory.specs.verdicts.Demands.{Firm}
 use Rattle.theory.specs.verdicts.Search.{Finding}
@@ -55,6 +55,13 @@ r0 = act read 0 5
 
 abbrev pub r1 : Event
 r1 = act read 1 5
+
+-- their bumps of it
+abbrev pub b0 : Event
+b0 = act bump 0 5
+
+abbrev pub b1 : Event
+b1 = act bump 1 5
 
 infix 10 _gives_
 abbrev pub table : List Example
@@ -131,4 +138,22 @@ table =
     ∷ (act start 0 2 ∷ w0 ∷ act start 0 1 ∷ act miss 1 4 ∷ act join 2 1 ∷ act read 2 5 ∷ [] gives (2 ∶ Clear with 0) ∷ (6 ∶ Clear with 0) ∷ [])
     -- a mark whose named task may have lost a miss and nothing else
     ∷ (act start 0 2 ∷ act give 0 4 ∷ w0 ∷ act start 0 1 ∷ lost 2 ∷ act join 2 1 ∷ act read 2 5 ∷ [] gives (3 ∶ Clear with 0) ∷ (7 ∶ Doubt with 3) ∷ [])
+    -- F-5: two bumps never conflict
+    ∷ (act start 0 1 ∷ b0 ∷ b1 ∷ [] gives (2 ∶ Clear with 0) ∷ (3 ∶ Clear with 0) ∷ [])
+    -- a bump and a write, a bump and a read, in either order, unordered
+    ∷ (act start 0 1 ∷ w0 ∷ b1 ∷ [] gives (2 ∶ Clear with 0) ∷ (3 ∶ Race with 2) ∷ [])
+    ∷ (act start 0 1 ∷ b0 ∷ w1 ∷ [] gives (2 ∶ Clear with 0) ∷ (3 ∶ Race with 2) ∷ [])
+    ∷ (act start 0 1 ∷ b0 ∷ r1 ∷ [] gives (2 ∶ Clear with 0) ∷ (3 ∶ Race with 2) ∷ [])
+    ∷ (act start 0 1 ∷ r0 ∷ b1 ∷ [] gives (2 ∶ Clear with 0) ∷ (3 ∶ Race with 2) ∷ [])
+    -- and handed over
+    ∷ (act start 0 1 ∷ w0 ∷ act give 0 4 ∷ act take 1 4 ∷ b1 ∷ [] gives (2 ∶ Clear with 0) ∷ (5 ∶ Clear with 0) ∷ [])
+    ∷ (act start 0 1 ∷ b0 ∷ act give 0 4 ∷ act take 1 4 ∷ w1 ∷ [] gives (2 ∶ Clear with 0) ∷ (5 ∶ Clear with 0) ∷ [])
+    ∷ (act start 0 1 ∷ b0 ∷ act give 0 4 ∷ act take 1 4 ∷ r1 ∷ [] gives (2 ∶ Clear with 0) ∷ (5 ∶ Clear with 0) ∷ [])
+    ∷ (act start 0 1 ∷ r0 ∷ act give 0 4 ∷ act take 1 4 ∷ b1 ∷ [] gives (2 ∶ Clear with 0) ∷ (5 ∶ Clear with 0) ∷ [])
+    -- a task's latest access is a bump and its older one a read: against a bump the partner is the read
+    ∷ (act start 0 1 ∷ r0 ∷ b0 ∷ b1 ∷ [] gives (2 ∶ Clear with 0) ∷ (3 ∶ Clear with 0) ∷ (4 ∶ Race with 2) ∷ [])
+    -- a bump across a mark
+    ∷ (act start 0 1 ∷ w0 ∷ lost 3 ∷ b1 ∷ [] gives (2 ∶ Clear with 0) ∷ (4 ∶ Doubt with 2) ∷ [])
+    -- and after a fresh
+    ∷ (act start 0 1 ∷ w0 ∷ act fresh 0 5 ∷ b1 ∷ [] gives (2 ∶ Clear with 0) ∷ (4 ∶ Clear with 0) ∷ [])
     ∷ []
