@@ -103,8 +103,8 @@ static inline uint32_t order_state_any_race(const struct order_state *s) {
     return order_any_race(s->control);
 }
 
-/* The same as order_state_feed by one call that is lent the whole state. It copies the state there and back, 20 kilobytes, so that a record
- * takes some twenty times as long; the two may be mixed. Needs libgateway.a. */
+/* The same as order_state_feed by one call that is lent the whole state. It copies the state there and back, 23 kilobytes, so that a record
+ * takes twenty to fifty times as long; the two may be mixed. Needs libgateway.a. */
 void order_step(struct order_state *s, uint8_t kind, uint32_t task, uint32_t on, uint32_t answer[3]);
 
 /* So many bytes of a line are held at most: no line of more than 64 is a record. */
