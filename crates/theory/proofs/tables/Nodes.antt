@@ -69,20 +69,20 @@ releasedNode o t n = cond (o is give) (semaphore n) (cond (o is set) (flag n) (c
 abbrev pub readNode : Op → ℕ → ℕ → Bool → Node
 readNode o t n joins = cond (o is take) (semaphore n) (cond (o is look) (flag n) (cond ((o is join) && joins) (due n) (due t)))
 
-pub read-row : (o : Op) (t n w : ℕ) (b : List ℕ) → acquiredRow (kind o) t n (joinsActed w b (kind o) n) ≡ row (readNode o t n (ltb 0 (cell w b actedRow n)))
-read-row o t n w b = by-role (role o)
+pub read-row : (o : Op) (t n : ℕ) (joins : Bool) → acquiredRow (kind o) t n (o is join && joins) ≡ row (readNode o t n joins)
+read-row o t n joins = by-role (role o)
   where
     of : (x : Bool) → cond x n t ≡ row (cond x (due n) (due t))
     of true = refl
     of false = refl
 
-    by-role : {o : Op} → Role o → acquiredRow (kind o) t n (joinsActed w b (kind o) n) ≡ row (readNode o t n (ltb 0 (cell w b actedRow n)))
+    by-role : {o : Op} → Role o → acquiredRow (kind o) t n (o is join && joins) ≡ row (readNode o t n joins)
     by-role a-take = refl
     by-role a-give = refl
     by-role a-look = refl
     by-role a-set = refl
     by-role a-start = refl
-    by-role a-join = of (ltb 0 (cell w b actedRow n))
+    by-role a-join = of joins
     by-role (plain x) = rw (x .not-take, x .not-look, x .not-join)
 
 pub released-row : (o : Op) (t n : ℕ) → releasedRow (kind o) t n ≡ row (releasedNode o t n)

@@ -8,7 +8,7 @@ use lib.Dec.{T, eqb}
 use lib.ListN.{length}
 use Rattle.theory.specs.declared.record.Record.{Record}
 use Rattle.theory.specs.declared.masks.Masks.{Masks}
-use Rattle.theory.specs.declared.lazy.Pairs.{Pairs}
+use Rattle.theory.specs.declared.walk.Pairs.{Pairs}
 use Rattle.theory.specs.order.Limits.{tasks}
 use Rattle.theory.specs.order.Recording.{Event, eventOf, accesses}
 use Rattle.theory.specs.order.Path.{HappensBefore}

@@ -7,8 +7,8 @@ use lib.Bits.{bitAnd, bitOr}
 use lib.Dec.{ltb, eqb}
 use lib.ListN.{getD, set, length, replicate, take as firstOf}
 use Rattle.theory.specs.declared.record.Record.{Record}
-use Rattle.theory.specs.declared.lazy.Walk.{Walk}
-use Rattle.theory.specs.declared.lazy.Pairs.{Pairs}
+use Rattle.theory.specs.declared.walk.Walk.{Walk}
+use Rattle.theory.specs.declared.walk.Pairs.{Pairs}
 use Rattle.theory.specs.tables.Turns.{turns}
 use Rattle.theory.specs.order.Limits.{tasks, variables}
 use Rattle.theory.specs.order.Recording.{read, write, take, give, look, set as sets, start, join, fresh, kind, lossMark, accesses, kindAt}
