@@ -2,3 +2,4 @@
 pub mod Columns
 pub mod Longer
 pub mod Tracks
+pub mod Kept
