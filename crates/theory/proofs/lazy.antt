@@ -3,3 +3,5 @@ pub mod Columns
 pub mod Longer
 pub mod Tracks
 pub mod Kept
+pub mod Passed
+pub mod Steps

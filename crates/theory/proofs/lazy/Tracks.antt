@@ -1,7 +1,7 @@
 -- A column of the lazy reckoning tracks one task's pair with an access that comes next: where order from it has come, whether it needs a walk, and
 -- what the walk counts. It does so through each kind of record. Assumes nothing.
 use mathlib.Core.Path.{_≡_, refl, sym, _∙_, ap, subst}
-use mathlib.Core.Bool.{Bool, true, false, cond, not, _&&_}
+use mathlib.Core.Bool.{Bool, true, false, cond, not, _&&_, true≢false}
 use mathlib.Core.Logic.{_↔_, _⊎_, inl, inr, _≢_}
 use mathlib.Core.List.{List, [], _∷_, _++_}
 use Prim.Native.Nat.{ℕ, zero, suc, _+_, _-_, _≤_, _<_, zero-le}
@@ -19,6 +19,7 @@ use Rattle.theory.proofs.basics.Reflects.{Reflects, right, wrong, by-te
 use Rattle.theory.proofs.order.Places.{Occurs, path-later}
 use Rattle.theory.proofs.order.Carry.{Node, due, Acquires, Releases, own-next}
 use Rattle.theory.proofs.order.Carry as Carry
+use Rattle.theory.proofs.order.Ops.{Plain}
 use Rattle.theory.proofs.fillings.Reach.{Reach, Flow, reach-next, leads-reach}
 use Rattle.theory.proofs.fillings.Came.{Came}
 use Rattle.theory.proofs.fillings.HasActed.{Ended}
@@ -80,6 +81,20 @@ comes-to = (to, from)
     from : {o : Op} {k n t : ℕ} → ComesTo t (act o k n) → Releases (act o k n) (due t)
     from (by-act acts) = own-next
     from by-start = Carry.by-start
+
+-- a path to an act of task t that acquires its own task alone is order that has come to t's next act
+pub path-own : {t v u c i : ℕ} {f : Event} {es : List Event} {s : Lazy} {o : Op} (n : ℕ) → t < tasks → Tracks t v u f c es s → Plain o → Final u f es i →
+    HappensBefore (es ++ (act o t n ∷ [])) i (length es) ↔ Has c (s .nodes) t
+path-own {t} {i = i} {o = o} n ht y z a = (
+  λ p. let (m, r, h) = path-next a (act o t n) .0 p in y .follows i a .cells (due t) (due-in ht) .1 (came-final a .1 (subst (Reach arrived (a .x) (a .after)) (only z h) r)),
+  λ h. path-next a (act o t n) .1 (due t, came-final a .0 (y .follows i a .cells (due t) (due-in ht) .0 h), Carry.own),
+)
+  where
+    only : {o : Op} {m : Node} → Plain o → Acquires m (act o t n) → m ≡ due t
+    only z Carry.own = refl
+    only z Carry.by-take = absurd (true≢false (z .not-take))
+    only z Carry.by-look = absurd (true≢false (z .not-look))
+    only z Carry.by-join = absurd (true≢false (z .not-join))
 
 -- A record that leaves the pair, and is not walked
 
