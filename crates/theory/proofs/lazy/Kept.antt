@@ -186,3 +186,15 @@ module _ (q : Record) (k u : ℕ) (hu : u < tasks) where
     keep-other side u′ h hu′ n =
         alike-then (on-other w byEnd (omega arith) (column side u′) (omega arith) (λ z. n (omega arith)))
         (on-other (on-whole w byEnd (omega arith)) byWrite (omega arith) (column side u′) (omega arith) (λ z. n (omega arith)))
+
+-- who has acted is not touched
+pub keep-acted : (q : Record) (k u : ℕ) (s : Lazy) → (keepAnew q k u s) .walk .acted ≡ s .walk .acted
+unfolding keepOn
+keep-acted q k u s = on-acted byWrite (keepOn q k u byEnd s) ∙ on-acted byEnd s
+  where
+    on-acted : (side : ℕ) (s : Lazy) → (keepOn q k u side s) .walk .acted ≡ s .walk .acted
+    on-acted side s = decided (kindClashes (kindAt k) (asker (askerOn q side)))
+      where
+        decided : (b : Bool) → (cond b (beginColumn (column side u) u s) s) .walk .acted ≡ s .walk .acted
+        decided true = refl
+        decided false = refl

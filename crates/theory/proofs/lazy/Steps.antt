@@ -23,6 +23,7 @@ use Rattle.theory.specs.lazy.Fold.{Lazy, wordAt, byEnd, byWrite, column,
 use Rattle.theory.proofs.basics.Reflects.{Reflects, right, wrong, by-test, equal, is-true, either}
 use Rattle.theory.proofs.acceptance.Rows.{ActAllowed}
 use Rattle.theory.proofs.order.Ops.{Plain, kindAt-kind, same-op, access-kind}
+use Rattle.theory.proofs.order.Places.{Occurs}
 use Rattle.theory.proofs.order.Tests.{some-snoc, snoc-some, snoc-last}
 use Rattle.theory.proofs.fillings.Reach.{nobody-named}
 use Rattle.theory.proofs.fillings.HasActed.{Acted, Ended, ended-mark, mark-came, came-mark, Seen}
@@ -35,8 +36,13 @@ use Rattle.theory.proofs.verdicts.Latest.{Final}
 use Rattle.theory.proofs.lazy.Columns.{flow-bit, flow-length, arrived-at, arrived-length, zero-bits, none-of-zero, unordered-test}
 use Rattle.theory.proofs.lazy.Longer.{PairOf, pair-keeps, Stays, Asked, final-back, final-short, circuit-old, circuit-back, circuit-new}
 use Rattle.theory.proofs.lazy.Tracks.{Has, Tracks, Untouched, tracks-on, tracks-walked, tracks-anew, tracks-none, path-own}
-use Rattle.theory.proofs.lazy.Kept.{Whole, Alike, alike, Begun, Clash, keep-whole, keep-own, keep-off, keep-other}
+use Rattle.theory.proofs.lazy.Kept.{Whole, Alike, alike, Begun, keep-acted, keep-whole, keep-own, keep-off, keep-other}
 use Rattle.theory.proofs.lazy.Passed.{none-over, Walked, walked, unwalked, walked-of, ended-on, follows-flow, follows-plain, stays-own, asked-own}
+
+-- the task of an act
+abbrev task-of : Event → ℕ
+task-of (act o k n) = k
+task-of (lost mask) = 0
 
 module _ (p : Op) (t v : ℕ) (isa : T (isAccess p)) (ht : t < tasks) where
   -- The question, and what it asks on each side
@@ -176,3 +182,165 @@ module _ (p : Op) (t v : ℕ) (isa : T (isAccess p)) (ht : t < tasks) where
             acting = acted-now;
             tracks = λ side u hs hu. leaves side u hs hu z (st side u) apart (record { untouched = record { pairs = refl; nodes = λ r h. refl; counts = refl; walked = refl }; known = refl });
           }
+
+      -- A fresh of the variable
+
+      empties-all : Plain o → o ≡ fresh → n ≡ v → Lazily (es ++ (x ∷ [])) (emptied (noted k s))
+      empties-all z e d =
+          record {
+            whole = record { nodes = y .whole .nodes; counts = y .whole .counts };
+            acting = acted-now;
+            tracks = λ side u hs hu.
+                let w = y .tracks side u hs hu in
+                tracks-none es x (ended-on o k n es hn seen allowed u (asking side) flag flagged (w .ended)) (λ i a. gone side u (final-back x es a))
+                (λ h. subst T (none-of-zero (column side u)) h) (λ h. subst T (none-of-zero (column side u)) h);
+          }
+        where
+          empty : (side : ℕ) → Empties x (asking side)
+          empty side = rw (e, d) empties
+
+          gone : (side u : ℕ) {i : ℕ} → (Stays u (asking side) x × Final u (asking side) es i) ⊎ ((i ≡ length es) × Asked u (asking side) x) → ⊥
+          gone side u (inl (st, a)) = st .1 (empty side)
+          gone side u (inr (q, a)) = subst (λ (b : Op). ¬ T (isAccess b)) (sym e) (λ h. h) (clash-access o (askedBy side) (asked-of side a .3))
+
+      -- An access of another task to the variable
+
+      begins-own : Plain o → (o is fresh) ≡ false → n ≡ v → k ≢ t → Lazily (es ++ (x ∷ [])) (keepAnew asked-for (kind o) k (noted k s))
+      begins-own z not-fresh d apart =
+          record { whole = keep-whole asked-for (kind o) k hk here; acting = λ u hu. rw same-acted (acted-now u hu); tracks = λ side u hs hu. decided side u hs hu (equal u k) }
+        where
+          here : Whole (noted k s)
+          here = record { nodes = y .whole .nodes; counts = y .whole .counts }
+
+          same-acted : (keepAnew asked-for (kind o) k (noted k s)) .walk .acted ≡ withBit k (s .walk .acted)
+          same-acted = keep-acted asked-for (kind o) k (noted k s)
+
+          from-noted : {c : ℕ} {s′ : Lazy} → Alike c (noted k s) s′ → Alike c s s′
+          from-noted e =
+              record {
+                untouched = record { pairs = e .untouched .pairs; nodes = e .untouched .nodes; counts = e .untouched .counts; walked = e .untouched .walked };
+                known = e .known;
+              }
+
+          no-write : ¬ (x ≡ act write t v)
+          no-write e = apart (ap task-of e)
+
+          no-empty : (side : ℕ) → ¬ Empties x (asking side)
+          no-empty side e = true≢false (sym (is-fresh (emptied-of side e .0)) ∙ not-fresh)
+            where
+              is-fresh : o ≡ fresh → (o is fresh) ≡ true
+              is-fresh q = rw q
+
+          anew : (side u : ℕ) → side < 2 → u < tasks → u ≡ k → T (clashes o (askedBy side)) →
+              Tracks t v u (asking side) (column side u) (es ++ (x ∷ [])) (keepAnew asked-for (kind o) k (noted k s))
+          anew side u hs hu e c =
+              tracks-anew es x (ended-on o k n es hn seen allowed u (asking side) flag flagged (w .ended)) asks (subst T (sym (b .pairs)) tt) (λ h. subst T (b .known) h)
+              (λ h. away (subst T (b .nodes t (omega arith)) h)) (b .counts)
+              (follows-plain o k n es hn seen allowed u (asking side) flag flagged (w .ended) z
+              (asked-own o k n es hn seen allowed u (asking side) flag flagged (w .ended) asks (λ r h. at r (b .nodes r h))))
+            where
+              w : Tracks t v u (asking side) (column side u) es s
+              w = y .tracks side u hs hu
+
+              b : Begun (column side u) k (keepAnew asked-for (kind o) k (noted k s))
+              b = subst (λ (i : ℕ). Begun (column side i) k (keepAnew asked-for (kind o) k (noted k s))) (sym e) (keep-own asked-for (kind o) k hk here side hs (subst T (sym (clash-side o side)) c))
+
+              asks : Asked u (asking side) x
+              asks = rw (e, d) (acts, conflict apart c)
+
+              away : ¬ T (eqb t k)
+              away h = subst T (ne-eqb t k (λ i. apart (sym i))) h
+
+              at : (r : ℕ) {bit′ : Bool} → bit′ ≡ eqb r k → T bit′ ↔ (r ≡ k)
+              at r i = rw i (decide (equal r k))
+                where
+                  decide : {c : Bool} → Reflects (r ≡ k) c → T c ↔ (r ≡ k)
+                  decide (right q) = (λ _. q, λ _. tt)
+                  decide (wrong m) = (λ h. absurd h, λ q. absurd (m q))
+
+          decided : (side u : ℕ) → side < 2 → u < tasks → {b : Bool} → Reflects (u ≡ k) b → Tracks t v u (asking side) (column side u) (es ++ (x ∷ [])) (keepAnew asked-for (kind o) k (noted k s))
+          decided side u hs hu (wrong m) =
+              leaves side u hs hu z ((λ a. m (asked-of side a .0)), no-empty side) no-write (from-noted (keep-other asked-for (kind o) k hk here side u hs hu m))
+          decided side u hs hu (right e) = clash (by-test (clashes o (askedBy side)))
+            where
+              clash : {b : Bool} → Reflects (T (clashes o (askedBy side))) b → Tracks t v u (asking side) (column side u) (es ++ (x ∷ [])) (keepAnew asked-for (kind o) k (noted k s))
+              clash (right c) = anew side u hs hu e c
+              clash (wrong c) =
+                  leaves side u hs hu z ((λ a. c (asked-of side a .3)), no-empty side) no-write
+                  (from-noted (subst (λ (i : ℕ). Alike (column side i) (noted k s) (keepAnew asked-for (kind o) k (noted k s))) (sym e)
+                  (keep-off asked-for (kind o) k hk here side hs (λ i. c (subst T (clash-side o side) i)))))
+
+      -- A write of the variable by the acting task
+
+      own-write : Plain o → o ≡ write → k ≡ t → n ≡ v → Lazily (es ++ (x ∷ [])) (shortened (wordAt (s .nodes) t) (noted k s))
+      own-write z eo ek en =
+          record {
+            whole = record { nodes = y .whole .nodes; counts = y .whole .counts };
+            acting = acted-now;
+            tracks = λ side u hs hu.
+                let w = y .tracks side u hs hu in
+                tracks-on x ht w (stays side u) (none-over z) (record { pairs = refl; nodes = λ r h. refl; counts = refl; walked = refl })
+                (ended-on o k n es hn seen allowed u (asking side) flag flagged (w .ended))
+                (λ i a.
+                follows-plain o k n es hn seen allowed u (asking side) flag flagged (w .ended) z
+                (stays-own o k n es hn seen allowed u (asking side) flag flagged (w .ended) (stays side u) (w .follows i a)))
+                (cut side u hs hu (unordered-test (s .walk .pairs) (wordAt (s .nodes) t)));
+          }
+        where
+          event : x ≡ act write t v
+          event = rw (eo, ek, en)
+
+          stays : (side u : ℕ) → Stays u (asking side) x
+          stays side u = (λ a. asked-of side a .2 ek, λ e. subst (λ (b : Op). ¬ (b ≡ fresh)) (sym eo) (λ i. write-fresh i) (emptied-of side e .0))
+            where
+              write-fresh : ¬ (write ≡ fresh)
+              write-fresh i = true≢false (ap (λ (b : Op). b is write) i)
+
+          -- a path to it is order that has come to the acting task
+          path : (u : ℕ) (hu : u < tasks) {i : ℕ} → Final u (asking byWrite) es i → HappensBefore (es ++ (x ∷ [])) i (length es) ↔ Has (column byWrite u) (s .nodes) t
+          path u hu {i} a =
+              subst (λ (e : Event). HappensBefore (es ++ (e ∷ [])) i (length es) ↔ Has (column byWrite u) (s .nodes) t) (sym event)
+              (path-own v ht (y .tracks byWrite u (omega arith) hu) (subst Plain eo z) a)
+
+          as-write : (u : ℕ) {i : ℕ} → Final u x es i → Final u (asking byWrite) es i
+          as-write u {i} a = subst (λ (e : Event). Final u e es i) event a
+
+          in-range : {u : ℕ} {i : ℕ} → Final u x es i → u < tasks
+          in-range a = of (a .against .by) (a .occurs)
+            where
+              of : {u i : ℕ} {e : Event} {after : List Event} → ActsIn u e → Occurs es i e after → u < tasks
+              of acts o = ranged .in-range _ _ _ _ _ o .0
+
+          cut : (side u : ℕ) → side < 2 → u < tasks → {b : Bool} →
+              Reflects ((m : ℕ) × (m < tasks) × T (bit (s .walk .pairs) (column byWrite m)) × (¬ T (bit (wordAt (s .nodes) t) (column byWrite m)))) b →
+              T (bit (cond b (s .walk .known) (s .walk .pairs)) (column side u)) ↔ ((i : ℕ) × Final u (asking side) es i × ShortCircuit (es ++ (x ∷ [])) t v i (suc (length es)))
+          cut side u hs hu (right (m, hm, pair, none)) = (
+            λ h. let (i, a, d) = w .known .0 h in (i, a, circuit-old es x d),
+            λ d. w .known .1 (d .0, d .1, of (circuit-back es x (d .2))),
+          )
+            where
+              w : Tracks t v u (asking side) (column side u) es s
+              w = y .tracks side u hs hu
+
+              of : {i : ℕ} → ShortCircuit es t v i (length es) ⊎ ((x ≡ act write t v) × ((u m : ℕ) → Final u x es m → HappensBefore (es ++ (x ∷ [])) m (length es))) → ShortCircuit es t v i (length es)
+              of (inl d) = d
+              of (inr (_, f)) =
+                  let (i, a) = y .tracks byWrite m (omega arith) hm .pair .0 pair in
+                  absurd (none (path m hm a .0 (f m i (subst (λ (e : Event). Final m e es i) (sym event) a))))
+          cut side u hs hu (wrong none) = (
+            λ h. let (i, a) = w .pair .0 h in (i, a, circuit-new es x (final-short a) event (λ m j b. ordered m j b)),
+            λ d. w .pair .1 (d .0, d .1),
+          )
+            where
+              w : Tracks t v u (asking side) (column side u) es s
+              w = y .tracks side u hs hu
+
+              ordered : (m j : ℕ) → Final m x es j → HappensBefore (es ++ (x ∷ [])) j (length es)
+              ordered m j b = path m hm (as-write m b) .1 (decided (by-test (bit (wordAt (s .nodes) t) (column byWrite m))))
+                where
+                  hm : m < tasks
+                  hm = in-range b
+
+                  decided : {c : Bool} → Reflects (Has (column byWrite m) (s .nodes) t) c → Has (column byWrite m) (s .nodes) t
+                  decided (right h) = h
+                  decided (wrong f) = absurd (none (m, hm, y .tracks byWrite m (omega arith) hm .pair .1 (j, as-write m b), f))
