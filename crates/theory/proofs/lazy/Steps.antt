@@ -3,7 +3,7 @@ use mathlib.Core.Path.{_≡_, refl, sym, _∙_, ap, subst}
 use mathlib.Core.Bool.{Bool, true, false, cond, not, _||_, _&&_, true≢false}
 use mathlib.Core.Logic.{_↔_, _⊎_, inl, inr, _≢_}
 use mathlib.Core.List.{List, [], _∷_, _++_}
-use Prim.Native.Nat.{ℕ, suc, _+_, _<_}
+use Prim.Native.Nat.{ℕ, suc, _+_, _-_, _<_}
 use native.Mathlib.Numerals.{add-one}
 use native.Mathlib.Omega.{arith}
 use borrow.Author.Tests.{eq-eqb, ne-eqb}
@@ -16,10 +16,10 @@ use Rattle.theory.specs.order.Path.{HappensBefore, clashes, Conflict, co
 use Rattle.theory.specs.fillings.Completion.{bit, arrived, Named}
 use Rattle.theory.specs.acceptance.Table.{standing}
 use Rattle.theory.specs.history.History.{asker, askAt, kindClashes}
-use Rattle.theory.specs.tables.Rows.{hub, releasedRow}
+use Rattle.theory.specs.tables.Rows.{hub, acquiredRow, releasedRow}
 use Rattle.theory.specs.tables.Reckonings.{wordBits, withBit}
 use Rattle.theory.specs.lazy.Walk.{HandsOver, ShortCircuit}
-use Rattle.theory.specs.lazy.Fold.{Lazy, wordAt, byEnd, byWrite, column, askerOn, walkable, noted, unordered, shortened, accessed, emptied, flowed, stepped, walkedOver, ofVariable, acted, keepAnew}
+use Rattle.theory.specs.lazy.Fold.{Lazy, wordAt, byEnd, byWrite, column, askerOn, walkable, noted, unordered, shortened, accessed, emptied, flowed, stepped, walkedOver, ofVariable, acted, keepAnew, arrivedNow}
 use Rattle.theory.proofs.basics.Reflects.{Reflects, right, wrong, by-test, equal, is-true, either}
 use Rattle.theory.proofs.acceptance.Rows.{ActAllowed}
 use Rattle.theory.proofs.order.Ops.{Plain, kindAt-kind, same-op, access-kind}
@@ -39,7 +39,16 @@ use Rattle.theory.proofs.lazy.Tracks.{Has, Tracks, Untouched, tracks-on
 use Rattle.theory.proofs.lazy.Kept.{Whole, Alike, alike, Begun, keep-acted, keep-whole, keep-own, keep-off, keep-other}
 use Rattle.theory.proofs.lazy.Passed.{none-over, Walked, walked, unwalked, walked-of, ended-on, follows-flow, follows-plain, stays-own, asked-own}
 
--- the task of an act
+-- what an act says
+
+abbrev op-of-event : Event → Op
+op-of-event (act o k n) = o
+op-of-event (lost mask) = fresh
+
+abbrev on-of-event : Event → ℕ
+on-of-event (act o k n) = n
+on-of-event (lost mask) = 0
+
 abbrev task-of : Event → ℕ
 task-of (act o k n) = k
 task-of (lost mask) = 0
@@ -344,3 +353,106 @@ module _ (p : Op) (t v : ℕ) (isa : T (isAccess p)) (ht : t < tasks) where
                   decided : {c : Bool} → Reflects (Has (column byWrite m) (s .nodes) t) c → Has (column byWrite m) (s .nodes) t
                   decided (right h) = h
                   decided (wrong f) = absurd (none (m, hm, y .tracks byWrite m (omega arith) hm .pair .1 (j, as-write m b), f))
+
+      -- A record that is walked
+
+      abbrev after : List ℕ
+      after = flowed (withBit k (s .walk .acted)) (kind o) k n (s .nodes)
+
+      walks-on : HandsOver x → ¬ T (isAccess o) → (o is fresh) ≡ false → Lazily (es ++ (x ∷ [])) (walkedOver asked-for (kind o) k n (noted k s))
+      unfolding walkedOver
+      walks-on over no-access not-fresh =
+          record {
+            whole = record { nodes = sized (eqb (s .walk .pairs) 0); counts = arrived-length _ _ _ (s .counts) ∙ y .whole .counts };
+            acting = acted-now;
+            tracks = λ side u hs hu. on side u hs hu;
+          }
+        where
+          sized : (b : Bool) → length (cond b (s .nodes) after) ≡ hub
+          sized true = y .whole .nodes
+          sized false = flow-length (withBit k (s .walk .acted)) (kind o) k n (s .nodes) ∙ y .whole .nodes
+
+          released : releasedRow (kind o) k n < hub
+          released = rw (released-row o k n) (row-below (released-in o hk hn))
+
+          flows : (c r : ℕ) → Has c after r ↔ (Has c (s .nodes) r ⊎ (((r ≡ k) ⊎ ((r ≡ releasedRow (kind o) k n) ⊎ (r ≡ k))) × (Has c (s .nodes) k ⊎ Has c (s .nodes) (acquiredRow (kind o) k n (o is join && flag)))))
+          flows c r = flow-bit (withBit k (s .walk .acted)) (kind o) k n (s .nodes) r c (y .whole .nodes) hk released
+
+          no-write : ¬ (x ≡ act write t v)
+          no-write e = no-access (subst (λ (b : Op). T (isAccess b)) (sym (ap op-of-event e)) tt)
+
+          on : (side u : ℕ) → side < 2 → u < tasks → Tracks t v u (asking side) (column side u) (es ++ (x ∷ [])) (stepped asked-for (cond (eqb (s .walk .pairs) 0) (s .nodes) after) (noted k s))
+          on side u hs hu =
+              tracks-walked x ht w st (stepped asked-for (cond (eqb (s .walk .pairs) 0) (s .nodes) after) (noted k s)) refl over (λ i a h. kept (eqb (s .walk .pairs) 0) h) refl refl
+              (add-one (s .walk .walked)) counted (λ i a. follows i a (eqb (s .walk .pairs) 0) refl) (ended-on o k n es hn seen allowed u (asking side) flag flagged (w .ended)) no-write
+            where
+              w : Tracks t v u (asking side) (column side u) es s
+              w = y .tracks side u hs hu
+
+              st : Stays u (asking side) x
+              st = (λ a. no-access (clash-access o (askedBy side) (asked-of side a .3)), λ e. true≢false (sym (is-fresh (emptied-of side e .0)) ∙ not-fresh))
+                where
+                  is-fresh : o ≡ fresh → (o is fresh) ≡ true
+                  is-fresh q = rw q
+
+              kept : (b : Bool) → Has (column side u) (s .nodes) t → Has (column side u) (cond b (s .nodes) after) t
+              kept true h = h
+              kept false h = flows (column side u) t .1 (inl h)
+
+              counted : getD (arrivedNow (wordAt (s .nodes) t) (wordAt (cond (eqb (s .walk .pairs) 0) (s .nodes) after) t) (s .walk .walked + 1) (s .counts)) (column side u) 0
+                  ≡ cond (bit (wordAt (cond (eqb (s .walk .pairs) 0) (s .nodes) after) t) (column side u) && not (bit (wordAt (s .nodes) t) (column side u)))
+                  (suc (s .walk .walked) - getD (s .counts) (column side u) 0) (getD (s .counts) (column side u) 0)
+              counted = rw (add-one (s .walk .walked)) (arrived-at _ _ (suc (s .walk .walked)) (s .counts) (column side u) (y .whole .counts) (omega arith))
+
+              follows : (i : ℕ) → Final u (asking side) es i → (b : Bool) → eqb (s .walk .pairs) 0 ≡ b →
+                  Follows (Has (column side u) (cond b (s .nodes) after)) arrived (PairOf u (asking side)) (es ++ (x ∷ [])) 0
+              follows i a true e = absurd (subst T (zero-bits (s .walk .pairs) e (column side u)) (w .pair .1 (i, a)))
+              follows i a false e =
+                  follows-flow o k n es hn seen allowed u (asking side) flag flagged (w .ended)
+                  (stays-own o k n es hn seen allowed u (asking side) flag flagged (w .ended) st (w .follows i a)) (flows (column side u))
+
+      -- Any act
+
+      pub lazily-act : Lazily (es ++ (x ∷ [])) (acted asked-for (kind o) k n s)
+      unfolding acted accessed
+      lazily-act = by-walk (walked-of o k n)
+        where
+          no-clash : ¬ T (isAccess o) → (side u : ℕ) → ¬ Asked u (asking side) x
+          no-clash m side u a = m (clash-access o (askedBy side) (asked-of side a .3))
+
+          access-write : o ≡ write → T (isAccess o)
+          access-write q = subst (λ (b : Op). T (isAccess b)) (sym q) tt
+
+          -- an access or a fresh of the variable
+          of-variable : Plain o → n ≡ v → {f : Bool} → Reflects (o ≡ fresh) f → {own : Bool} → Reflects (k ≡ t) own → {w : Bool} → Reflects (o ≡ write) w →
+              Lazily (es ++ (x ∷ []))
+              (cond f (emptied (noted k s)) (cond own (cond w (shortened (wordAt (s .nodes) k) (noted k s)) (noted k s)) (keepAnew asked-for (kind o) k (noted k s))))
+          of-variable z e (right f) own w = empties-all z f e
+          of-variable z e (wrong f) (wrong m) w = begins-own z (is-false f) e m
+            where
+              is-false : ¬ (o ≡ fresh) → (o is fresh) ≡ false
+              is-false m = decided (same-op o fresh)
+                where
+                  decided : {b : Bool} → Reflects (o ≡ fresh) b → b ≡ false
+                  decided (right q) = absurd (m q)
+                  decided (wrong _) = refl
+          of-variable z e (wrong f) (right m) (right w) =
+              subst (λ (i : ℕ). Lazily (es ++ (x ∷ [])) (shortened (wordAt (s .nodes) i) (noted k s))) (sym m) (own-write z w m e)
+          of-variable z e (wrong f) (right m) (wrong w) = quiet z (λ side u. (λ a. asked-of side a .2 m, λ a. f (emptied-of side a .0))) (λ a. w (ap op-of-event a))
+
+          -- a plain act
+          plain-act : Plain o → {a : Bool} → Reflects (T (isAccess o) ⊎ (o ≡ fresh)) a → {b : Bool} → Reflects (n ≡ v) b →
+              Lazily (es ++ (x ∷ []))
+              (cond a
+              (cond b
+              (cond (o is fresh) (emptied (noted k s)) (cond (eqb k t) (cond (o is write) (shortened (wordAt (s .nodes) k) (noted k s)) (noted k s)) (keepAnew asked-for (kind o) k (noted k s))))
+              (noted k s))
+              (noted k s))
+          plain-act z (wrong m) b =
+              quiet z (λ side u. (no-clash (λ h. m (inl h)) side u, λ a. m (inr (emptied-of side a .0)))) (λ a. m (inl (access-write (ap op-of-event a))))
+          plain-act z (right m) (wrong d) = quiet z (λ side u. (λ a. d (asked-of side a .1), λ a. d (emptied-of side a .1))) (λ a. d (ap on-of-event a))
+          plain-act z (right m) (right d) = of-variable z d (same-op o fresh) (equal k t) (same-op o write)
+
+          by-walk : {b : Bool} → Walked o k n b → Lazily (es ++ (x ∷ [])) (cond b (walkedOver asked-for (kind o) k n (noted k s)) (cond (accesses (kind o) || o is fresh) (ofVariable asked-for (kind o) k n (noted k s)) (noted k s)))
+          by-walk (walked h m f) = walks-on h m f
+          by-walk (unwalked z) = rw (access-kind o) (plain-act z (either (by-test (isAccess o)) (same-op o fresh)) (equal n v))
