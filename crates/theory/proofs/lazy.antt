@@ -5,3 +5,5 @@ pub mod Tracks
 pub mod Kept
 pub mod Passed
 pub mod Steps
+pub mod Followed
+pub mod Answer

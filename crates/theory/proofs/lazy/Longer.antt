@@ -228,6 +228,17 @@ module _ (es : List Event) (x : Event) where
         had-paths = λ u m a. p u m (pair-final es x .0 a);
       }
 
+  -- with the last record behind it, a short circuit is what it was
+  pub circuit-end : {t v i : ℕ} → ShortCircuit es t v i (length es) ↔ ShortCircuit (es ++ (x ∷ [])) t v i (length es)
+  circuit-end = (
+    λ c.
+        let l = c .before in
+        record { j = c .j; after = c .after; before = l; writes = at-old x (c .writes); had-paths = λ u m a. path-old x (c .had-paths u m (latest-back es x a l)) },
+    λ c.
+        let l = c .before in
+        record { j = c .j; after = c .after; before = l; writes = at-back es x (c .writes) l; had-paths = λ u m a. path-back es x (c .had-paths u m (latest-old x a)) l },
+  )
+
 -- Counts
 
 -- of places that are none of them

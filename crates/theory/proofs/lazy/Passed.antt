@@ -1,6 +1,6 @@
 -- An act that order passes over, or does not: which ops a walk counts, and that a column follows order through them. Assumes nothing.
 use mathlib.Core.Path.{_≡_, refl, sym, _∙_, ap, subst}
-use mathlib.Core.Bool.{Bool, true, false, _||_, _&&_, true≢false}
+use mathlib.Core.Bool.{Bool, true, false, _&&_, true≢false}
 use mathlib.Core.Logic.{_↔_, _⊎_, inl, inr}
 use mathlib.Core.List.{List, [], _∷_, _++_}
 use Prim.Native.Nat.{ℕ, _<_, zero-le}
@@ -14,6 +14,7 @@ use Rattle.theory.specs.lazy.Walk.{HandsOver, takes, gives, looks, sets,
 use Rattle.theory.specs.lazy.Fold.{walkable}
 use Rattle.theory.proofs.acceptance.Rows.{ActAllowed}
 use Rattle.theory.proofs.order.Ops.{Plain, Role, a-take, a-give, a-look, a-set, a-start, a-join, plain, role}
+use Rattle.theory.proofs.order.Numbered.{or-true}
 use Rattle.theory.proofs.order.Carry.{Node, due, Releases}
 use Rattle.theory.proofs.fillings.Came.{Came, Newly}
 use Rattle.theory.proofs.fillings.HasActed.{Acted, Ended, ended-act, Seen, arrived-restricts, starts-unseen}
@@ -48,9 +49,12 @@ walked-of o k n = by-role (role o)
     by-role a-join = walked joins (λ t. t) refl
     by-role (plain x) = rw (x .not-take, x .not-give, x .not-look, x .not-set, x .not-start, x .not-join) (unwalked x)
 
-or-true : (b : Bool) → (b || true) ≡ true
-or-true true = refl
-or-true false = refl
+-- an access is plain
+pub access-plain : (o : Op) → T (isAccess o) → Plain o
+access-plain o a = by-role (role o) a
+  where
+    by-role : {o : Op} → Role o → T (isAccess o) → Plain o
+    by-role (plain x) a = x
 
 -- One column over an act
 

@@ -1,0 +1,111 @@
+-- The lazy reckoning answers what document 02 asks of it, for every list of records. The statement is in specs/lazy/Answer.antt. Assumes nothing.
+use mathlib.Core.Path.{_≡_, refl, sym, _∙_, ap, subst}
+use mathlib.Core.Bool.{Bool, true, false, cond, not, _&&_, true≢false}
+use mathlib.Core.Logic.{_↔_, _⊎_, inl, inr, _≢_}
+use mathlib.Core.List.{List, [], _∷_, _++_}
+use Prim.Native.Nat.{ℕ, zero, suc, _-_, _%_, _^_, _≤_, _<_, zero-le}
+use native.Mathlib.Omega.{arith}
+use borrow.Author.Tests.{lt-ltb}
+use lib.Bits.{bitAnd}
+use lib.Dec.{T, eqb, ltb}
+use lib.ListN.{length, length-append, getD, take}
+use Rattle.theory.specs.declared.record.Record.{Record}
+use Rattle.theory.specs.declared.walk.Pairs.{Pairs}
+use Rattle.theory.specs.order.Limits.{tasks, variables}
+use Rattle.theory.specs.order.Recording.{Op, read, Event, act, kind, opOf, eventOf, isAccess, accesses, _is_}
+use Rattle.theory.specs.order.Path.{HappensBefore, Conflict, conflict}
+use Rattle.theory.specs.fillings.Completion.{bit}
+use Rattle.theory.specs.acceptance.Table.{refusal, recordedAfter, extended, recording}
+use Rattle.theory.specs.verdicts.Verdict.{Latest}
+use Rattle.theory.specs.feeding.Step.{freshControl}
+use Rattle.theory.specs.feeding.Feeding.{refusalsAfter}
+use Rattle.theory.specs.feeding.Paths.{sets, leftBy, Kept}
+use Rattle.theory.specs.lazy.Walk.{Walks, Counted, ShortCircuit, WalkOf, no-pair, no-walk, walk, Between, pair}
+use Rattle.theory.specs.lazy.Fold.{Lazy, wordAt, byEnd, column, pairsOf, walkBy, walks, told, asksInRange, question, answeredAt, ending, lazyEnd, Run, followed, freshLazy, lazily}
+use Rattle.theory.specs.lazy.Answer.{firstRefused, fedRefusal, Told, AnswersLazily}
+use Rattle.theory.proofs.basics.Reflects.{Reflects, right, wrong, by-test, equal, is-true}
+use Rattle.theory.proofs.order.Ops.{Plain, event-act, opOf-kind}
+use Rattle.theory.proofs.acceptance.ControlTable.{same-refusal}
+use Rattle.theory.proofs.history.Numbers.{number-final, final-number}
+use Rattle.theory.proofs.verdicts.Latest.{Final}
+use Rattle.theory.proofs.feeding.Simulation.{after-all, sets-simulate}
+use Rattle.theory.proofs.feeding.Paths.{set-paths}
+use Rattle.theory.proofs.feeding.Asked.{AccessShape, an-access, access-shape, sets-tell}
+use Rattle.theory.proofs.lazy.Columns.{low-bit, and-bit, sum-walks, walks-least}
+use Rattle.theory.proofs.lazy.Longer.{pair-final, final-one, counted-old, counted-fewer, circuit-end}
+use Rattle.theory.proofs.lazy.Tracks.{Has, StandsFor, Tracks, path-own}
+use Rattle.theory.proofs.lazy.Passed.{access-plain}
+use Rattle.theory.proofs.lazy.Steps.{asked-for, asking, Lazily}
+use Rattle.theory.proofs.lazy.Followed.{Holds, Over, follows-list, fresh-holds, first-after}
+
+-- What is told of an access at the end
+
+module _ (p : Op) (t v : ℕ) (isa : T (isAccess p)) (ht : t < tasks) (es : List Event) (s : Lazy) (y : Lazily p t v isa ht es s) where
+  abbrev f : Event
+  f = act p t v
+
+  abbrev all : List Event
+  all = es ++ (f ∷ [])
+
+  abbrev own : ℕ
+  own = wordAt (s .nodes) t
+
+  tracked : (u : ℕ) → u < tasks → Tracks t v u f u es s
+  tracked u hu = let e : column byEnd u ≡ u = omega arith in subst (λ (c : ℕ). Tracks t v u f c es s) e (y .tracks byEnd u (omega arith) hu)
+
+  pairs-told : (u : ℕ) → u < tasks → T (bit (s .walk .pairs) u) ↔ ((i : ℕ) × Latest all u i (length es))
+  pairs-told u hu = (
+    λ h. let (i, a) = tracked u hu .pair .0 h in (i, pair-final es f .1 a),
+    λ d. tracked u hu .pair .1 (d .0, pair-final es f .0 (d .1)),
+  )
+
+  path-told : (u : ℕ) (hu : u < tasks) {i : ℕ} → Latest all u i (length es) → HappensBefore all i (length es) ↔ T (bit own u)
+  path-told u hu l = path-own v ht (tracked u hu) (access-plain p isa) (pair-final es f .0 l)
+
+  paths-told : (u : ℕ) → u < tasks → T (bit (s .walk .pairs) u && bit own u) ↔ ((i : ℕ) × Latest all u i (length es) × HappensBefore all i (length es))
+  paths-told u hu = (
+    λ h. let (a, b) = split (bit (s .walk .pairs) u) (bit own u) h in let (i, l) = pairs-told u hu .0 a in (i, l, path-told u hu l .1 b),
+    λ d. joint (bit (s .walk .pairs) u) (bit own u) (pairs-told u hu .1 (d .0, d .1)) (path-told u hu (d .1) .0 (d .2)),
+  )
+    where
+      split : (a b : Bool) → T (a && b) → T a × T b
+      split true b h = (tt, h)
+      split false b h = absurd h
+
+      joint : (a b : Bool) → T a → T b → T (a && b)
+      joint true b h l = l
+      joint false b h l = h
+
+  -- The walks
+
+  walk-told : (u : ℕ) → u < tasks → WalkOf all t v (length es) u (walkBy own s u)
+  walk-told u hu = decided (by-test (bit (s .walk .pairs) u)) (by-test (bit (s .walk .known) u))
+    where
+      w : Tracks t v u f u es s
+      w = tracked u hu
+
+      counted : {i m : ℕ} (b : Bool) → Counted (Walks es t i) (length es) m → StandsFor b (getD (s .counts) u 0) (s .walk .walked) m →
+          Counted (Walks all t i) (length es) (cond b (getD (s .counts) u 0) (s .walk .walked - getD (s .counts) u 0))
+      counted {i} {m} true c e = subst (Counted (Walks all t i) (length es)) (sym e) (counted-old es f (omega arith) c)
+      counted {i} {m} false c e =
+          let q : s .walk .walked - getD (s .counts) u 0 ≡ m = omega arith in
+          subst (Counted (Walks all t i) (length es)) (sym q) (counted-old es f (omega arith) c)
+
+      decided : {a b : Bool} → Reflects (T (bit (s .walk .pairs) u)) a → Reflects (T (bit (s .walk .known) u)) b →
+          WalkOf all t v (length es) u (cond (a && not b) (cond (bit own u) (getD (s .counts) u 0) (s .walk .walked - getD (s .counts) u 0)) 0)
+      decided (wrong n) k = no-pair (λ i l. n (pairs-told u hu .1 (i, l)))
+      decided (right h) (right k) = let (i, a, c) = w .known .0 k in no-walk (pair-final es f .1 a) (circuit-end es f .0 c)
+      decided (right h) (wrong n) =
+          let (i, a) = w .pair .0 h in
+          let (m, c, e) = w .counts i a in
+          walk (pair-final es f .1 a) (λ d. n (w .known .1 (i, a, circuit-end es f .1 d))) (counted (bit own u) c e)
+
+  least : (u : ℕ) → u < tasks → (c : ℕ) → Between all (length es) u c → walkBy own s u ≤ c
+  least u hu c b = of (walk-told u hu) b
+    where
+      of : {m c : ℕ} → WalkOf all t v (length es) u m → Between all (length es) u c → m ≤ c
+      of (no-pair n) b = zero-le
+      of (no-walk l d) b = zero-le
+      of (walk l d k) (Between.no-pair n) = absurd (n _ l)
+      of (walk l d k) (pair {i = j} l′ k′) =
+          counted-fewer (λ m w. (w .hand-over, subst (λ (i : ℕ). i < m) (final-one (pair-final es f .0 l) (pair-final es f .0 l′)) (w .after))) k k′
