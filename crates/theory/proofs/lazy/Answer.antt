@@ -10,16 +10,17 @@ use lib.Bits.{bitAnd}
 use lib.Dec.{T, eqb, ltb}
 use lib.ListN.{length, length-append, getD, take}
 use Rattle.theory.specs.declared.record.Record.{Record}
+use Rattle.theory.specs.declared.masks.Masks.{Masks}
 use Rattle.theory.specs.declared.walk.Pairs.{Pairs}
 use Rattle.theory.specs.order.Limits.{tasks, variables}
-use Rattle.theory.specs.order.Recording.{Op, read, Event, act, kind, opOf, eventOf, isAccess, accesses, _is_}
+use Rattle.theory.specs.order.Recording.{Op, read, Event, act, ActsIn, acts, kind, opOf, eventOf, isAccess, accesses, _is_}
 use Rattle.theory.specs.order.Path.{HappensBefore, Conflict, conflict}
 use Rattle.theory.specs.fillings.Completion.{bit}
 use Rattle.theory.specs.acceptance.Table.{refusal, recordedAfter, extended, recording}
 use Rattle.theory.specs.verdicts.Verdict.{Latest}
-use Rattle.theory.specs.feeding.Step.{freshControl}
+use Rattle.theory.specs.feeding.Step.{freshControl, freshSets}
 use Rattle.theory.specs.feeding.Feeding.{refusalsAfter}
-use Rattle.theory.specs.feeding.Paths.{sets, leftBy, Kept}
+use Rattle.theory.specs.feeding.Paths.{sets, leftBy, Kept, KeptApart}
 use Rattle.theory.specs.lazy.Walk.{Walks, Counted, ShortCircuit, WalkOf, no-pair, no-walk, walk, Between, pair}
 use Rattle.theory.specs.lazy.Fold.{Lazy, wordAt, byEnd, column, pairsOf, walkBy, walks, told, asksInRange, question, answeredAt, ending, lazyEnd, Run, followed, freshLazy, lazily}
 use Rattle.theory.specs.lazy.Answer.{firstRefused, fedRefusal, Told, AnswersLazily}
@@ -28,7 +29,7 @@ use Rattle.theory.proofs.order.Ops.{Plain, event-act, opOf-kind}
 use Rattle.theory.proofs.acceptance.ControlTable.{same-refusal}
 use Rattle.theory.proofs.history.Numbers.{number-final, final-number}
 use Rattle.theory.proofs.verdicts.Latest.{Final}
-use Rattle.theory.proofs.feeding.Simulation.{after-all, sets-simulate}
+use Rattle.theory.proofs.feeding.Simulation.{Shape, an-act, a-mark, shape-of, RepresentsSets, after-all, sets-simulate}
 use Rattle.theory.proofs.feeding.Paths.{set-paths}
 use Rattle.theory.proofs.feeding.Asked.{AccessShape, an-access, access-shape, sets-tell}
 use Rattle.theory.proofs.lazy.Columns.{low-bit, and-bit, sum-walks, walks-least}
@@ -109,3 +110,72 @@ module _ (p : Op) (t v : ℕ) (isa : T (isAccess p)) (ht : t < tasks) (es : List
       of (walk l d k) (Between.no-pair n) = absurd (n _ l)
       of (walk l d k) (pair {i = j} l′ k′) =
           counted-fewer (λ m w. (w .hand-over, subst (λ (i : ℕ). i < m) (final-one (pair-final es f .0 l) (pair-final es f .0 l′)) (w .after))) k k′
+
+-- The eager sets
+
+module _ (rs : List Record) (p : Op) (t v : ℕ) (isa : T (isAccess p)) (hv : v < variables) where
+  -- what the sets keep for the access is the task's pair with it
+  kept-final : {u i : ℕ} → u < tasks → u ≢ t → Kept (recording rs) p v u i ↔ Final u (act p t v) (recording rs) i
+  kept-final {u} {i} hu n = (
+    λ k. number-final (history .base .history) isa hv hu n (set-paths rs .keeps p v u i isa hv hu .1 k),
+    λ a. set-paths rs .keeps p v u i isa hv hu .0 (final-number (history .base .history) isa hv hu n a),
+  )
+    where
+      history : RepresentsSets (recording rs) (leftBy sets rs)
+      history = after-all sets-simulate [] freshSets rs (sets-simulate .begins)
+
+  -- nobody's pair is one of its own
+  other-task : {u i : ℕ} → Final u (act p t v) (recording rs) i → u ≢ t
+  other-task a = of (a .against .by) (a .against .conflict)
+    where
+      of : {u : ℕ} {e : Event} → ActsIn u e → Conflict e (act p t v) → u ≢ t
+      of acts (conflict n c) = n
+
+  -- where a path leads from the pair the sets do not say that it is apart, and where none does they do
+  eager-told : (eager u : ℕ) → u < tasks → {i : ℕ} → Final u (act p t v) (recording rs) i → {own : Bool} →
+      T own ↔ HappensBefore (recording rs ++ (act p t v ∷ [])) i (length (recording rs)) →
+      T (bit eager u) ↔ KeptApart HappensBefore (recording rs) (act p t v) p v u → own ≡ not (bit eager u)
+  eager-told eager u hu {i} a {own} path apart = decided (by-test own) (by-test (bit eager u))
+    where
+      decided : {b c : Bool} → Reflects (T own) b → Reflects (T (bit eager u)) c → b ≡ not c
+      decided (right h) (right k) =
+          let (j, l, n) = apart .0 k in
+          absurd (n (subst (λ (m : ℕ). HappensBefore (recording rs ++ (act p t v ∷ [])) m (length (recording rs))) (final-one a (kept-final hu (other-task a) .0 l)) (path .0 h)))
+      decided (right h) (wrong k) = refl
+      decided (wrong h) (right k) = refl
+      decided (wrong h) (wrong k) = absurd (k (apart .1 (i, kept-final hu (other-task a) .1 a, λ b. h (path .1 b))))
+
+-- The whole answer for an access
+
+told-of : (rs : List Record) (p : Op) (t v : ℕ) (isa : T (isAccess p)) (ht : t < tasks) (hv : v < variables) (s : Lazy) (eager : Masks) →
+    Lazily p t v isa ht (recording rs) s →
+    ((u : ℕ) → u < tasks → T (bit (eager .arrived) u) ↔ KeptApart HappensBefore (recording rs) (act p t v) p v u) →
+    Told (recording rs ++ (act p t v ∷ [])) t v (length (recording rs)) eager (told (asked-for p t v isa ht) s)
+told-of rs p t v isa ht hv s eager y apart =
+    record {
+      refused = refl;
+      pairs = λ u hu. subst (λ (b : Bool). T b ↔ _) (sym (low-bit (s .walk .pairs) u hu)) (pairs-told p t v isa ht es s y u hu);
+      paths = λ u hu. subst (λ (b : Bool). T b ↔ _) (sym (paths-bit u hu)) (paths-told p t v isa ht es s y u hu);
+      as-eager = λ u hu. paths-bit u hu ∙ (same u hu (by-test (bit (s .walk .pairs) u)) ∙ ap (λ (b : Bool). b && not (bit (eager .arrived) u)) (sym (low-bit (s .walk .pairs) u hu)));
+      walked = sum-walks (WalkOf all t v (length es)) own s (walk-told p t v isa ht es s y);
+      bounded = walks-least (Between all (length es)) own s (least p t v isa ht es s y);
+    }
+  where
+    es : List Event
+    es = recording rs
+
+    all : List Event
+    all = recording rs ++ (act p t v ∷ [])
+
+    own : ℕ
+    own = wordAt (s .nodes) t
+
+    paths-bit : (u : ℕ) → u < tasks → bit (bitAnd (s .walk .pairs) own % 2 ^ tasks) u ≡ (bit (s .walk .pairs) u && bit own u)
+    paths-bit u hu = low-bit (bitAnd (s .walk .pairs) own) u hu ∙ and-bit (s .walk .pairs) own u
+
+    same : (u : ℕ) → u < tasks → {b : Bool} → Reflects (T (bit (s .walk .pairs) u)) b → (b && bit own u) ≡ (b && not (bit (eager .arrived) u))
+    same u hu (wrong n) = refl
+    same u hu (right h) =
+        let (i, l) = pairs-told p t v isa ht es s y u hu .0 h in
+        let path = path-told p t v isa ht es s y u hu l in
+        eager-told rs p t v isa hv (eager .arrived) u hu (pair-final es (act p t v) .0 l) (path .1, path .0) (apart u hu)
