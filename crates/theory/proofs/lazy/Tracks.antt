@@ -144,9 +144,9 @@ module _ {t v u c : ℕ} {f : Event} {es : List Event} {s : Lazy} (x : Event) (h
                 (λ k. let (i, a, b) = known .0 k in (i, final-old x st a, b), λ k. known .1 (k .0, was (k .1), k .2));
             counts =
                 λ i a.
-                    let (m, d, e) = y .counts i (was a) in
-                    rw (longer es x, own, same .counts, same .walked)
-                    (m, other (counted-old es x (omega arith) d) (λ w. quiet (last-walks es x w .0)), e);
+                let (m, d, e) = y .counts i (was a) in
+                rw (longer es x, own, same .counts, same .walked)
+                (m, other (counted-old es x (omega arith) d) (λ w. quiet (last-walks es x w .0)), e);
           }
         where
           moved : Follows (Has c (s .nodes)) arrived (PairOf u f) (es ++ (x ∷ [])) 0 → Follows (Has c (s′ .nodes)) arrived (PairOf u f) (es ++ (x ∷ [])) 0
