@@ -1,19 +1,18 @@
 -- The lazy reckoning answers what document 02 asks of it, for every list of records. The statement is in specs/lazy/Answer.antt. Assumes nothing.
 use mathlib.Core.Path.{_≡_, refl, sym, _∙_, ap, subst}
 use mathlib.Core.Bool.{Bool, true, false, cond, not, _&&_, true≢false}
-use mathlib.Core.Logic.{_↔_, _⊎_, inl, inr, _≢_}
+use mathlib.Core.Logic.{_↔_, _≢_}
 use mathlib.Core.List.{List, [], _∷_, _++_}
 use Prim.Native.Nat.{ℕ, zero, suc, _-_, _%_, _^_, _≤_, _<_, zero-le}
 use native.Mathlib.Omega.{arith}
 use borrow.Author.Tests.{lt-ltb, le-ltb}
 use lib.Bits.{bitAnd}
-use lib.Dec.{T, eqb, ltb}
+use lib.Dec.{T}
 use lib.ListN.{length, length-append, getD, take}
 use Rattle.theory.specs.declared.record.Record.{Record}
 use Rattle.theory.specs.declared.masks.Masks.{Masks}
-use Rattle.theory.specs.declared.walk.Pairs.{Pairs}
 use Rattle.theory.specs.order.Limits.{tasks, variables}
-use Rattle.theory.specs.order.Recording.{Op, read, Event, act, ActsIn, acts, kind, kinds, lossMark, opOf, eventOf, isAccess, accessBy, accesses}
+use Rattle.theory.specs.order.Recording.{Op, read, Event, act, ActsIn, acts, kind, kinds, lossMark, eventOf, isAccess, accessBy, accesses}
 use Rattle.theory.specs.order.Path.{HappensBefore, Conflict, conflict}
 use Rattle.theory.specs.fillings.Completion.{bit}
 use Rattle.theory.specs.acceptance.Table.{refusal, recordedAfter, extended, recording}
@@ -22,10 +21,10 @@ use Rattle.theory.specs.verdicts.Verdict.{Latest}
 use Rattle.theory.specs.feeding.Step.{freshControl, freshSets}
 use Rattle.theory.specs.feeding.Feeding.{refusalsAfter}
 use Rattle.theory.specs.feeding.Paths.{sets, leftBy, Kept, KeptApart}
-use Rattle.theory.specs.lazy.Walk.{Walks, Counted, ShortCircuit, WalkOf, no-pair, no-walk, walk, Between, pair}
-use Rattle.theory.specs.lazy.Fold.{Lazy, wordAt, byEnd, column, pairsOf, walkBy, walks, told, asksInRange, question, answeredAt, ending, lazyEnd, Run, followed, freshLazy, lazily}
+use Rattle.theory.specs.lazy.Walk.{Walks, Counted, WalkOf, no-pair, no-walk, walk, Between, pair}
+use Rattle.theory.specs.lazy.Fold.{Lazy, wordAt, byEnd, column, pairsOf, walkBy, told, question, answeredAt, lazyEnd, Run, followed, freshLazy, lazily}
 use Rattle.theory.specs.lazy.Answer.{firstRefused, fedRefusal, Told, AnswersLazily}
-use Rattle.theory.proofs.basics.Reflects.{Reflects, right, wrong, by-test, equal, at-most, is-true}
+use Rattle.theory.proofs.basics.Reflects.{Reflects, right, wrong, by-test, equal, at-most}
 use Rattle.theory.proofs.order.Ops.{event-act, opOf-kind, op-of, on-series, access-on, access-tests}
 use Rattle.theory.proofs.order.Numbered.{kind-above}
 use Rattle.theory.proofs.acceptance.ControlTable.{same-refusal}
@@ -36,9 +35,9 @@ use Rattle.theory.proofs.feeding.Paths.{set-paths}
 use Rattle.theory.proofs.feeding.Asked.{access-op, sets-tell}
 use Rattle.theory.proofs.lazy.Columns.{low-bit, and-bit, sum-walks, walks-least}
 use Rattle.theory.proofs.lazy.Longer.{pair-final, final-one, counted-old, counted-fewer, circuit-end}
-use Rattle.theory.proofs.lazy.Tracks.{Has, StandsFor, Tracks, path-own}
+use Rattle.theory.proofs.lazy.Tracks.{StandsFor, Tracks, path-own}
 use Rattle.theory.proofs.lazy.Passed.{access-plain}
-use Rattle.theory.proofs.lazy.Steps.{asked-for, asking, Lazily}
+use Rattle.theory.proofs.lazy.Steps.{asked-for, Lazily}
 use Rattle.theory.proofs.lazy.Followed.{Holds, Over, follows-list, fresh-holds, first-after}
 
 -- What is told of an access at the end

@@ -1,17 +1,14 @@
 -- What the lazy reckoning keeps over a list is right of the recording that the list makes, up to the first refused record. Assumes nothing.
-use mathlib.Core.Path.{_≡_, refl, sym, _∙_, subst}
+use mathlib.Core.Path.{_≡_, refl, sym, subst}
 use mathlib.Core.List.{List, [], _∷_, _++_}
-use mathlib.Core.Logic.{_↔_}
-use mathlib.Core.Bool.{Bool, true, false}
 use Prim.Native.Nat.{ℕ, zero, suc, _<_}
 use native.Mathlib.Omega.{arith}
 use borrow.Author.Tests.{ne-eqb}
 use lib.Dec.{T}
-use lib.ListN.{length, replicate, length-replicate}
+use lib.ListN.{replicate, length-replicate}
 use Rattle.theory.specs.declared.record.Record.{Record}
 use Rattle.theory.specs.order.Limits.{tasks}
-use Rattle.theory.specs.order.Recording.{Op, Event, act, lost, kind, eventOf, isAccess}
-use Rattle.theory.specs.fillings.Completion.{bit, arrived}
+use Rattle.theory.specs.order.Recording.{Op, Event, kind, eventOf, isAccess}
 use Rattle.theory.specs.acceptance.Table.{refusal, recordedAfter, extended}
 use Rattle.theory.specs.acceptance.Control.{controlAfter}
 use Rattle.theory.specs.history.History.{slots}
@@ -19,12 +16,12 @@ use Rattle.theory.specs.tables.Rows.{hub}
 use Rattle.theory.specs.tables.Reckonings.{wordBits}
 use Rattle.theory.specs.feeding.Step.{freshControl}
 use Rattle.theory.specs.feeding.Feeding.{refusalsAfter}
-use Rattle.theory.specs.lazy.Fold.{Lazy, column, recorded, acted, Run, runOf, followed, freshLazy}
+use Rattle.theory.specs.lazy.Fold.{Lazy, column, recorded, Run, runOf, followed, freshLazy}
 use Rattle.theory.specs.lazy.Answer.{firstRefused}
 use Rattle.theory.proofs.order.Ops.{event-act, no-mark, on-series}
 use Rattle.theory.proofs.order.Places.{nowhere}
 use Rattle.theory.proofs.acceptance.ControlTable.{same-refusal}
-use Rattle.theory.proofs.fillings.HasActed.{Acted, none-acted}
+use Rattle.theory.proofs.fillings.HasActed.{none-acted}
 use Rattle.theory.proofs.feeding.Simulation.{Shape, an-act, a-mark, shape-of, Base, base-next, fresh-base}
 use Rattle.theory.proofs.lazy.Columns.{none-of-zero}
 use Rattle.theory.proofs.lazy.Tracks.{Tracks}

@@ -7,8 +7,8 @@ use Prim.Native.Nat.{ℕ, zero, suc, _≤_, _<_, zero-le, suc-le-suc}
 use native.Mathlib.Nat.{le-of-suc-le-suc, not-suc-le-zero}
 use native.Mathlib.Omega.{arith}
 use lib.ListN.{length, length-append}
-use Rattle.theory.specs.order.Recording.{write, Event, act, At, here, there, Every, no-more, ActsIn}
-use Rattle.theory.specs.order.Path.{StepAt, HappensBefore, one, more, Conflict, Empties, Against}
+use Rattle.theory.specs.order.Recording.{write, Event, act, At, here, there, no-more, ActsIn}
+use Rattle.theory.specs.order.Path.{HappensBefore, one, more, Conflict, Empties, Against}
 use Rattle.theory.specs.verdicts.Verdict.{Latest}
 use Rattle.theory.specs.lazy.Walk.{HandsOver, HandOverAt, ComesTo, Brings, Walks, Counted, none, this, other, ShortCircuit}
 use Rattle.theory.proofs.basics.Reflects.{Reflects, right, wrong, at-most}

@@ -6,36 +6,36 @@ use mathlib.Core.List.{List, [], _∷_, _++_}
 use Prim.Native.Nat.{ℕ, suc, _+_, _-_, _<_}
 use native.Mathlib.Numerals.{add-one}
 use native.Mathlib.Omega.{arith}
-use borrow.Author.Tests.{eq-eqb, ne-eqb}
+use borrow.Author.Tests.{ne-eqb}
 use lib.Dec.{T, eqb}
 use lib.ListN.{length, getD}
 use Rattle.theory.specs.declared.record.Record.{Record}
 use Rattle.theory.specs.order.Limits.{tasks}
 use Rattle.theory.specs.order.Recording.{Op, write, join, fresh, Event, act, lost, series, kind, kindAt, isAccess, accesses, ActsIn, acts, _is_}
-use Rattle.theory.specs.order.Path.{HappensBefore, clashes, Conflict, conflict, Empties, empties}
+use Rattle.theory.specs.order.Path.{HappensBefore, clashes, conflict, Empties, empties}
 use Rattle.theory.specs.fillings.Completion.{bit, arrived, Named}
 use Rattle.theory.specs.acceptance.Table.{standing}
 use Rattle.theory.specs.history.History.{asker, askAt, kindClashes}
 use Rattle.theory.specs.tables.Rows.{hub, acquiredRow, releasedRow}
-use Rattle.theory.specs.tables.Reckonings.{wordBits, withBit}
+use Rattle.theory.specs.tables.Reckonings.{withBit}
 use Rattle.theory.specs.lazy.Walk.{HandsOver, ShortCircuit}
-use Rattle.theory.specs.lazy.Fold.{Lazy, wordAt, byEnd, byWrite, column, askerOn, walkable, noted, unordered, shortened, accessed, emptied, flowed, stepped, walkedOver, ofVariable, acted, keepAnew, arrivedNow}
-use Rattle.theory.proofs.basics.Reflects.{Reflects, right, wrong, by-test, equal, is-true, either}
+use Rattle.theory.specs.lazy.Fold.{Lazy, wordAt, byEnd, byWrite, column, askerOn, noted, shortened, accessed, emptied, flowed, stepped, walkedOver, ofVariable, acted, keepAnew, arrivedNow}
+use Rattle.theory.proofs.basics.Reflects.{Reflects, right, wrong, by-test, equal, either}
 use Rattle.theory.proofs.acceptance.Rows.{ActAllowed}
 use Rattle.theory.proofs.order.Ops.{Plain, kindAt-kind, same-op, access-kind}
 use Rattle.theory.proofs.order.Places.{Occurs}
 use Rattle.theory.proofs.order.Tests.{some-snoc, snoc-some, snoc-last}
 use Rattle.theory.proofs.fillings.Reach.{nobody-named}
-use Rattle.theory.proofs.fillings.HasActed.{Acted, Ended, ended-mark, mark-came, came-mark, Seen}
+use Rattle.theory.proofs.fillings.HasActed.{Acted, ended-mark, mark-came, came-mark, Seen}
 use Rattle.theory.proofs.history.Numbers.{Ranged, asker-op}
 use Rattle.theory.proofs.history.Slots.{clash-access}
 use Rattle.theory.proofs.tables.Words.{with-bit}
-use Rattle.theory.proofs.tables.Nodes.{row, row-below, released-row, released-in}
+use Rattle.theory.proofs.tables.Nodes.{row-below, released-row, released-in}
 use Rattle.theory.proofs.tables.Follows.{Follows}
 use Rattle.theory.proofs.verdicts.Latest.{Final}
 use Rattle.theory.proofs.lazy.Columns.{flow-bit, flow-length, arrived-at, arrived-length, zero-bits, none-of-zero, unordered-test}
 use Rattle.theory.proofs.lazy.Longer.{PairOf, pair-keeps, Stays, Asked, final-back, final-short, circuit-old, circuit-back, circuit-new}
-use Rattle.theory.proofs.lazy.Tracks.{Has, Tracks, Untouched, tracks-on, tracks-walked, tracks-anew, tracks-none, path-own}
+use Rattle.theory.proofs.lazy.Tracks.{Has, Tracks, tracks-on, tracks-walked, tracks-anew, tracks-none, path-own}
 use Rattle.theory.proofs.lazy.Kept.{Whole, Alike, alike, Begun, keep-acted, keep-whole, keep-own, keep-off, keep-other}
 use Rattle.theory.proofs.lazy.Passed.{none-over, Walked, walked, unwalked, walked-of, ended-on, follows-flow, follows-plain, stays-own, asked-own}
 

@@ -1,17 +1,17 @@
 -- A column of the lazy reckoning tracks one task's pair with an access that comes next: where order from it has come, whether it needs a walk, and
 -- what the walk counts. It does so through each kind of record. Assumes nothing.
-use mathlib.Core.Path.{_≡_, refl, sym, _∙_, ap, subst}
+use mathlib.Core.Path.{_≡_, refl, sym, subst}
 use mathlib.Core.Bool.{Bool, true, false, cond, not, _&&_, true≢false}
 use mathlib.Core.Logic.{_↔_, _⊎_, inl, inr, _≢_}
 use mathlib.Core.List.{List, [], _∷_, _++_}
-use Prim.Native.Nat.{ℕ, zero, suc, _+_, _-_, _≤_, _<_, zero-le}
+use Prim.Native.Nat.{ℕ, suc, _+_, _-_, _<_, zero-le}
 use native.Mathlib.Omega.{arith}
-use lib.Dec.{T, eqb}
+use lib.Dec.{T}
 use lib.ListN.{length, getD, length-append}
 use Rattle.theory.specs.order.Limits.{tasks}
-use Rattle.theory.specs.order.Recording.{Op, write, Event, act, lost, series, kind, ActsIn, acts}
-use Rattle.theory.specs.order.Path.{HappensBefore, Empties}
-use Rattle.theory.specs.fillings.Completion.{bit, arrived, filling}
+use Rattle.theory.specs.order.Recording.{Op, write, Event, act, acts}
+use Rattle.theory.specs.order.Path.{HappensBefore}
+use Rattle.theory.specs.fillings.Completion.{bit, arrived}
 use Rattle.theory.specs.tables.Rows.{hub}
 use Rattle.theory.specs.lazy.Walk.{HandsOver, ComesTo, by-act, by-start, Brings, Walks, Counted, this, other, ShortCircuit}
 use Rattle.theory.specs.lazy.Fold.{Lazy, wordAt}
@@ -24,7 +24,7 @@ use Rattle.theory.proofs.fillings.Reach.{Reach, Flow, reach-next, leads
 use Rattle.theory.proofs.fillings.Came.{Came}
 use Rattle.theory.proofs.fillings.HasActed.{Ended}
 use Rattle.theory.proofs.history.Numbers.{occurs-same}
-use Rattle.theory.proofs.tables.Nodes.{row, InRange, due-in, row-below}
+use Rattle.theory.proofs.tables.Nodes.{row, due-in, row-below}
 use Rattle.theory.proofs.tables.Follows.{Follows}
 use Rattle.theory.proofs.verdicts.Latest.{Final}
 use Rattle.theory.proofs.feeding.Paths.{path-arrived}
