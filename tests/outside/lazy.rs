@@ -344,6 +344,7 @@ const SHORT: &[(&str, &str, Answer)] = &[
     ("a miss brings nothing", "start 0 1, write 0 5, give 0 2, miss 1 2, read 1 5", [0, 1, 0, 1]),
     ("a take before the give", "start 0 1, write 0 5, take 1 2, give 0 2, read 1 5", [0, 1, 0, 2]),
     ("a look passes nothing on", "start 0 1, write 0 5, look 0 3, set 1 3, write 1 5", [0, 1, 0, 2]),
+    ("nor to a later look", "start 0 1, write 0 5, look 0 3, look 1 3, write 1 5", [0, 1, 0, 2]),
     ("a give that is no overwriting", "start 0 1, start 0 2, write 1 5, give 1 4, give 2 4, take 0 4, read 0 5", [0, 2, 2, 3]),
     ("by way of a third task", "start 0 1, start 0 2, write 0 5, give 0 2, take 2 2, set 2 3, look 1 3, read 1 5", [0, 1, 1, 4]),
     ("two pairs are summed", "start 0 1, start 0 2, write 0 5, give 0 2, take 2 2, write 2 5, give 2 3, take 1 3, read 1 5", [0, 5, 5, 6]),
