@@ -3,6 +3,7 @@ mod acting;
 mod asking;
 mod bools;
 mod clocks;
+mod columns;
 mod control;
 mod history;
 mod masks;
