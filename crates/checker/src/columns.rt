@@ -35,6 +35,14 @@ pub(crate) fn has_column(word: u32, c: u32) -> bool
     (word >> c) % 2 == 1
 }
 
+// Whether it has the bit and the other word has not.
+pub(crate) fn only_in(word: u32, other: u32, c: u32) -> bool
+    requires { ⌜ c < wordBits ⌝ }
+    ensures { λ r. ⌜ r ≡ (bit word c && not (bit other c)) ⌝ }
+{
+    both(has_column(word, c), !has_column(other, c))
+}
+
 // Order from the column's access has come to no node.
 fn clear_column(nodes: &mut Nodes, c: u32)
     requires { ⌜ c < wordBits ⌝ }
@@ -120,7 +128,7 @@ fn arrive(counts: &mut Counts, c: u32, before: u32, after: u32, walked: u32)
     requires { ⌜ c < wordBits ⌝ }
     ensures { λ _. let l = now (counts .entry) in ⌜ now (counts .exit) ≡ cond (bit after c && not (bit before c)) (set l c (walked - getD l c 0)) l ⌝ }
 {
-    if both(has_column(after, c), !has_column(before, c)) {
+    if only_in(after, before, c) {
         counts[c as usize] = less(walked, counts[c as usize]);
     }
 }

@@ -14,6 +14,7 @@ mod sets;
 mod state;
 mod stepping;
 mod totals;
+mod walking;
 
 pub use asking::apart_by_clocks;
 pub use asking::apart_by_sets;

@@ -5,18 +5,12 @@ use Rattle.checker.proofs.columns.arrive.Statement.{statement}
 use Rattle.checker.proofs.columns.arrive.Tie as tie
 
 returns : tie.Need-returns
-returns c =
-    let at-both = c .before .before .before in
-    let at-after = at-both .before .before in
-    rw (← at-after .has-column .ensures, ← at-both .before .has-column2 .ensures, sym (at-both .both .ensures) ∙ c .before .before .if1 .taken, c .less .ensures)
+returns c = let at-if1 = c .before .before in rw (sym (at-if1 .before .only-in .ensures) ∙ at-if1 .if1 .taken, c .less .ensures)
 
 returns-2 : tie.Need-returns-2
-returns-2 c =
-    let at-both = c .before in
-    let at-after = at-both .before .before in
-    rw (← at-after .has-column .ensures, ← at-both .before .has-column2 .ensures, sym (at-both .both .ensures) ∙ c .if1 .left)
+returns-2 c = rw (sym (c .before .only-in .ensures) ∙ c .if1 .left)
 
 pub arrive-spec : {M : Type 1} → statement M
 arrive-spec = tie.close (tie.spec
-    (λ c κs. search needs) (λ c κs. search needs) (λ c κs. search needs) (λ c. search needs) (λ c. search needs)
-    (λ c κs. search needs) (λ c. search needs) (λ c. search needs) returns returns-2)
+    (λ c κs. search needs) (λ c. search needs) (λ c. search needs) (λ c κs. search needs) (λ c. search needs)
+    (λ c. search needs) returns returns-2)
