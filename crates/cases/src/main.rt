@@ -9,6 +9,7 @@ mod records;
 mod source;
 mod telling;
 mod text;
+mod walks;
 
 fn main() {
     recordings::short();
@@ -25,5 +26,6 @@ fn main() {
     edges::huge();
     edges::masks();
     joining::joins();
+    walks::lists();
     recordings::full();
 }

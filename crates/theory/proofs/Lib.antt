@@ -7,3 +7,4 @@ pub mod history
 pub mod tables
 pub mod totals
 pub mod feeding
+pub mod lazy

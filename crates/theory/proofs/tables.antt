@@ -8,6 +8,7 @@ pub mod Acts
 pub mod Marks
 pub mod Nodes
 pub mod NamedRows
+pub mod Follows
 pub mod Exact
 pub mod ClockTables
 pub mod SetTables

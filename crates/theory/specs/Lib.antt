@@ -10,3 +10,5 @@ pub mod tables
 pub mod feeding
 -- Totals of the verdicts
 pub mod totals
+-- The lazy reckoning
+pub mod lazy

@@ -9,6 +9,7 @@ mod numbers;
 mod record;
 mod state;
 mod verdict_totals;
+mod walk;
 
 pub use acquired::Acquired;
 pub use answer::Answer;
@@ -68,3 +69,9 @@ pub use state::State;
 pub use state::Stepped;
 pub use state::WORD_BITS;
 pub use verdict_totals::Totals;
+pub use walk::Counts;
+pub use walk::Followed;
+pub use walk::NODES;
+pub use walk::Nodes;
+pub use walk::Pairs;
+pub use walk::Walk;

@@ -21,7 +21,8 @@ use Rattle.theory.proofs.tables.Marks.{sized-mark}
 use Rattle.theory.proofs.tables.Nodes.{row, InRange, due-in, row-below, row-one, released-row, released-in}
 use Rattle.theory.proofs.fillings.HasActed.{Acted}
 use Rattle.theory.proofs.fillings.Came.{Came, Newly, occurs-short}
-use Rattle.theory.proofs.tables.Exact.{Filled-in, Exact, ToObject, Owned, ExactActed, exact-act, exact-mark, fresh-exact, acted-same, acted-act, acted-mark, fresh-acted}
+use Rattle.theory.proofs.tables.Exact.{Filled-in, Exact, Owned, ExactActed, exact-act, exact-mark, fresh-exact, acted-same, acted-act, acted-mark, fresh-acted}
+use Rattle.theory.proofs.tables.Follows.{ToObject}
 
 -- Definition
 

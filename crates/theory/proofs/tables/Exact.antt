@@ -1,48 +1,42 @@
 -- A column of a table is exact if its cells say to which nodes order has come. Acts and marks keep it so, in any filling, for
 -- clocks and sets alike and at any width. Assumes nothing.
-use mathlib.Core.Path.{_≡_, refl, sym, _∙_, subst}
-use mathlib.Core.Bool.{Bool, true, false, cond, not, _||_}
+use mathlib.Core.Path.{_≡_, refl, sym, subst}
+use mathlib.Core.Bool.{Bool, true, false, cond}
 use mathlib.Core.Logic.{_↔_, _⊎_, inl, inr}
 use mathlib.Core.List.{List, [], _∷_, _++_}
 use Prim.Native.Nat.{ℕ, _*_, _≤_, _<_}
 use native.Mathlib.Omega.{arith}
-use borrow.Author.Tests.{lt-ltb, le-ltb, ne-eqb}
+use borrow.Author.Tests.{lt-ltb, ne-eqb}
 use lib.Dec.{T, ltb, eqb, lit<}
 use lib.ListN.{replicate}
 use Rattle.theory.specs.order.Recording.{Op, Event, act, lost, series, kind}
 use Rattle.theory.specs.fillings.Completion.{bit, Named, Filling, fills}
-use Rattle.theory.specs.tables.Rows.{hub, cell, joinsActed, acquiredRow, releasedRow, alsoReleased, onward, isReleased, mix, mark, actedRow, tableRows}
+use Rattle.theory.specs.tables.Rows.{hub, cell, releasedRow, onward, isReleased, mix, mark, actedRow, tableRows}
 use Rattle.theory.specs.order.Limits.{tasks, flags}
-use Rattle.theory.proofs.order.Carry.{Node, due, acted, semaphore, flag, Acquires, own, Releases, own-next}
+use Rattle.theory.proofs.order.Carry.{Node, due, acted, semaphore, flag, Releases}
 use Rattle.theory.proofs.fillings.Fullest.{Acquired, Released, named-task}
 use Rattle.theory.proofs.fillings.Reach.{nobody-named, acquired-due, acquired-acted, acquired-semaphore, acquired-flag, released-due, released-acted, released-semaphore, released-flag}
 use Rattle.theory.proofs.tables.Rows.{Sized, Joins, Knows, fresh-cell, fresh-none}
 use Rattle.theory.proofs.tables.Acts.{flow-knows}
 use Rattle.theory.proofs.tables.Marks.{NamedKnows, mix-hub, mix-released, mix-untold, mix-acted}
-use Rattle.theory.proofs.tables.Nodes.{row, InRange, due-in, Object, a-semaphore, a-flag, object-row, row-below, row-one, acquiredNode, releasedNode, readNode, read-row, released-row, read-in, released-in, released-releases, acquires-cases, releases-cases, read-acquires, acquired-read, joined-in, released-object}
+use Rattle.theory.proofs.tables.Nodes.{row, InRange, due-in, Object, a-semaphore, a-flag, row-below, released-row, released-in}
+use Rattle.theory.proofs.tables.Follows.{ToObject, Follows, OwnPart, follows-act}
 use Rattle.theory.proofs.tables.NamedRows.{bit-named, named-bit, released-test, test-released}
 use Rattle.theory.proofs.order.Tests.{some-snoc, snoc-some, snoc-last}
 use Rattle.theory.proofs.order.Places.{nowhere}
 use Rattle.theory.proofs.fillings.Came.{Came, came-acted, Newly, Onward, came-next}
-use Rattle.theory.proofs.fillings.HasActed.{ActsAs, Acted, Ended, ended-act, no-releases, mark-came, came-mark, ended-mark, none-acted}
-use Rattle.theory.proofs.basics.Reflects.{Reflects, right, wrong, same-as, equal, at-most, by-test, is-true}
+use Rattle.theory.proofs.fillings.HasActed.{ActsAs, Acted, Ended, no-releases, mark-came, came-mark, ended-mark, none-acted}
+use Rattle.theory.proofs.basics.Reflects.{Reflects, right, wrong, same-as, equal, at-most, by-test}
 
 -- Definition
 
--- order has come to some object
-abbrev pub ToObject : Filling → (Event → List Event → Type 0) → List Event → ℕ → Type 0
-ToObject w Chosen es i = (m : Node) × Object m × Came w Chosen es i m
-
 -- column c: P is what its cells know where order has come from place i or later
-pub record Exact (P : ℕ → Type 0) (w : Filling) (Chosen : Event → List Event → Type 0) (es : List Event) (width : ℕ) (b : List ℕ) (i c : ℕ) : Type 0 where
-  pub cells : (n : Node) → InRange n → Knows P width b (row n) c ↔ Came w Chosen es i n
-  pub hub : T (fills w) → Knows P width b hub c ↔ ToObject w Chosen es i
-  pub ended : Ended w Chosen es i
+abbrev pub Exact : (ℕ → Type 0) → Filling → (Event → List Event → Type 0) → List Event → ℕ → List ℕ → ℕ → ℕ → Type 0
+Exact P w Chosen es width b i c = Follows (λ r. Knows P width b r c) w Chosen es i
 
--- what it is to be after an act's own part: what stays of what had come, and the act itself at its task's next act
-pub record Owned (P : ℕ → Type 0) (w : Filling) (Chosen : Event → List Event → Type 0) (Stays : Type 0) (es : List Event) (x : Event) (t width : ℕ) (b : List ℕ) (i c : ℕ) : Type 0 where
-  pub cells : (n : Node) → InRange n → Knows P width b (row n) c ↔ ((Stays × Came w Chosen es i n) ⊎ (Newly Chosen es x i × (n ≡ due t)))
-  pub hub : T (fills w) → Knows P width b hub c ↔ (Stays × ToObject w Chosen es i)
+-- what it is to be after an act's own part
+abbrev pub Owned : (ℕ → Type 0) → Filling → (Event → List Event → Type 0) → Type 0 → List Event → Event → ℕ → ℕ → List ℕ → ℕ → ℕ → Type 0
+Owned P w Chosen Stays es x t width b i c = OwnPart (λ r. Knows P width b r c) w Chosen Stays es x t i
 
 -- the row of what has acted is exact if it says which tasks have
 pub record ExactActed (w : Filling) (es : List Event) (width : ℕ) (b : List ℕ) : Type 0 where
@@ -50,168 +44,21 @@ pub record ExactActed (w : Filling) (es : List Event) (width : ℕ) (b : List �
 
 -- Acts
 
--- which rows an act releases to
-abbrev Released-row : Bool → ℕ → ℕ → ℕ → Type 0
-Released-row asked t released r = (r ≡ t) ⊎ ((r ≡ released) ⊎ (r ≡ alsoReleased asked released t))
-
-module _ {P : ℕ → Type 0} {j : ℕ → ℕ → ℕ} {w : Filling} {Chosen : Event → List Event → Type 0} {Stays : Type 0} {es : List Event} {o : Op} {t n width i c : ℕ} {b : List ℕ}
-    (joins : Joins j P) (keeps : (e : Event) (after : List Event) → Chosen e (after ++ (act o t n ∷ [])) ↔ (Stays × Chosen e after))
-    (starts : (u : ℕ) → Releases (act o t n) (due u) → (u ≡ t) ⊎ (¬ Acted w u es)) (ht : t < tasks) (hn : n < series o) (hc : c < width)
-    (sized : Sized width b) (flagged : ExactActed w (es ++ (act o t n ∷ [])) width b) (ended : Ended w Chosen es i)
-    (owned : Owned P w Chosen Stays es (act o t n) t width b i c) where
-  -- the row that it reads
-  abbrev acquired : ℕ
-  acquired = acquiredRow (kind o) t n (joinsActed width b (kind o) n)
-
-  abbrev flagOf : Bool
-  flagOf = ltb 0 (cell width b actedRow n)
-
-  abbrev Came-on : Node → Type 0
-  Came-on m = (Stays × Onward w Chosen es (act o t n) i m) ⊎ (Newly Chosen es (act o t n) i × Releases (act o t n) m)
-
-  released-below : releasedRow (kind o) t n < hub
-  released-below = rw (released-row o t n) (row-below (released-in o ht hn))
-
-  -- The rows that it releases to
-
-  also-none : {m : Node} → InRange m → (p : Bool) → row m ≡ cond p t hub → row m ≡ t
-  also-none r true e = e
-  also-none r false e = absurd (omega (arith, row-below r))
-
-  released-by : {m : Node} → InRange m → Released-row (fills w) t (releasedRow (kind o) t n) (row m) → Releases (act o t n) m
-  released-by r (inl e) = subst (Releases (act o t n)) (sym (row-one r (due-in ht) e)) own-next
-  released-by r (inr (inl e)) = subst (Releases (act o t n)) (sym (row-one r (released-in o ht hn) (rw (released-row o t n) at e))) (released-releases o t n)
-  released-by r (inr (inr e)) = subst (Releases (act o t n)) (sym (row-one r (due-in ht) (also-none r (ltb (releasedRow (kind o) t n) tasks || not (fills w)) e))) own-next
-
-  by-released : {m : Node} → InRange m → Releases (act o t n) m → Released-row (fills w) t (releasedRow (kind o) t n) (row m)
-  by-released r x = cases r (releases-cases x)
-    where
-      cases : {m : Node} → InRange m → (m ≡ due t) ⊎ ((m ≡ acted t) ⊎ (m ≡ releasedNode o t n)) → Released-row (fills w) t (releasedRow (kind o) t n) (row m)
-      cases r (inl e) = inl (rw e)
-      cases r (inr (inl e)) = absurd (none (subst InRange e r))
-        where
-          none : InRange (acted t) → ⊥
-          none q = elim q [ ]
-      cases r (inr (inr e)) = inr (inl (rw (e, released-row o t n)))
-
-  -- the hub is released to where an object is
-  hub-released : T (fills w) → {m : Node} → Object m → Releases (act o t n) m → Released-row (fills w) t (releasedRow (kind o) t n) hub
-  hub-released f m x = cases m (releases-cases x)
-    where
-      cases : {m : Node} → Object m → (m ≡ due t) ⊎ ((m ≡ acted t) ⊎ (m ≡ releasedNode o t n)) → Released-row (fills w) t (releasedRow (kind o) t n) hub
-      cases m (inl e) = absurd (none (subst Object e m))
-        where
-          none : Object (due t) → ⊥
-          none q = elim q [ ]
-      cases m (inr (inl e)) = absurd (none (subst Object e m))
-        where
-          none : Object (acted t) → ⊥
-          none q = elim q [ ]
-      cases m (inr (inr e)) = inr (inr (rw (le-ltb (releasedRow (kind o) t n) tasks (rw (released-row o t n) (object-row (subst Object e m))), is-true (by-test (fills w)) f)))
-
-  released-hub : Released-row (fills w) t (releasedRow (kind o) t n) hub → Object (releasedNode o t n)
-  released-hub (inl e) = absurd (omega arith)
-  released-hub (inr (inl e)) = let h = released-below in absurd (omega arith)
-  released-hub (inr (inr e)) = decided (at-most tasks (releasedRow (kind o) t n))
-    where
-      decided : {p : Bool} → Reflects (tasks ≤ releasedRow (kind o) t n) p → Object (releasedNode o t n)
-      decided (right h) = released-object o ht hn (rw (released-row o t n) at h)
-      decided (wrong f) = let q : hub ≡ t = rw (lt-ltb (releasedRow (kind o) t n) tasks (omega arith)) at e in absurd (omega arith)
-
-  -- What it acquires
-
-  from-acquired : {m p : Node} → InRange p → Acquires p (act o t n) → Releases (act o t n) m → Knows P width b (row p) c → Came-on m
-  from-acquired {m} {p} r h x a = cases (owned .cells p r .0 a)
-    where
-      cases : (Stays × Came w Chosen es i p) ⊎ (Newly Chosen es (act o t n) i × (p ≡ due t)) → Came-on m
-      cases (inl (s, d)) = inl (s, inr (p, d, (h, x)))
-      cases (inr (d, e)) = inr (d, x)
-
-  -- a join of a task that has acted
-  from-joined : {m : Node} → Acquires (acted n) (act o t n) → flagOf ≡ true → Releases (act o t n) m → Knows P width b n c → Came-on m
-  from-joined {m} h f x a = cases (owned .cells (due n) (due-in l) .0 a)
-    where
-      l : n < tasks
-      l = joined-in h hn
-
-      raised : 0 < cell width b actedRow n
-      raised = decided (at-most 1 (cell width b actedRow n)) f
-        where
-          decided : {p : Bool} → Reflects (1 ≤ cell width b actedRow n) p → p ≡ true → 0 < cell width b actedRow n
-          decided (right q) e = q
-          decided (wrong g) e = absurd (subst T (sym e) tt)
-
-      onward-from : Stays → Came w Chosen es i (due n) → Acted w n es ⊎ (n ≡ t) → Came-on m
-      onward-from s d (inl q) = inl (s, inr (acted n, ended .joined n q d, (h, x)))
-      onward-from s d (inr e) = inl (s, inr (due t, subst (λ (k : ℕ). Came w Chosen es i (due k)) e d, (own, x)))
-
-      cases : (Stays × Came w Chosen es i (due n)) ⊎ (Newly Chosen es (act o t n) i × (due n ≡ due t)) → Came-on m
-      cases (inl (s, d)) = onward-from s d (some-snoc es (flagged .flags n l .0 raised))
-      cases (inr (d, e)) = inr (d, x)
-
-  source-came : {m : Node} → Releases (act o t n) m → Knows P width b t c ⊎ Knows P width b acquired c → Came-on m
-  source-came x (inl a) = from-acquired (due-in ht) own x a
-  source-came {m} x (inr a) = cases (read-acquires o t n flagOf)
-    where
-      read : Knows P width b (row (readNode o t n flagOf)) c
-      read = rw (read-row o t n width b) at a
-
-      cases : Acquires (readNode o t n flagOf) (act o t n) ⊎ (Acquires (acted n) (act o t n) × (readNode o t n flagOf ≡ due n) × (flagOf ≡ true)) → Came-on m
-      cases (inl h) = from-acquired (read-in o flagOf ht hn) h x read
-      cases (inr (h, e, f)) = from-joined h f x (rw e at read)
-
-  came-source : {p : Node} → Stays → Acquires p (act o t n) → Came w Chosen es i p → Knows P width b t c ⊎ Knows P width b acquired c
-  came-source {p} s h d = cases (acquires-cases h)
-    where
-      of-acquired : p ≡ acquiredNode o t n → (acquiredNode o t n ≡ readNode o t n flagOf) ⊎ (Acquires (acted n) (act o t n) × (acquiredNode o t n ≡ acted n) × (readNode o t n true ≡ due n)) →
-          Knows P width b acquired c
-      of-acquired e (inl q) = rw (read-row o t n width b) (owned .cells (readNode o t n flagOf) (read-in o flagOf ht hn) .1 (inl (s, subst (Came w Chosen es i) (e ∙ q) d)))
-      of-acquired e (inr (k, q, r)) =
-          let l = joined-in k hn in
-          let a : Came w Chosen es i (acted n) = subst (Came w Chosen es i) (e ∙ q) d in
-          let raised = flagged .flags n l .1 (snoc-some (act o t n) (ended .acting n a)) in
-          rw (read-row o t n width b, lt-ltb 0 (cell width b actedRow n) raised, r) (owned .cells (due n) (due-in l) .1 (inl (s, came-acted a)))
-
-      cases : (p ≡ due t) ⊎ (p ≡ acquiredNode o t n) → Knows P width b t c ⊎ Knows P width b acquired c
-      cases (inl e) = inl (owned .cells (due t) (due-in ht) .1 (inl (s, subst (Came w Chosen es i) e d)))
-      cases (inr e) = inr (of-acquired e (acquired-read o t n flagOf))
-
-  own-source : Newly Chosen es (act o t n) i → Knows P width b t c ⊎ Knows P width b acquired c
-  own-source d = inl (owned .cells (due t) (due-in ht) .1 (inr (d, refl)))
-
-  pub exact-act : Exact P w Chosen (es ++ (act o t n ∷ [])) width (onward j width (fills w) (kind o) t n b) i c
-  exact-act =
-      record {
-        cells = λ m r. (λ a. came-next es (act o t n) keeps .1 (to m r (flowed (row m) .0 a)), λ d. flowed (row m) .1 (from m r (came-next es (act o t n) keeps .0 d)));
-        hub = λ f. (λ a. to-hub f (flowed hub .0 a), λ d. flowed hub .1 (from-hub f (d .0) (d .1) (came-next es (act o t n) keeps .0 (d .2))));
-        ended = ended-act keeps starts ended;
-      }
-    where
-      flowed : (r : ℕ) → Knows P width (onward j width (fills w) (kind o) t n b) r c
-          ↔ (Knows P width b r c ⊎ (Released-row (fills w) t (releasedRow (kind o) t n) r × (Knows P width b t c ⊎ Knows P width b acquired c)))
-      flowed r = let h = released-below in flow-knows joins (fills w) sized (omega arith) ht hc
-
-      to : (m : Node) → InRange m → Knows P width b (row m) c ⊎ (Released-row (fills w) t (releasedRow (kind o) t n) (row m) × (Knows P width b t c ⊎ Knows P width b acquired c)) → Came-on m
-      to m r (inl a) = stayed (owned .cells m r .0 a)
-        where
-          stayed : (Stays × Came w Chosen es i m) ⊎ (Newly Chosen es (act o t n) i × (m ≡ due t)) → Came-on m
-          stayed (inl (s, d)) = inl (s, inl d)
-          stayed (inr (d, e)) = inr (d, subst (Releases (act o t n)) (sym e) own-next)
-      to m r (inr (q, a)) = source-came (released-by r q) a
-
-      from : (m : Node) → InRange m → Came-on m → Knows P width b (row m) c ⊎ (Released-row (fills w) t (releasedRow (kind o) t n) (row m) × (Knows P width b t c ⊎ Knows P width b acquired c))
-      from m r (inl (s, inl d)) = inl (owned .cells m r .1 (inl (s, d)))
-      from m r (inl (s, inr (p, d, (h, x)))) = inr (by-released r x, came-source s h d)
-      from m r (inr (d, x)) = inr (by-released r x, own-source d)
-
-      to-hub : T (fills w) → Knows P width b hub c ⊎ (Released-row (fills w) t (releasedRow (kind o) t n) hub × (Knows P width b t c ⊎ Knows P width b acquired c)) → ToObject w Chosen (es ++ (act o t n ∷ [])) i
-      to-hub f (inl a) = let (s, (m, k, d)) = owned .hub f .0 a in (m, k, came-next es (act o t n) keeps .1 (inl (s, inl d)))
-      to-hub f (inr (q, a)) = (releasedNode o t n, released-hub q, came-next es (act o t n) keeps .1 (source-came (released-releases o t n) a))
-
-      from-hub : T (fills w) → (m : Node) → Object m → Came-on m → Knows P width b hub c ⊎ (Released-row (fills w) t (releasedRow (kind o) t n) hub × (Knows P width b t c ⊎ Knows P width b acquired c))
-      from-hub f m k (inl (s, inl d)) = inl (owned .hub f .1 (s, (m, k, d)))
-      from-hub f m k (inl (s, inr (p, d, (h, x)))) = inr (hub-released f k x, came-source s h d)
-      from-hub f m k (inr (d, x)) = inr (hub-released f k x, own-source d)
+pub exact-act : {P : ℕ → Type 0} {j : ℕ → ℕ → ℕ} {w : Filling} {Chosen : Event → List Event → Type 0} {Stays : Type 0} {es : List Event} {o : Op} {t n width i c : ℕ} {b : List ℕ} →
+    Joins j P → ((e : Event) (after : List Event) → Chosen e (after ++ (act o t n ∷ [])) ↔ (Stays × Chosen e after)) →
+    ((u : ℕ) → Releases (act o t n) (due u) → (u ≡ t) ⊎ (¬ Acted w u es)) → t < tasks → n < series o → c < width →
+    Sized width b → ExactActed w (es ++ (act o t n ∷ [])) width b → Ended w Chosen es i → Owned P w Chosen Stays es (act o t n) t width b i c →
+    Exact P w Chosen (es ++ (act o t n ∷ [])) width (onward j width (fills w) (kind o) t n b) i c
+exact-act {w = w} {es = es} {o = o} {t = t} {n = n} {width = width} {b = b} joins keeps starts ht hn hc sized flagged ended owned =
+    follows-act keeps starts ht hn (λ l. (λ e. flagged .flags n l .0 (raised e), λ a. lt-ltb 0 (cell width b actedRow n) (flagged .flags n l .1 a))) ended owned
+    (λ r. let h : releasedRow (kind o) t n < hub = rw (released-row o t n) (row-below (released-in o ht hn)) in flow-knows joins (fills w) sized (omega arith) ht hc)
+  where
+    raised : ltb 0 (cell width b actedRow n) ≡ true → 0 < cell width b actedRow n
+    raised e = decided (at-most 1 (cell width b actedRow n)) e
+      where
+        decided : {p : Bool} → Reflects (1 ≤ cell width b actedRow n) p → p ≡ true → 0 < cell width b actedRow n
+        decided (right q) e = q
+        decided (wrong g) e = absurd (subst T (sym e) tt)
 
 -- Marks
 

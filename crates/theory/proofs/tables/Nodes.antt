@@ -2,14 +2,13 @@
 -- that has come to its next act has come to that (Acted.antt). Assumes nothing.
 use mathlib.Core.Path.{_≡_, refl, sym, _∙_, ap}
 use mathlib.Core.Bool.{Bool, true, false, cond, _&&_}
-use mathlib.Core.List.{List}
 use mathlib.Core.Logic.{_⊎_, inl, inr}
 use Prim.Native.Nat.{ℕ, _+_, _-_, _≤_, _<_}
 use native.Mathlib.Omega.{arith}
 use borrow.Author.Tests.{lt-ltb, le-ltb}
 use lib.Dec.{ltb}
 use Rattle.theory.specs.order.Recording.{Op, take, give, look, set, start, join, act, series, kind, _is_}
-use Rattle.theory.specs.tables.Rows.{cell, actedRow, joinsActed, acquiredRow, releasedRow, hub, flagRow, semaphoreRow}
+use Rattle.theory.specs.tables.Rows.{acquiredRow, releasedRow, hub, flagRow, semaphoreRow}
 use Rattle.theory.specs.order.Limits.{tasks, semaphores, flags}
 use Rattle.theory.proofs.order.Ops.{Plain, Role, a-take, a-give, a-look, a-set, a-start, a-join, plain, role}
 use Rattle.theory.proofs.order.Carry.{Node, due, acted, semaphore, flag, Acquires, own, by-take, by-look, by-join, Releases, own-next, own-acted, by-give, by-set, by-start}
@@ -69,20 +68,20 @@ releasedNode o t n = cond (o is give) (semaphore n) (cond (o is set) (flag n) (c
 abbrev pub readNode : Op → ℕ → ℕ → Bool → Node
 readNode o t n joins = cond (o is take) (semaphore n) (cond (o is look) (flag n) (cond ((o is join) && joins) (due n) (due t)))
 
-pub read-row : (o : Op) (t n w : ℕ) (b : List ℕ) → acquiredRow (kind o) t n (joinsActed w b (kind o) n) ≡ row (readNode o t n (ltb 0 (cell w b actedRow n)))
-read-row o t n w b = by-role (role o)
+pub read-row : (o : Op) (t n : ℕ) (joins : Bool) → acquiredRow (kind o) t n (o is join && joins) ≡ row (readNode o t n joins)
+read-row o t n joins = by-role (role o)
   where
     of : (x : Bool) → cond x n t ≡ row (cond x (due n) (due t))
     of true = refl
     of false = refl
 
-    by-role : {o : Op} → Role o → acquiredRow (kind o) t n (joinsActed w b (kind o) n) ≡ row (readNode o t n (ltb 0 (cell w b actedRow n)))
+    by-role : {o : Op} → Role o → acquiredRow (kind o) t n (o is join && joins) ≡ row (readNode o t n joins)
     by-role a-take = refl
     by-role a-give = refl
     by-role a-look = refl
     by-role a-set = refl
     by-role a-start = refl
-    by-role a-join = of (ltb 0 (cell w b actedRow n))
+    by-role a-join = of joins
     by-role (plain x) = rw (x .not-take, x .not-look, x .not-join)
 
 pub released-row : (o : Op) (t n : ℕ) → releasedRow (kind o) t n ≡ row (releasedNode o t n)
