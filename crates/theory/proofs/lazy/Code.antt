@@ -44,6 +44,11 @@ no-arrival word walked counts = none wordBits
 
 -- Kinds
 
+-- a test that makes no difference
+pub either-same : (b : Bool) (s : Lazy) → s ≡ cond b s s
+either-same true s = refl
+either-same false s = refl
+
 -- what is a join and more is a join
 pub join-kind : (k : ℕ) (b : Bool) → (eqb k (kind join) && b) ≡ true → k ≡ kind join
 join-kind k b e = decided (equal k (kind join)) e
