@@ -1,6 +1,6 @@
 /* The order checker for a host program in C. Link the archives whose functions are used: `rt staticlib NAME` writes libNAME.a, where NAME is
- * report (order_report), host (a running state and the sets, fed record by record, and their totals), gateway (order_step) or pieces
- * (order_piece). */
+ * report (order_report), host (a running state and the sets, fed record by record, and their totals; order_lazy), gateway (order_step) or
+ * pieces (order_piece). */
 #ifndef ORDER_H
 #define ORDER_H
 
@@ -199,6 +199,34 @@ static inline uint32_t order_sets_state_totals(const struct order_sets *s, uint3
 static inline uint32_t order_sets_state_any_race(const struct order_sets *s) {
     return order_any_race(s->control);
 }
+
+/* The lazy reckoning, for a host that has a recording in memory as a list of records and asks about the access that ends it: which other
+ * tasks have an earlier access that conflicts with it, and for which of them a path leads from the latest of these here. Nothing is kept
+ * between two calls.
+ *
+ *     static const uint32_t list[][3] = {
+ *         {ORDER_START, 0, 1}, {ORDER_WRITE, 0, 5}, {ORDER_GIVE, 0, 2}, {ORDER_TAKE, 1, 2}, {ORDER_READ, 1, 5}};
+ *     uint64_t answer[4];
+ *
+ *     order_lazy(list, sizeof list / sizeof list[0], answer);
+ *
+ * answers 0, 1, 1, 2: none is refused, task 0 has a pair, a path leads here, and the give and the take were walked.
+ *
+ * list, len: the records since a fresh state, each a kind, a task and a number, any numbers at all; there may be none.
+ * answer: four numbers are written.
+ *   answer[0]  the number of the refusal of the first record that is refused, 0 where none is. Where it is not 0, the other three are.
+ *   answer[1]  the tasks that have a pair, bit i for task i: a latest earlier access that conflicts with the one that ends the list. 0
+ *              where there are no records, or the last is no access.
+ *   answer[2]  of these, the tasks from whose access a path leads here, by the records that arrived: loss marks carry nothing. The access
+ *              is Clear exactly where this is the same as answer[1].
+ *   answer[3]  the records walked, summed over these tasks: after the task's access the takes, gives, looks, sets, starts and joins,
+ *              whoever acts, up to and with the first that brings order to the acting task; all of them where none does. Nothing is
+ *              walked for a task where a write of the variable by the acting task stands after that access and was in order with all
+ *              of its own pairs; the answer is yes then.
+ *
+ * The pointers must be valid for their sizes, aligned and not null, also where len is 0, and the two must not overlap.
+ * The memory is fixed whatever the length of the list: the call needs under 4 kilobytes of stack. Needs libhost.a. */
+void order_lazy(const uint32_t (*list)[3], size_t len, uint64_t answer[4]);
 
 #ifdef __cplusplus
 }

@@ -1,5 +1,6 @@
 /* A host program in C over the archives: document 01's example, row 11 at its edge, kept bytes, the empty text; then the same example fed
- * record by record to a running state and to the sets, and as a text in pieces, and its totals at each moment. */
+ * record by record to a running state and to the sets, and as a text in pieces, and its totals at each moment; lists for the lazy
+ * reckoning. */
 #include <stdio.h>
 #include <string.h>
 
@@ -440,6 +441,94 @@ static void any_text(void) {
     refuse("and there is none after it", &kept, "\n", 1, sizeof memory);
 }
 
+/* A list and what is answered for the access that ends it: the refusal, the tasks that have a pair, those from which a path leads here, the
+ * records walked. */
+struct list {
+    const char *name;
+    size_t len;
+    uint32_t records[10][3];
+    uint64_t answer[4];
+};
+
+enum { MOST = sizeof((struct list *)0)->records / sizeof((struct list *)0)->records[0] };
+
+static const struct list lists[] = {
+    {"no records", 0, {{0}}, {0, 0, 0, 0}},
+    {"one access", 1, {{ORDER_WRITE, 0, 5}}, {0, 0, 0, 0}},
+    {"nothing between", 3, {{ORDER_START, 0, 1}, {ORDER_WRITE, 0, 5}, {ORDER_READ, 1, 5}}, {0, 1, 0, 0}},
+    {"handed over",
+     5,
+     {{ORDER_START, 0, 1}, {ORDER_WRITE, 0, 5}, {ORDER_GIVE, 0, 2}, {ORDER_TAKE, 1, 2}, {ORDER_READ, 1, 5}},
+     {0, 1, 1, 2}},
+    {"nothing is walked after the first that brings order",
+     7,
+     {{ORDER_WRITE, 0, 5}, {ORDER_START, 0, 1}, {ORDER_GIVE, 0, 2}, {ORDER_TAKE, 1, 2}, {ORDER_LOOK, 1, 2}, {ORDER_MISS, 1, 2},
+      {ORDER_BUMP, 1, 5}},
+     {0, 1, 1, 1}},
+    {"an own write in order",
+     7,
+     {{ORDER_START, 0, 1}, {ORDER_WRITE, 0, 5}, {ORDER_SET, 0, 2}, {ORDER_LOOK, 1, 2}, {ORDER_WRITE, 1, 5}, {ORDER_GIVE, 1, 2},
+      {ORDER_READ, 1, 5}},
+     {0, 1, 1, 0}},
+    {"an own bump is no write",
+     5,
+     {{ORDER_START, 0, 1}, {ORDER_BUMP, 0, 5}, {ORDER_BUMP, 1, 5}, {ORDER_TAKE, 1, 3}, {ORDER_READ, 1, 5}},
+     {0, 1, 0, 1}},
+    {"a joined task that acted",
+     6,
+     {{ORDER_START, 0, 2}, {ORDER_WRITE, 0, 5}, {ORDER_START, 0, 1}, {ORDER_READ, 1, 6}, {ORDER_JOIN, 2, 1}, {ORDER_READ, 2, 5}},
+     {0, 1, 1, 2}},
+    {"one that never acted, whatever was lost",
+     6,
+     {{ORDER_START, 0, 2}, {ORDER_WRITE, 0, 5}, {ORDER_START, 0, 1}, {ORDER_LOST, 77, 2}, {ORDER_JOIN, 2, 1}, {ORDER_READ, 2, 5}},
+     {0, 1, 0, 2}},
+    {"two pairs",
+     9,
+     {{ORDER_START, 0, 1}, {ORDER_START, 0, 15}, {ORDER_WRITE, 15, 5}, {ORDER_WRITE, 0, 5}, {ORDER_READ, 0, 6}, {ORDER_GIVE, 0, 2},
+      {ORDER_TAKE, 1, 2}, {ORDER_SET, 15, 0}, {ORDER_WRITE, 1, 5}},
+     {0, 32769, 1, 5}},
+    {"a fresh cuts off",
+     5,
+     {{ORDER_START, 0, 1}, {ORDER_WRITE, 0, 5}, {ORDER_GIVE, 0, 2}, {ORDER_FRESH, 1, 5}, {ORDER_WRITE, 1, 5}},
+     {0, 0, 0, 0}},
+    {"no access ends it", 4, {{ORDER_START, 0, 1}, {ORDER_WRITE, 0, 5}, {ORDER_GIVE, 0, 2}, {ORDER_TAKE, 1, 2}}, {0, 0, 0, 0}},
+    {"a kind past a byte", 3, {{ORDER_START, 0, 1}, {ORDER_WRITE + 256, 0, 5}, {ORDER_READ, 1, 5}}, {1, 0, 0, 0}},
+    {"the first refused counts", 4, {{ORDER_READ, 0, 5}, {ORDER_READ, 16, 64}, {ORDER_LOST, 0, 0}, {ORDER_READ, 0, 5}}, {2, 0, 0, 0}},
+    {"refused at the end", 3, {{ORDER_START, 0, 1}, {ORDER_WRITE, 0, 5}, {ORDER_READ, 2, UINT32_MAX}}, {3, 0, 0, 0}},
+};
+
+/* The answer is just this, the memory beside it stays, and so does the list. */
+static void ends_with(const char *name, const uint32_t (*records)[3], size_t len, const uint64_t expected[4]) {
+    static uint32_t lent[MOST][3];
+    uint64_t got[6] = {77, 77, 77, 77, 77, 77};
+    memset(lent, 0xa5, sizeof lent);
+    memcpy(lent, records, len * sizeof lent[0]);
+    order_lazy(lent, len, got + 1);
+    char what[160];
+    snprintf(what, sizeof what, "list, %s: %llu %llu %llu %llu", name, (unsigned long long)got[1], (unsigned long long)got[2],
+             (unsigned long long)got[3], (unsigned long long)got[4]);
+    check(what, memcmp(got + 1, expected, 4 * sizeof got[0]) == 0 && got[0] == 77 && got[5] == 77);
+    check("a list stays", memcmp(lent, records, len * sizeof lent[0]) == 0 && all(lent + len, sizeof lent - len * sizeof lent[0], 0xa5));
+}
+
+static void lazily(void) {
+    for (size_t i = 0; i < sizeof lists / sizeof lists[0]; i++) ends_with(lists[i].name, lists[i].records, lists[i].len, lists[i].answer);
+
+    /* Document 01's example at each length: only its three accesses by task 1 have a pair. */
+    static const uint64_t expected[RECORDS + 1][4] = {[6] = {0, 1, 0, 1}, [7] = {0, 1, 0, 0}, [9] = {0, 1, 1, 2}, [10] = {6, 0, 0, 0}};
+    uint32_t records[RECORDS][3];
+    for (size_t i = 0; i < RECORDS; i++) {
+        records[i][0] = example[i].kind;
+        records[i][1] = example[i].task;
+        records[i][2] = example[i].on;
+    }
+    for (size_t len = 0; len <= RECORDS; len++) {
+        char name[80];
+        snprintf(name, sizeof name, "document 01's example, its first %zu records", len);
+        ends_with(name, records, len, expected[len]);
+    }
+}
+
 int main(void) {
     whole_texts();
     row_11();
@@ -451,6 +540,7 @@ int main(void) {
     text_and_records();
     too_little();
     any_text();
+    lazily();
     printf("host: %d passed, %d failed\n", passed, failed);
     return failed != 0;
 }

@@ -158,7 +158,8 @@ fn judged(recording: &[Record], report: &[u8]) -> Vec<Judged> {
 /// the sets are held against the entry.
 fn past_the_limit(tally: &mut Tally, order: Option<&str>) {
     for (seed, (stray, damage)) in [(0, 0), (10, 10), (30, 40)].into_iter().enumerate() {
-        let shape = Shape { length: 90_000, tasks: 16, variables: 64, objects: 32, marks: 5, named: usize::MAX, idle: 30, stray, damage };
+        let shape =
+            Shape { length: 90_000, tasks: 16, variables: 64, objects: 32, marks: 5, named: usize::MAX, idle: 30, stay: 0, stray, damage };
         let text = generate::recording(&mut Random::new(seed as u64), &shape);
         large(tally, order, &format!("past the limit, {seed}"), &text, &|got| orderly(&text, got));
         let reading = oracle::read(&text);

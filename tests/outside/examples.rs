@@ -7,7 +7,7 @@ pub struct Example {
 }
 
 /// Records in short, `write 0 5` for `op=write task=0 on=5` and `lost 3` for `op=lost tasks=3`.
-fn text(records: &str) -> Vec<u8> {
+pub fn text(records: &str) -> Vec<u8> {
     let mut out = String::new();
     for record in records.split(", ").filter(|record| !record.is_empty()) {
         match record.split(' ').collect::<Vec<_>>()[..] {

@@ -1,6 +1,6 @@
 //! Recordings at random from fixed seeds: sound ones, ones with records to refuse, and damaged text; and random fillings of marks.
 
-use crate::oracle::{fullest, Act, Op, OPS};
+use crate::oracle::{fullest, Act, Op, OPS, VARIABLES};
 
 /// splitmix64: small, and the same on every machine.
 pub struct Random(u64);
@@ -44,6 +44,8 @@ pub struct Shape {
     pub named: usize,
     /// A started task never acts.
     pub idle: usize,
+    /// A line is an access by the task that accessed the variable last.
+    pub stay: usize,
     /// A line is a record at random, in its ranges or not.
     pub stray: usize,
     /// A line is damaged.
@@ -62,6 +64,7 @@ pub fn shape(random: &mut Random) -> Shape {
         marks: random.pick(&[0, 3, 10, 25]),
         named: random.pick(&[2, 6, 12, 20]),
         idle: random.pick(&[0, 25, 60]),
+        stay: 0,
         stray: random.pick(&[0, 0, 4, 20]),
         damage: random.pick(&[0, 0, 0, 4, 20]),
     }
@@ -76,6 +79,8 @@ struct Maker<'a> {
     unseen: Vec<u32>,
     /// Tasks past the number in use, each good for one detour.
     couriers: Vec<u32>,
+    /// The task that accessed each variable last.
+    before: [Option<u32>; VARIABLES],
     named: usize,
     text: Vec<u8>,
 }
@@ -87,7 +92,17 @@ pub fn recording(random: &mut Random, shape: &Shape) -> Vec<u8> {
         unseen.swap(i, random.below(i + 1));
     }
     let couriers = (shape.tasks as u32..16).collect();
-    let mut maker = Maker { random, shape, acting: vec![0], idle: vec![], unseen, couriers, named: shape.named, text: vec![] };
+    let mut maker = Maker {
+        random,
+        shape,
+        acting: vec![0],
+        idle: vec![],
+        unseen,
+        couriers,
+        before: [None; VARIABLES],
+        named: shape.named,
+        text: vec![],
+    };
     if maker.random.percent(70) {
         for _ in 0..1 + maker.random.below(shape.tasks) {
             maker.start();
@@ -110,6 +125,8 @@ impl Maker<'_> {
             self.put(line);
         } else if self.random.percent(shape.marks) {
             self.mark();
+        } else if shape.stay > 0 && self.random.percent(shape.stay) {
+            self.stay();
         } else {
             match self.random.below(100) {
                 0..=4 => self.start(),
@@ -170,8 +187,22 @@ impl Maker<'_> {
     }
 
     fn access_by(&mut self, task: u32) {
+        self.access_as(|_, _| task);
+    }
+
+    /// By the task that came before, while it acts.
+    fn stay(&mut self) {
+        self.access_as(|maker, on| match maker.before[on] {
+            Some(task) if maker.acting.contains(&task) => task,
+            _ => maker.actor(),
+        });
+    }
+
+    fn access_as(&mut self, task: impl FnOnce(&mut Self, usize) -> u32) {
         let word = self.random.pick(&["read", "read", "write", "write", "bump"]);
         let on = self.random.below(self.shape.variables);
+        let task = task(self, on);
+        self.before[on] = Some(task);
         self.act(word, task, on);
     }
 

@@ -1,6 +1,6 @@
 //! Tests from outside: the C entry, texts in pieces and the programs `order` and `totals` against the plain path search, byte for byte, and bad
 //! input at scale; the programs on input that pauses; the running state and the sets, fed without text, against the same search, answer for answer,
-//! and their totals after each record.
+//! and their totals after each record; the lazy reckoning against a literal reading of document 02 over that search.
 //! `outside [ORDER TOTALS]` runs them; without the programs only the archive is tested.
 //! `outside --report` prints what the plain path search says of the recording on standard input.
 
@@ -10,6 +10,7 @@ mod entry;
 mod examples;
 mod feeding;
 mod generate;
+mod lazy;
 mod numbers;
 mod oracle;
 mod pauses;
@@ -100,18 +101,24 @@ const BETWEEN: [&str; 25] = [
     "op=lost tasks=4",
 ];
 
-/// Every recording with up to three of these records in between, which leaves out no short one.
-fn run_between(tally: &mut Tally) {
-    let mut middles = vec![String::new()];
+/// Every text with up to three of these lines, which leaves out no short one.
+fn short_texts(lines: &[&str]) -> Vec<String> {
+    let mut texts = vec![String::new()];
     let mut from = 0;
     for _ in 0..3 {
-        let upto = middles.len();
+        let upto = texts.len();
         for at in from..upto {
-            middles.extend(BETWEEN.map(|line| format!("{}{line}\n", middles[at])));
+            for line in lines {
+                texts.push(format!("{}{line}\n", texts[at]));
+            }
         }
         from = upto;
     }
-    for middle in middles {
+    texts
+}
+
+fn run_between(tally: &mut Tally) {
+    for middle in short_texts(&BETWEEN) {
         let text = format!("op=start task=0 on=1\nop=write task=0 on=5\n{middle}op=write task=1 on=5\n").into_bytes();
         let reading = oracle::read(&text);
         let judged = oracle::judge(&reading.recording);
@@ -195,7 +202,8 @@ fn run_generated(first: u64, order: Option<&str>) -> Tally {
 /// A few that are long, and a few with much lost, which take the search some seconds.
 fn run_long(first: u64) -> Tally {
     let mut tally = Tally::new();
-    let base = |length, tasks| Shape { length, tasks, variables: 3, objects: 4, marks: 0, named: 0, idle: 30, stray: 2, damage: 2 };
+    let base =
+        |length, tasks| Shape { length, tasks, variables: 3, objects: 4, marks: 0, named: 0, idle: 30, stay: 0, stray: 2, damage: 2 };
     let shapes = [
         base(3_000, 4),
         base(3_000, 16),
@@ -227,7 +235,7 @@ fn run_coverage(tally: &mut Tally) {
     let others =
         ["race", "clear", "doubt", "doubt tipped by a random completion", "recordings with a mark", "tables of any content, accepted"]
             .map(String::from);
-    for what in rows.into_iter().chain(unsayable).chain(others) {
+    for what in rows.into_iter().chain(unsayable).chain(others).chain(lazy::SEEN.map(String::from)) {
         let times = tally.seen.get(&what).copied().unwrap_or(0);
         println!("seen: {what}: {times}");
         tally.check(times >= 50, || format!("seen too seldom: {what}"));
@@ -264,6 +272,7 @@ fn run_all(order: Option<&str>, totals: Option<&str>) {
     on_threads(&mut tally, run_long);
     tally.part("long recordings");
     numbers::run(&mut tally);
+    lazy::run(&mut tally);
     bad::run(&mut tally, order);
     run_coverage(&mut tally);
     tally.part("coverage");

@@ -1,5 +1,5 @@
-/* The C entry, texts in pieces, the running state and the sets in memory allotted to the byte, to be run under valgrind: they must touch
- * nothing beyond it and use nothing unset. */
+/* The C entry, texts in pieces, the running state, the sets and lists for the lazy reckoning in memory allotted to the byte, to be run under
+ * valgrind: they must touch nothing beyond it and use nothing unset. */
 #include <stdio.h>
 #include <stdlib.h>
 #include <string.h>
@@ -151,6 +151,41 @@ static void cut(const char *text, size_t len, size_t size) {
     free(kept);
 }
 
+/* The first so many records of a list, all kinds by turns once all tasks are started, the last one being as it is given. */
+static void listed(size_t len, uint8_t last, uint64_t refusal) {
+    static const uint8_t kinds[] = {ORDER_WRITE, ORDER_GIVE, ORDER_SET,  ORDER_TAKE,  ORDER_LOOK, ORDER_READ,
+                                    ORDER_BUMP,  ORDER_MISS, ORDER_LOST, ORDER_FRESH, ORDER_WRITE};
+    uint32_t (*list)[3] = malloc(len ? len * sizeof *list : 1);
+    uint64_t *answer = malloc(4 * sizeof *answer);
+    if (!list || !answer) abort();
+    for (uint32_t i = 0; i < len; i++) {
+        list[i][0] = i + 1 == len ? last : i < 15 ? ORDER_START : kinds[i % sizeof kinds];
+        list[i][1] = i < 15 ? 0 : i / 3 % 16;
+        list[i][2] = i < 15 ? i + 1 : i / 7 % 31 + 1;
+    }
+    order_lazy(list, len, answer);
+    int right = answer[0] == refusal && answer[1] <= UINT16_MAX && (answer[2] & ~answer[1]) == 0 && answer[3] <= 15 * len;
+    if (len) right = right && (answer[1] >> list[len - 1][1] & 1) == 0;
+    if (refusal) right = right && answer[1] == 0 && answer[3] == 0;
+    if (right) {
+        passed++;
+    } else {
+        failed++;
+        printf("FAILED: the answer to a list of %zu records\n", len);
+    }
+    free(list);
+    free(answer);
+}
+
+static void lazily(void) {
+    listed(0, ORDER_WRITE, 0);
+    for (size_t len = 1; len < 4000; len += len < 100 ? 1 : 389) {
+        listed(len, ORDER_WRITE, 0);
+        listed(len, ORDER_GIVE, 0);
+        listed(len, 255, 1);
+    }
+}
+
 int main(void) {
     static const char sample[] =
         "op=start task=0 on=1\nop=write task=0 on=5\nop=give task=0 on=31\nop=set task=0 on=31\nop=lost tasks=3\nop=take task=1 on=31\n"
@@ -168,6 +203,7 @@ int main(void) {
     fed("clocks", order_begin, order_feed, ORDER_CLOCK_CELLS);
     fed_whole();
     fed("sets", order_sets_begin, order_sets_feed, ORDER_SET_CELLS);
+    lazily();
     printf("memory: %d passed, %d failed\n", passed, failed);
     return failed != 0;
 }

@@ -317,7 +317,7 @@ pub fn conflict(a: &Access, b: &Access) -> bool {
 /// Which event has a path to which, asked by places in the list of accesses.
 pub struct Paths {
     /// Where each access stands among the events.
-    places: Vec<usize>,
+    pub places: Vec<usize>,
     words: usize,
     /// For each event, a bit for each event that has a path to it.
     bits: Vec<u64>,
@@ -325,7 +325,11 @@ pub struct Paths {
 
 impl Paths {
     pub fn has(&self, from: usize, to: usize) -> bool {
-        let (from, to) = (self.places[from], self.places[to]);
+        self.leads(self.places[from], self.places[to])
+    }
+
+    /// The same, asked by places among the events.
+    pub fn leads(&self, from: usize, to: usize) -> bool {
         holds(&self.bits[to * self.words..], from)
     }
 }
@@ -368,16 +372,21 @@ pub fn racy(accesses: &[Access], paths: &Paths, this: usize) -> bool {
     (0..this).any(|earlier| conflict(&accesses[earlier], &accesses[this]) && !paths.has(earlier, this))
 }
 
+/// The latest conflicting earlier access of each task that has one, the lowest task first.
+pub fn pairs(accesses: &[Access], this: usize) -> impl Iterator<Item = usize> {
+    let mut latest = [None; TASKS as usize];
+    for earlier in (0..this).filter(|&earlier| conflict(&accesses[earlier], &accesses[this])) {
+        latest[accesses[earlier].task as usize] = Some(earlier);
+    }
+    latest.into_iter().flatten()
+}
+
 /// Among tasks whose latest conflicting earlier access has no path to this one, the lowest; that access's record number.
 fn partner(accesses: &[Access], paths: &Paths, this: usize) -> usize {
-    for task in 0..TASKS {
-        let latest = (0..this).rev().find(|&earlier| accesses[earlier].task == task && conflict(&accesses[earlier], &accesses[this]));
-        match latest {
-            Some(latest) if !paths.has(latest, this) => return accesses[latest].rec,
-            _ => {}
-        }
+    match pairs(accesses, this).find(|&latest| !paths.has(latest, this)) {
+        Some(latest) => accesses[latest].rec,
+        None => panic!("the oracle contradicts itself: a racy access without a partner"),
     }
-    panic!("the oracle contradicts itself: a racy access without a partner")
 }
 
 pub struct Judged {

@@ -38,7 +38,7 @@ access-alone o a = decided (acquiring o) refl
     decided false e = e
     decided true e = absurd (true≢false (sym (rw (e, is-true (by-test (isAccess o)) a) at (each-op test refl refl o))))
 
-access-op : (o : Op) → accesses (kind o) ≡ true → T (isAccess o)
+pub access-op : (o : Op) → accesses (kind o) ≡ true → T (isAccess o)
 access-op o e = decided (by-test (isAccess o))
   where
     decided : {b : Bool} → Reflects (T (isAccess o)) b → T (isAccess o)

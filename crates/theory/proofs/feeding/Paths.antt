@@ -243,18 +243,19 @@ module _ (w : Filling) {es : List Event} {last : List ℕ} (p q : Op) (t n : ℕ
 
 -- The same over the recording, as it arrived and in the fullest filling
 
-module _ {es after : List Event} {i : ℕ} {o q : Op} {t u v n : ℕ} (x : Occurs es i (act o u v) after) where
-  at-end : Ends (es ++ (act q t n ∷ [])) (length es) es (act q t n)
+module _ {es after : List Event} {i : ℕ} {e f : Event} (x : Occurs es i e after) where
+  at-end : Ends (es ++ (f ∷ [])) (length es) es f
   at-end = ends-middle es []
 
-  path-arrived : HappensBefore (es ++ (act q t n ∷ [])) i (length es) ↔ Leads (act o u v) (fillWith (filling arrived) after) (act q t n)
+  pub path-arrived : HappensBefore (es ++ (f ∷ [])) i (length es) ↔ Leads e (fillWith (filling arrived) after) f
   path-arrived =
-      subst (λ (g : ℕ → List Event). HappensBefore (es ++ (act q t n ∷ [])) i (length es) ↔ Leads (act o u v) (fillWith g after) (act q t n)) (sym arrived-nothing)
+      subst (λ (g : ℕ → List Event). HappensBefore (es ++ (f ∷ [])) i (length es) ↔ Leads e (fillWith g after) f) (sym arrived-nothing)
       (λ y. leads-survives (filled-with nothing after) (path-leads at-end x y), λ l. leads-path at-end x (leads-as-arrived (filled-with nothing after) l))
 
-  path-fullest : HappensBefore (fullest (es ++ (act q t n ∷ []))) (inFullest (es ++ (act q t n ∷ [])) i) (inFullest (es ++ (act q t n ∷ [])) (length es))
-      ↔ Leads (act o u v) (fillWith (filling full) after) (act q t n)
-  path-fullest = filled-path rounds at-end x
+path-fullest : {es after : List Event} {i : ℕ} {o q : Op} {t u v n : ℕ} → Occurs es i (act o u v) after →
+    HappensBefore (fullest (es ++ (act q t n ∷ []))) (inFullest (es ++ (act q t n ∷ [])) i) (inFullest (es ++ (act q t n ∷ [])) (length es))
+    ↔ Leads (act o u v) (fillWith (filling full) after) (act q t n)
+path-fullest x = filled-path rounds (at-end x) x
 
 -- A reckoning whose state is exact for a recording
 

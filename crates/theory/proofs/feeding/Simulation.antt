@@ -105,7 +105,7 @@ next-number x = let e = x .count in omega arith
 abbrev Then : List Event → Record → List Event
 Then es r = es ++ (eventOf r ∷ [])
 
-base-next : {es : List Event} {control last : List ℕ} {r : Record} → Base es control last → Shape es r →
+pub base-next : {es : List Event} {control last : List ℕ} {r : Record} → Base es control last → Shape es r →
     Base (Then es r) (controlAfter (r .kind) (r .on) control) (lastAfter (r .kind) (r .task) (r .on) (nextNumber control) last)
 base-next {es} {control} {last} b (an-act o t n a) =
     subst (λ (e : Event). Base (es ++ (e ∷ [])) (controlAfter (kind o) n control) (lastAfter (kind o) t n (nextNumber control) last)) (sym (event-act o t n))
@@ -220,7 +220,7 @@ after-all {c = c} x es s (r ∷ rs) h = after-all x (recordedAfter es r (refusal
 
 -- Clocks and sets are such
 
-fresh-base : Base [] freshControl (replicate slots 0)
+pub fresh-base : Base [] freshControl (replicate slots 0)
 fresh-base = record { control-exact = fresh-control; history = fresh-history; ranged = fresh-ranged; seen = fresh-seen }
 
 pub clocks-simulate : Simulates byClocks Represents

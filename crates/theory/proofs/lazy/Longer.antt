@@ -7,8 +7,8 @@ use Prim.Native.Nat.{ℕ, zero, suc, _≤_, _<_, zero-le, suc-le-suc}
 use native.Mathlib.Nat.{le-of-suc-le-suc, not-suc-le-zero}
 use native.Mathlib.Omega.{arith}
 use lib.ListN.{length, length-append}
-use Rattle.theory.specs.order.Recording.{write, Event, act, At, here, there, Every, no-more, ActsIn}
-use Rattle.theory.specs.order.Path.{StepAt, HappensBefore, one, more, Conflict, Empties, Against}
+use Rattle.theory.specs.order.Recording.{write, Event, act, At, here, there, no-more, ActsIn}
+use Rattle.theory.specs.order.Path.{HappensBefore, one, more, Conflict, Empties, Against}
 use Rattle.theory.specs.verdicts.Verdict.{Latest}
 use Rattle.theory.specs.lazy.Walk.{HandsOver, HandOverAt, ComesTo, Brings, Walks, Counted, none, this, other, ShortCircuit}
 use Rattle.theory.proofs.basics.Reflects.{Reflects, right, wrong, at-most}
@@ -32,14 +32,14 @@ pub at-new : (es : List Event) (x : Event) → At (es ++ (x ∷ [])) (length es)
 at-new [] x = here
 at-new (d ∷ es) x = there (at-new es x)
 
-pub at-back : (es : List Event) {x e : Event} {j : ℕ} → At (es ++ (x ∷ [])) j e → j < length es → At es j e
-at-back [] a h = absurd (not-suc-le-zero h)
-at-back (d ∷ es) here h = here
-at-back (d ∷ es) (there a) h = there (at-back es a (le-of-suc-le-suc h))
+pub at-back : (es : List Event) (x : Event) {e : Event} {j : ℕ} → At (es ++ (x ∷ [])) j e → j < length es → At es j e
+at-back [] x a h = absurd (not-suc-le-zero h)
+at-back (d ∷ es) x here h = here
+at-back (d ∷ es) x (there a) h = there (at-back es x a (le-of-suc-le-suc h))
 
-pub at-last : (es : List Event) {x e : Event} → At (es ++ (x ∷ [])) (length es) e → e ≡ x
-at-last [] here = refl
-at-last (d ∷ es) (there a) = at-last es a
+pub at-last : (es : List Event) (x : Event) {e : Event} → At (es ++ (x ∷ [])) (length es) e → e ≡ x
+at-last [] x here = refl
+at-last (d ∷ es) x (there a) = at-last es x a
 
 longer : (es : List Event) (x : Event) → length (es ++ (x ∷ [])) ≡ suc (length es)
 longer es x = omega (arith, length-append es (x ∷ []))
@@ -54,22 +54,22 @@ pub path-old : {es : List Event} {i j : ℕ} (x : Event) → HappensBefore es i 
 path-old x (one s) = one (record { e = s .e; f = s .f; from = at-old x (s .from); to = at-old x (s .to); later = s .later; step = s .step })
 path-old x (more s p) = more (record { e = s .e; f = s .f; from = at-old x (s .from); to = at-old x (s .to); later = s .later; step = s .step }) (path-old x p)
 
-pub path-back : {es : List Event} {x : Event} {i j : ℕ} → HappensBefore (es ++ (x ∷ [])) i j → j < length es → HappensBefore es i j
-path-back {es} (one s) h =
+pub path-back : (es : List Event) (x : Event) {i j : ℕ} → HappensBefore (es ++ (x ∷ [])) i j → j < length es → HappensBefore es i j
+path-back es x (one s) h =
     let l = s .later in
-    one (record { e = s .e; f = s .f; from = at-back es (s .from) (omega arith); to = at-back es (s .to) h; later = l; step = s .step })
-path-back {es} (more s p) h =
+    one (record { e = s .e; f = s .f; from = at-back es x (s .from) (omega arith); to = at-back es x (s .to) h; later = l; step = s .step })
+path-back es x (more s p) h =
     let l = s .later in
     let m = path-later p in
-    more (record { e = s .e; f = s .f; from = at-back es (s .from) (omega arith); to = at-back es (s .to) (omega arith); later = l; step = s .step }) (path-back p h)
+    more (record { e = s .e; f = s .f; from = at-back es x (s .from) (omega arith); to = at-back es x (s .to) (omega arith); later = l; step = s .step }) (path-back es x p h)
 
 -- Pairs
 
 latest-old : {es : List Event} {t i j : ℕ} (x : Event) → Latest es t i j → Latest (es ++ (x ∷ [])) t i j
 latest-old x l = let (before, d) = at-ends (l .earlier .to) in final-latest (ends-old x d) (latest-final d l)
 
-latest-back : {es : List Event} {x : Event} {t i j : ℕ} → Latest (es ++ (x ∷ [])) t i j → j < length es → Latest es t i j
-latest-back {es} {x} l h = let (before, d) = at-ends (at-back es (l .earlier .to) h) in final-latest d (latest-final (ends-old x d) l)
+latest-back : (es : List Event) (x : Event) {t i j : ℕ} → Latest (es ++ (x ∷ [])) t i j → j < length es → Latest es t i j
+latest-back es x l h = let (before, d) = at-ends (at-back es x (l .earlier .to) h) in final-latest d (latest-final (ends-old x d) l)
 
 -- task u's pair with an access f that comes next
 pub pair-final : (es : List Event) (f : Event) {u i : ℕ} → Latest (es ++ (f ∷ [])) u i (length es) ↔ Final u f es i
@@ -102,7 +102,7 @@ Stays u f x = (¬ Asked u f x) × (¬ Empties x f)
 abbrev pub PairOf : ℕ → Event → Event → List Event → Type 0
 PairOf u f e after = Against u e after f × (¬ Again u f after)
 
-module _ {u : ℕ} {f x : Event} where
+module _ {u : ℕ} {f : Event} (x : Event) where
   pub pair-keeps : (e : Event) (after : List Event) → PairOf u f e (after ++ (x ∷ [])) ↔ (Stays u f x × PairOf u f e after)
   pair-keeps e after = (to, from)
     where
@@ -118,7 +118,7 @@ module _ {u : ℕ} {f x : Event} where
           of (inl q) = n q
           of (inr q) = m q
 
-  pub final-old : {es : List Event} {i : ℕ} → Stays u f x → Final u f es i → Final u f (es ++ (x ∷ [])) i
+  unfoldable pub final-old : {es : List Event} {i : ℕ} → Stays u f x → Final u f es i → Final u f (es ++ (x ∷ [])) i
   final-old s a =
       let (b, n) = pair-keeps (a .x) (a .after) .1 (s, (a .against, a .none)) in
       record { x = a .x; after = a .after ++ (x ∷ []); occurs = occurs-old x (a .occurs); against = b; none = n }
@@ -137,18 +137,20 @@ module _ {u : ℕ} {f x : Event} where
 
 -- Walks
 
-module _ {es : List Event} {x : Event} where
+module _ (es : List Event) (x : Event) where
   hand-over-old : {j : ℕ} → HandOverAt es j → HandOverAt (es ++ (x ∷ [])) j
   hand-over-old h = record { event = h .event; at = at-old x (h .at); hands-over = h .hands-over }
 
   hand-over-back : {j : ℕ} → HandOverAt (es ++ (x ∷ [])) j → j < length es → HandOverAt es j
-  hand-over-back h l = record { event = h .event; at = at-back es (h .at) l; hands-over = h .hands-over }
+  hand-over-back h l = record { event = h .event; at = at-back es x (h .at) l; hands-over = h .hands-over }
 
   pub brings-old : {t i j : ℕ} → Brings es t i j → Brings (es ++ (x ∷ [])) t i j
+  unfolding hand-over-old
   brings-old b = record { hand-over = hand-over-old (b .hand-over); path = path-old x (b .path); comes-to = b .comes-to }
 
   pub brings-back : {t i j : ℕ} → Brings (es ++ (x ∷ [])) t i j → j < length es → Brings es t i j
-  brings-back b l = record { hand-over = hand-over-back (b .hand-over) l; path = path-back (b .path) l; comes-to = b .comes-to }
+  unfolding hand-over-back
+  brings-back b l = record { hand-over = hand-over-back (b .hand-over) l; path = path-back es x (b .path) l; comes-to = b .comes-to }
 
   -- a record that brings order stands in the recording, or is the last one
   pub brings-cases : {t i j : ℕ} → Brings (es ++ (x ∷ [])) t i j → Brings es t i j ⊎ ((j ≡ length es) × HandsOver x × ComesTo t x × HappensBefore (es ++ (x ∷ [])) i (length es))
@@ -161,7 +163,7 @@ module _ {es : List Event} {x : Event} where
       decided (right l) = inl (brings-back b l)
       decided (wrong n) =
           let e : j ≡ length es = omega (arith, in-all) in
-          let q : b .hand-over .event ≡ x = at-last es (subst (λ (k : ℕ). At (es ++ (x ∷ [])) k (b .hand-over .event)) e (b .hand-over .at)) in
+          let q : b .hand-over .event ≡ x = at-last es x (subst (λ (k : ℕ). At (es ++ (x ∷ [])) k (b .hand-over .event)) e (b .hand-over .at)) in
           inr (e, subst HandsOver q (b .hand-over .hands-over), subst (ComesTo t) q (b .comes-to), subst (HappensBefore (es ++ (x ∷ [])) i) e (b .path))
 
   walks-old : {t i j : ℕ} → Walks es t i j → Walks (es ++ (x ∷ [])) t i j
@@ -178,7 +180,7 @@ module _ {es : List Event} {x : Event} where
 
   pub last-walks : {t i : ℕ} → Walks (es ++ (x ∷ [])) t i (length es) → HandsOver x × ((j : ℕ) → ¬ Brings es t i j)
   last-walks w = (
-    subst HandsOver (at-last es (w .hand-over .at)) (w .hand-over .hands-over),
+    subst HandsOver (at-last es x (w .hand-over .at)) (w .hand-over .hands-over),
     λ j b. w .not-yet j (at-short (b .hand-over .at)) (brings-old b),
   )
 
@@ -196,7 +198,7 @@ module _ {es : List Event} {x : Event} where
         after = c .after;
         before = omega arith;
         writes = at-old x (c .writes);
-        had-paths = λ u m a. path-old x (c .had-paths u m (latest-back a l));
+        had-paths = λ u m a. path-old x (c .had-paths u m (latest-back es x a l));
       }
 
   -- a short circuit is by a write of the recording, or by the last record
@@ -206,12 +208,12 @@ module _ {es : List Event} {x : Event} where
     where
       decided : {b : Bool} → Reflects (c .j < length es) b → ShortCircuit es t v i (length es) ⊎ ((x ≡ act write t v) × ((u m : ℕ) → Final u x es m → HappensBefore (es ++ (x ∷ [])) m (length es)))
       decided (right l) =
-          inl (record { j = c .j; after = c .after; before = l; writes = at-back es (c .writes) l; had-paths = λ u m a. path-back (c .had-paths u m (latest-old x a)) l })
+          inl (record { j = c .j; after = c .after; before = l; writes = at-back es x (c .writes) l; had-paths = λ u m a. path-back es x (c .had-paths u m (latest-old x a)) l })
       decided (wrong n) =
           let h = c .before in
           let e : c .j ≡ length es = omega arith in
           inr (
-            sym (at-last es (subst (λ (k : ℕ). At (es ++ (x ∷ [])) k (act write t v)) e (c .writes))),
+            sym (at-last es x (subst (λ (k : ℕ). At (es ++ (x ∷ [])) k (act write t v)) e (c .writes))),
             λ u m a. subst (HappensBefore (es ++ (x ∷ [])) m) e (c .had-paths u m (subst (Latest (es ++ (x ∷ [])) u m) (sym e) (pair-final es x .1 a))),
           )
 
@@ -225,6 +227,17 @@ module _ {es : List Event} {x : Event} where
         writes = subst (λ (y : Event). At (es ++ (x ∷ [])) (length es) y) e (at-new es x);
         had-paths = λ u m a. p u m (pair-final es x .0 a);
       }
+
+  -- with the last record behind it, a short circuit is what it was
+  pub circuit-end : {t v i : ℕ} → ShortCircuit es t v i (length es) ↔ ShortCircuit (es ++ (x ∷ [])) t v i (length es)
+  circuit-end = (
+    λ c.
+        let l = c .before in
+        record { j = c .j; after = c .after; before = l; writes = at-old x (c .writes); had-paths = λ u m a. path-old x (c .had-paths u m (latest-back es x a l)) },
+    λ c.
+        let l = c .before in
+        record { j = c .j; after = c .after; before = l; writes = at-back es x (c .writes) l; had-paths = λ u m a. path-back es x (c .had-paths u m (latest-old x a)) l },
+  )
 
 -- Counts
 

@@ -35,7 +35,7 @@ negated : (b : Bool) → not b ≡ true → b ≡ false
 negated true e = sym e
 negated false e = refl
 
-or-true : (b : Bool) → (b || true) ≡ true
+pub or-true : (b : Bool) → (b || true) ≡ true
 or-true true = refl
 or-true false = refl
 

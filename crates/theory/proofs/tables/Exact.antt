@@ -1,32 +1,32 @@
 -- A column of a table is exact if its cells say to which nodes order has come. Acts and marks keep it so, in any filling, for
 -- clocks and sets alike and at any width. Assumes nothing.
-use mathlib.Core.Path.{_≡_, refl, sym, _∙_, subst}
-use mathlib.Core.Bool.{Bool, true, false, cond, not, _||_}
+use mathlib.Core.Path.{_≡_, refl, sym, subst}
+use mathlib.Core.Bool.{Bool, true, false, cond}
 use mathlib.Core.Logic.{_↔_, _⊎_, inl, inr}
 use mathlib.Core.List.{List, [], _∷_, _++_}
 use Prim.Native.Nat.{ℕ, _*_, _≤_, _<_}
 use native.Mathlib.Omega.{arith}
-use borrow.Author.Tests.{lt-ltb, le-ltb, ne-eqb}
+use borrow.Author.Tests.{lt-ltb, ne-eqb}
 use lib.Dec.{T, ltb, eqb, lit<}
 use lib.ListN.{replicate}
 use Rattle.theory.specs.order.Recording.{Op, Event, act, lost, series, kind}
 use Rattle.theory.specs.fillings.Completion.{bit, Named, Filling, fills}
-use Rattle.theory.specs.tables.Rows.{hub, cell, joinsActed, acquiredRow, releasedRow, alsoReleased, onward, isReleased, mix, mark, actedRow, tableRows}
+use Rattle.theory.specs.tables.Rows.{hub, cell, releasedRow, onward, isReleased, mix, mark, actedRow, tableRows}
 use Rattle.theory.specs.order.Limits.{tasks, flags}
-use Rattle.theory.proofs.order.Carry.{Node, due, acted, semaphore, flag, Acquires, own, Releases, own-next}
+use Rattle.theory.proofs.order.Carry.{Node, due, acted, semaphore, flag, Releases}
 use Rattle.theory.proofs.fillings.Fullest.{Acquired, Released, named-task}
 use Rattle.theory.proofs.fillings.Reach.{nobody-named, acquired-due, acquired-acted, acquired-semaphore, acquired-flag, released-due, released-acted, released-semaphore, released-flag}
 use Rattle.theory.proofs.tables.Rows.{Sized, Joins, Knows, fresh-cell, fresh-none}
 use Rattle.theory.proofs.tables.Acts.{flow-knows}
 use Rattle.theory.proofs.tables.Marks.{NamedKnows, mix-hub, mix-released, mix-untold, mix-acted}
-use Rattle.theory.proofs.tables.Nodes.{row, InRange, due-in, Object, a-semaphore, a-flag, object-row, row-below, row-one, acquiredNode, releasedNode, readNode, read-row, released-row, read-in, released-in, released-releases, acquires-cases, releases-cases, read-acquires, acquired-read, joined-in, released-object}
+use Rattle.theory.proofs.tables.Nodes.{row, InRange, due-in, Object, a-semaphore, a-flag, row-below, released-row, released-in}
 use Rattle.theory.proofs.tables.Follows.{ToObject, Follows, OwnPart, follows-act}
 use Rattle.theory.proofs.tables.NamedRows.{bit-named, named-bit, released-test, test-released}
 use Rattle.theory.proofs.order.Tests.{some-snoc, snoc-some, snoc-last}
 use Rattle.theory.proofs.order.Places.{nowhere}
 use Rattle.theory.proofs.fillings.Came.{Came, came-acted, Newly, Onward, came-next}
-use Rattle.theory.proofs.fillings.HasActed.{ActsAs, Acted, Ended, ended-act, no-releases, mark-came, came-mark, ended-mark, none-acted}
-use Rattle.theory.proofs.basics.Reflects.{Reflects, right, wrong, same-as, equal, at-most, by-test, is-true}
+use Rattle.theory.proofs.fillings.HasActed.{ActsAs, Acted, Ended, no-releases, mark-came, came-mark, ended-mark, none-acted}
+use Rattle.theory.proofs.basics.Reflects.{Reflects, right, wrong, same-as, equal, at-most, by-test}
 
 -- Definition
 

@@ -2,14 +2,13 @@
 -- that has come to its next act has come to that (Acted.antt). Assumes nothing.
 use mathlib.Core.Path.{_≡_, refl, sym, _∙_, ap}
 use mathlib.Core.Bool.{Bool, true, false, cond, _&&_}
-use mathlib.Core.List.{List}
 use mathlib.Core.Logic.{_⊎_, inl, inr}
 use Prim.Native.Nat.{ℕ, _+_, _-_, _≤_, _<_}
 use native.Mathlib.Omega.{arith}
 use borrow.Author.Tests.{lt-ltb, le-ltb}
 use lib.Dec.{ltb}
 use Rattle.theory.specs.order.Recording.{Op, take, give, look, set, start, join, act, series, kind, _is_}
-use Rattle.theory.specs.tables.Rows.{cell, actedRow, joinsActed, acquiredRow, releasedRow, hub, flagRow, semaphoreRow}
+use Rattle.theory.specs.tables.Rows.{acquiredRow, releasedRow, hub, flagRow, semaphoreRow}
 use Rattle.theory.specs.order.Limits.{tasks, semaphores, flags}
 use Rattle.theory.proofs.order.Ops.{Plain, Role, a-take, a-give, a-look, a-set, a-start, a-join, plain, role}
 use Rattle.theory.proofs.order.Carry.{Node, due, acted, semaphore, flag, Acquires, own, by-take, by-look, by-join, Releases, own-next, own-acted, by-give, by-set, by-start}

@@ -1,7 +1,7 @@
 -- F-6: what the lazy reckoning answers, for every list of records. proofs/lazy proves it of `lazily`.
-use Prim.Native.Nat.{ℕ, zero, suc, _≤_, _<_}
+use Prim.Native.Nat.{ℕ, suc, _≤_, _<_}
 use mathlib.Core.Path.{_≡_}
-use mathlib.Core.Bool.{Bool, true, false, cond, not, _&&_}
+use mathlib.Core.Bool.{true, false, cond, not, _&&_}
 use mathlib.Core.Logic.{_↔_}
 use mathlib.Core.List.{List, [], _∷_, _++_}
 use lib.Dec.{T, eqb}
@@ -13,7 +13,7 @@ use Rattle.theory.specs.order.Limits.{tasks}
 use Rattle.theory.specs.order.Recording.{Event, eventOf, accesses}
 use Rattle.theory.specs.order.Path.{HappensBefore}
 use Rattle.theory.specs.fillings.Completion.{bit}
-use Rattle.theory.specs.acceptance.Table.{refusal, recording}
+use Rattle.theory.specs.acceptance.Table.{recording}
 use Rattle.theory.specs.verdicts.Verdict.{Latest}
 use Rattle.theory.specs.feeding.Feeding.{refusalsAfter}
 use Rattle.theory.specs.feeding.Paths.{sets, leftBy}

@@ -1,7 +1,7 @@
 -- What the lazy reckoning computes, in one pass over the list. It reads the access that ends the list first, and follows order from the accesses
 -- that this one asks about, and from those that a write of the acting task would ask about, in words that have a bit for each of them.
 use Prim.Native.Nat.{ℕ, zero, suc, _+_, _*_, _-_, _%_, _^_}
-use mathlib.Core.Bool.{Bool, true, false, cond, not, _&&_, _||_}
+use mathlib.Core.Bool.{Bool, cond, not, _&&_, _||_}
 use mathlib.Core.List.{List, [], _∷_}
 use lib.Bits.{bitAnd, bitOr}
 use lib.Dec.{ltb, eqb}

@@ -1,9 +1,8 @@
 -- "Sets worked out only when needed": the walk, over places of a recording as it arrived. Nothing here is computed.
 use Prim.Native.Nat.{ℕ, zero, suc, _+_, _<_}
 use mathlib.Core.List.{List}
-use lib.Dec.{T}
 use Rattle.theory.specs.order.Limits.{tasks}
-use Rattle.theory.specs.order.Recording.{Op, write, take, give, look, set, start, join, Event, act, At, ActsIn}
+use Rattle.theory.specs.order.Recording.{write, take, give, look, set, start, join, Event, act, At, ActsIn}
 use Rattle.theory.specs.order.Path.{HappensBefore}
 use Rattle.theory.specs.verdicts.Verdict.{Latest}
 

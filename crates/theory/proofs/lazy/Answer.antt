@@ -1,0 +1,368 @@
+-- The lazy reckoning answers what document 02 asks of it, for every list of records. The statement is in specs/lazy/Answer.antt. Assumes nothing.
+use mathlib.Core.Path.{_≡_, refl, sym, _∙_, ap, subst}
+use mathlib.Core.Bool.{Bool, true, false, cond, not, _&&_, true≢false}
+use mathlib.Core.Logic.{_↔_, _≢_}
+use mathlib.Core.List.{List, [], _∷_, _++_}
+use Prim.Native.Nat.{ℕ, zero, suc, _-_, _%_, _^_, _≤_, _<_, zero-le}
+use native.Mathlib.Omega.{arith}
+use borrow.Author.Tests.{lt-ltb, le-ltb}
+use lib.Bits.{bitAnd}
+use lib.Dec.{T}
+use lib.ListN.{length, length-append, getD, take}
+use Rattle.theory.specs.declared.record.Record.{Record}
+use Rattle.theory.specs.declared.masks.Masks.{Masks}
+use Rattle.theory.specs.order.Limits.{tasks, variables}
+use Rattle.theory.specs.order.Recording.{Op, read, Event, act, ActsIn, acts, kind, kinds, lossMark, eventOf, isAccess, accessBy, accesses}
+use Rattle.theory.specs.order.Path.{HappensBefore, Conflict, conflict}
+use Rattle.theory.specs.fillings.Completion.{bit}
+use Rattle.theory.specs.acceptance.Table.{refusal, recordedAfter, extended, recording}
+use Rattle.theory.specs.acceptance.Control.{controlRefusal}
+use Rattle.theory.specs.verdicts.Verdict.{Latest}
+use Rattle.theory.specs.feeding.Step.{freshControl, freshSets}
+use Rattle.theory.specs.feeding.Feeding.{refusalsAfter}
+use Rattle.theory.specs.feeding.Paths.{sets, leftBy, Kept, KeptApart}
+use Rattle.theory.specs.lazy.Walk.{Walks, Counted, WalkOf, no-pair, no-walk, walk, Between, pair}
+use Rattle.theory.specs.lazy.Fold.{Lazy, wordAt, byEnd, column, pairsOf, walkBy, told, question, answeredAt, lazyEnd, Run, followed, freshLazy, lazily}
+use Rattle.theory.specs.lazy.Answer.{firstRefused, fedRefusal, Told, AnswersLazily}
+use Rattle.theory.proofs.basics.Reflects.{Reflects, right, wrong, by-test, equal, at-most}
+use Rattle.theory.proofs.order.Ops.{event-act, opOf-kind, op-of, on-series, access-on, access-tests}
+use Rattle.theory.proofs.order.Numbered.{kind-above}
+use Rattle.theory.proofs.acceptance.ControlTable.{same-refusal}
+use Rattle.theory.proofs.history.Numbers.{number-final, final-number}
+use Rattle.theory.proofs.verdicts.Latest.{Final}
+use Rattle.theory.proofs.feeding.Simulation.{Shape, an-act, a-mark, shape-of, RepresentsSets, after-all, sets-simulate}
+use Rattle.theory.proofs.feeding.Paths.{set-paths}
+use Rattle.theory.proofs.feeding.Asked.{access-op, sets-tell}
+use Rattle.theory.proofs.lazy.Columns.{low-bit, and-bit, sum-walks, walks-least}
+use Rattle.theory.proofs.lazy.Longer.{pair-final, final-one, counted-old, counted-fewer, circuit-end}
+use Rattle.theory.proofs.lazy.Tracks.{StandsFor, Tracks, path-own}
+use Rattle.theory.proofs.lazy.Passed.{access-plain}
+use Rattle.theory.proofs.lazy.Steps.{asked-for, Lazily}
+use Rattle.theory.proofs.lazy.Followed.{Holds, Over, follows-list, fresh-holds, first-after}
+
+-- What is told of an access at the end
+
+module _ (p : Op) (t v : ℕ) (isa : T (isAccess p)) (ht : t < tasks) (es : List Event) (s : Lazy) (y : Lazily p t v isa ht es s) where
+  abbrev f : Event
+  f = act p t v
+
+  abbrev all : List Event
+  all = es ++ (f ∷ [])
+
+  abbrev own : ℕ
+  own = wordAt (s .nodes) t
+
+  tracked : (u : ℕ) → u < tasks → Tracks t v u f u es s
+  tracked u hu = let e : column byEnd u ≡ u = omega arith in subst (λ (c : ℕ). Tracks t v u f c es s) e (y .tracks byEnd u (omega arith) hu)
+
+  pairs-told : (u : ℕ) → u < tasks → T (bit (s .walk .pairs) u) ↔ ((i : ℕ) × Latest all u i (length es))
+  pairs-told u hu = (
+    λ h. let (i, a) = tracked u hu .pair .0 h in (i, pair-final es f .1 a),
+    λ d. tracked u hu .pair .1 (d .0, pair-final es f .0 (d .1)),
+  )
+
+  path-told : (u : ℕ) (hu : u < tasks) {i : ℕ} → Latest all u i (length es) → HappensBefore all i (length es) ↔ T (bit own u)
+  path-told u hu l = path-own v ht (tracked u hu) (access-plain p isa) (pair-final es f .0 l)
+
+  paths-told : (u : ℕ) → u < tasks → T (bit (s .walk .pairs) u && bit own u) ↔ ((i : ℕ) × Latest all u i (length es) × HappensBefore all i (length es))
+  paths-told u hu = (
+    λ h. let (a, b) = split (bit (s .walk .pairs) u) (bit own u) h in let (i, l) = pairs-told u hu .0 a in (i, l, path-told u hu l .1 b),
+    λ d. joint (bit (s .walk .pairs) u) (bit own u) (pairs-told u hu .1 (d .0, d .1)) (path-told u hu (d .1) .0 (d .2)),
+  )
+    where
+      split : (a b : Bool) → T (a && b) → T a × T b
+      split true b h = (tt, h)
+      split false b h = absurd h
+
+      joint : (a b : Bool) → T a → T b → T (a && b)
+      joint true b h l = l
+      joint false b h l = h
+
+  -- The walks
+
+  walk-told : (u : ℕ) → u < tasks → WalkOf all t v (length es) u (walkBy own s u)
+  walk-told u hu = decided (by-test (bit (s .walk .pairs) u)) (by-test (bit (s .walk .known) u))
+    where
+      w : Tracks t v u f u es s
+      w = tracked u hu
+
+      counted : {i m : ℕ} (b : Bool) → Counted (Walks es t i) (length es) m → StandsFor b (getD (s .counts) u 0) (s .walk .walked) m →
+          Counted (Walks all t i) (length es) (cond b (getD (s .counts) u 0) (s .walk .walked - getD (s .counts) u 0))
+      counted {i} {m} true c e = subst (Counted (Walks all t i) (length es)) (sym e) (counted-old es f (omega arith) c)
+      counted {i} {m} false c e =
+          let q : s .walk .walked - getD (s .counts) u 0 ≡ m = omega arith in
+          subst (Counted (Walks all t i) (length es)) (sym q) (counted-old es f (omega arith) c)
+
+      decided : {a b : Bool} → Reflects (T (bit (s .walk .pairs) u)) a → Reflects (T (bit (s .walk .known) u)) b →
+          WalkOf all t v (length es) u (cond (a && not b) (cond (bit own u) (getD (s .counts) u 0) (s .walk .walked - getD (s .counts) u 0)) 0)
+      decided (wrong n) k = no-pair (λ i l. n (pairs-told u hu .1 (i, l)))
+      decided (right h) (right k) = let (i, a, c) = w .known .0 k in no-walk (pair-final es f .1 a) (circuit-end es f .0 c)
+      decided (right h) (wrong n) =
+          let (i, a) = w .pair .0 h in
+          let (m, c, e) = w .counts i a in
+          walk (pair-final es f .1 a) (λ d. n (w .known .1 (i, a, circuit-end es f .1 d))) (counted (bit own u) c e)
+
+  least : (u : ℕ) → u < tasks → (c : ℕ) → Between all (length es) u c → walkBy own s u ≤ c
+  least u hu c b = of (walk-told u hu) b
+    where
+      of : {m c : ℕ} → WalkOf all t v (length es) u m → Between all (length es) u c → m ≤ c
+      of (no-pair n) b = zero-le
+      of (no-walk l d) b = zero-le
+      of (walk l d k) (Between.no-pair n) = absurd (n _ l)
+      of (walk l d k) (pair {i = j} l′ k′) =
+          counted-fewer (λ m w. (w .hand-over, subst (λ (i : ℕ). i < m) (final-one (pair-final es f .0 l) (pair-final es f .0 l′)) (w .after))) k k′
+
+-- The eager sets
+
+module _ (rs : List Record) (p : Op) (t v : ℕ) (isa : T (isAccess p)) (hv : v < variables) where
+  -- what the sets keep for the access is the task's pair with it
+  kept-final : {u i : ℕ} → u < tasks → u ≢ t → Kept (recording rs) p v u i ↔ Final u (act p t v) (recording rs) i
+  kept-final {u} {i} hu n = (
+    λ k. number-final (history .base .history) isa hv hu n (set-paths rs .keeps p v u i isa hv hu .1 k),
+    λ a. set-paths rs .keeps p v u i isa hv hu .0 (final-number (history .base .history) isa hv hu n a),
+  )
+    where
+      history : RepresentsSets (recording rs) (leftBy sets rs)
+      history = after-all sets-simulate [] freshSets rs (sets-simulate .begins)
+
+  -- nobody's pair is one of its own
+  other-task : {u i : ℕ} → Final u (act p t v) (recording rs) i → u ≢ t
+  other-task a = of (a .against .by) (a .against .conflict)
+    where
+      of : {u : ℕ} {e : Event} → ActsIn u e → Conflict e (act p t v) → u ≢ t
+      of acts (conflict n c) = n
+
+  -- where a path leads from the pair the sets do not say that it is apart, and where none does they do
+  eager-told : (eager u : ℕ) → u < tasks → {i : ℕ} → Final u (act p t v) (recording rs) i → {own : Bool} →
+      T own ↔ HappensBefore (recording rs ++ (act p t v ∷ [])) i (length (recording rs)) →
+      T (bit eager u) ↔ KeptApart HappensBefore (recording rs) (act p t v) p v u → own ≡ not (bit eager u)
+  eager-told eager u hu {i} a {own} path apart = decided (by-test own) (by-test (bit eager u))
+    where
+      decided : {b c : Bool} → Reflects (T own) b → Reflects (T (bit eager u)) c → b ≡ not c
+      decided (right h) (right k) =
+          let (j, l, n) = apart .0 k in
+          absurd (n (subst (λ (m : ℕ). HappensBefore (recording rs ++ (act p t v ∷ [])) m (length (recording rs))) (final-one a (kept-final hu (other-task a) .0 l)) (path .0 h)))
+      decided (right h) (wrong k) = refl
+      decided (wrong h) (right k) = refl
+      decided (wrong h) (wrong k) = absurd (k (apart .1 (i, kept-final hu (other-task a) .1 a, λ b. h (path .1 b))))
+
+-- The whole answer for an access
+
+told-of : (rs : List Record) (p : Op) (t v : ℕ) (isa : T (isAccess p)) (ht : t < tasks) (hv : v < variables) (s : Lazy) (eager : Masks) →
+    Lazily p t v isa ht (recording rs) s →
+    ((u : ℕ) → u < tasks → T (bit (eager .arrived) u) ↔ KeptApart HappensBefore (recording rs) (act p t v) p v u) →
+    Told (recording rs ++ (act p t v ∷ [])) t v (length (recording rs)) eager (told (asked-for p t v isa ht) s)
+told-of rs p t v isa ht hv s eager y apart =
+    record {
+      refused = refl;
+      pairs = λ u hu. subst (λ (b : Bool). T b ↔ ((i : ℕ) × Latest all u i (length es))) (sym (low-bit (s .walk .pairs) u hu)) (pairs-told p t v isa ht es s y u hu);
+      paths = λ u hu. subst (λ (b : Bool). T b ↔ ((i : ℕ) × Latest all u i (length es) × HappensBefore all i (length es))) (sym (paths-bit u hu)) (paths-told p t v isa ht es s y u hu);
+      as-eager = λ u hu. paths-bit u hu ∙ (same u hu (by-test (bit (s .walk .pairs) u)) ∙ ap (λ (b : Bool). b && not (bit (eager .arrived) u)) (sym (low-bit (s .walk .pairs) u hu)));
+      walked = sum-walks (WalkOf all t v (length es)) own s (walk-told p t v isa ht es s y);
+      bounded = walks-least (Between all (length es)) own s (least p t v isa ht es s y);
+    }
+  where
+    es : List Event
+    es = recording rs
+
+    all : List Event
+    all = recording rs ++ (act p t v ∷ [])
+
+    own : ℕ
+    own = wordAt (s .nodes) t
+
+    paths-bit : (u : ℕ) → u < tasks → bit (bitAnd (s .walk .pairs) own % 2 ^ tasks) u ≡ (bit (s .walk .pairs) u && bit own u)
+    paths-bit u hu = low-bit (bitAnd (s .walk .pairs) own) u hu ∙ and-bit (s .walk .pairs) own u
+
+    same : (u : ℕ) → u < tasks → {b : Bool} → Reflects (T (bit (s .walk .pairs) u)) b → (b && bit own u) ≡ (b && not (bit (eager .arrived) u))
+    same u hu (wrong n) = refl
+    same u hu (right h) =
+        let (i, l) = pairs-told p t v isa ht es s y u hu .0 h in
+        let path = path-told p t v isa ht es s y u hu l in
+        eager-told rs p t v isa hv (eager .arrived) u hu (pair-final es (act p t v) .0 l) (path .1, path .0) (apart u hu)
+
+-- The question
+
+-- a kind that accesses is an op's
+access-of : (k : ℕ) → accesses k ≡ true → (o : Op) × (k ≡ kind o) × T (isAccess o)
+access-of k e = decided (at-most (length kinds) k) (equal k lossMark)
+  where
+    decided : {a b : Bool} → Reflects (length kinds ≤ k) a → Reflects (k ≡ lossMark) b → (o : Op) × (k ≡ kind o) × T (isAccess o)
+    decided (right h) m = absurd (true≢false (sym e ∙ ap accessBy (kind-above k h)))
+    decided (wrong h) (right m) = absurd (true≢false (sym e ∙ ap accesses m))
+    decided (wrong h) (wrong m) = let (o, q) = op-of k (omega arith) m in (o, q, access-op o (sym (ap accesses q) ∙ e))
+
+-- whatever record ends a list, it is asked for an access of a task
+record Asks (q : Record) : Type 0 where
+  p : Op
+  t : ℕ
+  v : ℕ
+  isa : T (isAccess p)
+  ht : t < tasks
+  for : question q ≡ asked-for p t v isa ht
+
+asks-of : (q : Record) → Asks q
+asks-of q = decided (accesses (q .kind)) refl (at-most (suc (q .task)) tasks) (at-most (suc (q .on)) variables)
+  where
+    decided : (a : Bool) → accesses (q .kind) ≡ a → {b c : Bool} → Reflects (q .task < tasks) b → Reflects (q .on < variables) c → Asks q
+    decided true e (right h) (right l) =
+        let (o, k, i) = access-of (q .kind) e in
+        record {
+          p = o;
+          t = q .task;
+          v = q .on;
+          isa = i;
+          ht = h;
+          for = rw (e, lt-ltb (q .task) tasks h, lt-ltb (q .on) variables l) (λ j. record { kind = k j; task = q .task; on = q .on });
+        }
+    decided true e (right h) (wrong l) = record { p = read; t = 0; v = 0; isa = tt; ht = omega arith; for = rw (e, lt-ltb (q .task) tasks h, le-ltb (q .on) variables (omega arith)) }
+    decided true e (wrong h) l = record { p = read; t = 0; v = 0; isa = tt; ht = omega arith; for = rw (e, le-ltb (q .task) tasks (omega arith)) }
+    decided false e h l = record { p = read; t = 0; v = 0; isa = tt; ht = omega arith; for = rw e }
+
+-- A list with one record more
+
+-- the first number, or the second where that is 0
+abbrev orElse : ℕ → ℕ → ℕ
+orElse zero k = k
+orElse (suc n) k = suc n
+
+-- the refusal of the first refused record of a list with q behind it
+with-last : (rs : List Record) (es : List Event) (q : Record) →
+    firstRefused (refusalsAfter es (rs ++ (q ∷ []))) ≡ orElse (firstRefused (refusalsAfter es rs)) (refusal (extended es rs) q)
+with-last [] es q = alone (refusal es q)
+  where
+    alone : (n : ℕ) → firstRefused (n ∷ []) ≡ n
+    alone zero = refl
+    alone (suc n) = first-after (suc n) [] (λ e. omega arith)
+with-last (r ∷ rs) es q = of (refusal es r) (λ es. with-last rs es q)
+  where
+    of : (n : ℕ) →
+        ((es : List Event) → firstRefused (refusalsAfter es (rs ++ (q ∷ []))) ≡ orElse (firstRefused (refusalsAfter es rs)) (refusal (extended es rs) q)) →
+        firstRefused (n ∷ refusalsAfter (recordedAfter es r n) (rs ++ (q ∷ [])))
+        ≡ orElse (firstRefused (n ∷ refusalsAfter (recordedAfter es r n) rs)) (refusal (extended (recordedAfter es r n) rs) q)
+    of zero rest = rest (recordedAfter es r zero)
+    of (suc n) rest =
+        rw (first-after (suc n) (refusalsAfter (recordedAfter es r (suc n)) (rs ++ (q ∷ []))) (λ e. omega arith), first-after (suc n) (refusalsAfter (recordedAfter es r (suc n)) rs) (λ e. omega arith))
+
+-- what is answered for it is asked of its last record
+lazily-last : (rs : List Record) (q : Record) → lazily (rs ++ (q ∷ [])) ≡ lazyEnd rs q
+lazily-last [] q = refl
+lazily-last (r ∷ rs) q =
+    let e : length (rs ++ (q ∷ [])) ≡ suc (length rs) = omega (arith, length-append rs (q ∷ [])) in
+    rw (e, firsts rs, last rs)
+  where
+    firsts : (rs : List Record) → take (length rs) (rs ++ (q ∷ [])) ≡ rs
+    firsts [] = refl
+    firsts (x ∷ rs) = ap (λ (l : List Record). x ∷ l) (firsts rs)
+
+    last : (rs : List Record) → getD (rs ++ (q ∷ [])) (length rs) r ≡ q
+    last [] = refl
+    last (x ∷ rs) = last rs
+
+-- a list is empty, or has a last record
+pub data Snoc : List Record → Type 0 where
+  empty : Snoc []
+  snoc : (rs : List Record) (q : Record) → Snoc (rs ++ (q ∷ []))
+
+snoc-of : (rs : List Record) → Snoc rs
+snoc-of [] = empty
+snoc-of (r ∷ rs) = of (snoc-of rs)
+  where
+    of : {rs : List Record} → Snoc rs → Snoc (r ∷ rs)
+    of empty = snoc [] r
+    of (snoc rs q) = snoc (r ∷ rs) q
+
+-- The claim
+
+module _ (rs : List Record) (q : Record) where
+  abbrev run : Run
+  run = followed (question q) freshControl freshLazy rs
+
+  over : let a = asks-of q in Over (a .p) (a .t) (a .v) (a .isa) (a .ht) [] rs run
+  over =
+      let a = asks-of q in
+      subst (λ (x : Record). Over (a .p) (a .t) (a .v) (a .isa) (a .ht) [] rs (followed x freshControl freshLazy rs)) (sym (a .for))
+      (follows-list (a .p) (a .t) (a .v) (a .isa) (a .ht) rs [] freshControl freshLazy (fresh-holds (a .p) (a .t) (a .v) (a .isa) (a .ht)))
+
+  -- the refusal of the whole list
+  refusal-last : fedRefusal (rs ++ (q ∷ [])) ≡ orElse (run .refused) (controlRefusal (run .control) q)
+  refusal-last = with-last rs [] q ∙ (rw (← over .refused) (of (run .refused) (over .holds)))
+    where
+      of : (n : ℕ) → (n ≡ 0 → let a = asks-of q in Holds (a .p) (a .t) (a .v) (a .isa) (a .ht) (extended [] rs) (run .control) (run .lazy)) →
+          orElse n (refusal (extended [] rs) q) ≡ orElse n (controlRefusal (run .control) q)
+      of zero h = sym (same-refusal (h refl .base .control-exact) q)
+      of (suc n) h = refl
+
+  refused-end : (n : ℕ) → fedRefusal (rs ++ (q ∷ [])) ≡ suc n → lazyEnd rs q ≡ pairsOf (suc n) 0 0 0
+  unfolding lazyEnd
+  refused-end n e = of (run .refused) (controlRefusal (run .control) q) (sym refusal-last ∙ e)
+    where
+      of : (m k : ℕ) → orElse m (k) ≡ suc n → elim m [ zero ↦ answeredAt q run k | suc n ↦ pairsOf (suc n) 0 0 0 ] ≡ pairsOf (suc n) 0 0 0
+      of zero k e = rw e
+      of (suc m) k e = rw e
+
+  accepted-end : fedRefusal (rs ++ (q ∷ [])) ≡ 0 →
+      (run .refused ≡ 0) × (controlRefusal (run .control) q ≡ 0) × (lazyEnd rs q ≡ cond (accesses (q .kind)) (told q (run .lazy)) (pairsOf 0 0 0 0))
+  unfolding lazyEnd
+  accepted-end e = of (run .refused) (controlRefusal (run .control) q) (sym refusal-last ∙ e)
+    where
+      of : (m k : ℕ) → orElse m k ≡ 0 →
+          (m ≡ 0) × (k ≡ 0) × (elim m [ zero ↦ answeredAt q run k | suc n ↦ pairsOf (suc n) 0 0 0 ] ≡ cond (accesses (q .kind)) (told q (run .lazy)) (pairsOf 0 0 0 0))
+      of zero k e = (refl, e, rw e)
+      of (suc m) k e = absurd (omega arith)
+
+  -- where all are accepted, so is the last
+  last-accepted : fedRefusal (rs ++ (q ∷ [])) ≡ 0 → refusal (recording rs) q ≡ 0
+  last-accepted e = let (z, c, _) = accepted-end e in sym (same-refusal (over .holds z .base .control-exact) q) ∙ c
+
+-- an access in range is what is asked for
+asked-itself : (o : Op) (t n : ℕ) → T (isAccess o) → t < tasks → n < variables → question (record { kind = kind o; task = t; on = n }) ≡ record { kind = kind o; task = t; on = n }
+asked-itself o t n a ht hn = rw (access-tests o a, lt-ltb t tasks ht, lt-ltb n variables hn)
+
+access-told : (rs : List Record) {q : Record} → Shape (recording rs) q → accesses (q .kind) ≡ true → refusal (recording rs) q ≡ 0 → (run rs q) .refused ≡ 0 →
+    Told (recording rs ++ (eventOf q ∷ [])) (q .task) (q .on) (length (recording rs)) (sets .masks (leftBy sets rs) q) (told q ((run rs q) .lazy))
+access-told rs (a-mark t n m) e h z = absurd (true≢false (sym e))
+access-told rs (an-act o t n a) e h z = rw (event-act o t n) (told-of rs o t n isa ht hn _ (sets .masks (leftBy sets rs) r) (x .holds (x-refused z) .lazily) apart)
+  where
+    r : Record
+    r = record { kind = kind o; task = t; on = n }
+
+    isa : T (isAccess o)
+    isa = access-op o e
+
+    ht : t < tasks
+    ht = a .fits .task-fits
+
+    hn : n < variables
+    hn = access-on o isa (on-series o (a .fits))
+
+    x : Over o t n isa ht [] rs (run rs r)
+    x =
+        subst (λ (y : Record). Over o t n isa ht [] rs (followed y freshControl freshLazy rs)) (sym (asked-itself o t n isa ht hn))
+        (follows-list o t n isa ht rs [] freshControl freshLazy (fresh-holds o t n isa ht))
+
+    x-refused : (run rs r) .refused ≡ 0 → (run rs r) .refused ≡ 0
+    x-refused z = z
+
+    apart : (u : ℕ) → u < tasks → T (bit ((sets .masks (leftBy sets rs) r) .arrived) u) ↔ KeptApart HappensBefore (recording rs) (act o t n) o n u
+    apart u hu =
+        subst (λ (f : Event). T (bit ((sets .masks (leftBy sets rs) r) .arrived) u) ↔ KeptApart HappensBefore (recording rs) f o n u) (event-act o t n)
+        (subst (λ (p : Op). T (bit ((sets .masks (leftBy sets rs) r) .arrived) u) ↔ KeptApart HappensBefore (recording rs) (eventOf r) p n u) (opOf-kind o)
+        (sets-tell rs r h e .as-arrived u hu))
+
+pub answers-lazily : AnswersLazily lazily
+answers-lazily =
+    record {
+      refused = λ rs n e. refused (snoc-of rs) n e;
+      empty = refl;
+      other-end = λ rs q e a. lazily-last rs q ∙ (accepted-end rs q e .2 ∙ rw a);
+      access-end = λ rs q e a.
+          let (z, c, t) = accepted-end rs q e in
+          let h = last-accepted rs q e in
+          subst (Told (recording rs ++ (eventOf q ∷ [])) (q .task) (q .on) (length (recording rs)) (sets .masks (leftBy sets rs) q)) (sym (lazily-last rs q ∙ (t ∙ rw a)))
+          (access-told rs (shape-of (recording rs) q h) a h z);
+    }
+  where
+    refused : {rs : List Record} → Snoc rs → (n : ℕ) → fedRefusal rs ≡ suc n → lazily rs ≡ pairsOf (suc n) 0 0 0
+    refused empty n e = absurd (omega arith)
+    refused (snoc rs q) n e = lazily-last rs q ∙ refused-end rs q n e
