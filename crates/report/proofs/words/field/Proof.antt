@@ -3,7 +3,7 @@ use mathlib.Core.Path.{sym, ap, _∙_}
 use Prim.Native.Nat.{_≤_}
 use lib.ListN.{length}
 use borrow.Author.Needs.{needs}
-use Rattle.text.specs.LineForm.{decimalOf}
+use Rattle.text.specs.LineForm.{readDecimal}
 use Rattle.text.proofs.Bytes.{word-fits}
 use Rattle.text.proofs.LineForm.{named, unnamed, part-from}
 use Rattle.report.proofs.words.field.Statement.{statement}
@@ -22,7 +22,7 @@ part-decimal-start c = within c
 returns : tie.Need-returns
 returns c =
     let a = c .before .before .before .before .before .before .args in
-    c .decimal .ensures ∙ ap decimalOf (part-from (a .s .now) (length (a .name .now)))
+    c .decimal .ensures ∙ ap readDecimal (part-from (a .s .now) (length (a .name .now)))
     ∙ sym (named _ _ (sym (c .before .before .before .starts-with .ensures) ∙ c .before .before .if1 .taken))
 
 returns-2 : tie.Need-returns-2
