@@ -10,21 +10,21 @@ pub const PIECE: usize = 1024;
 
 const LF: u8 = b'\n';
 
-// Where a piece stands in its block, and how many bytes of that were read. A piece without bytes is the end of the input.
+// Where a piece stands in its block, how many bytes of that were read, and whether there may be more input.
 pub struct Span {
     pub from: usize,
     pub end: usize,
     pub len: usize,
+    pub more: bool,
 }
 
-// Before the first piece, and after the last.
-pub fn no_piece() -> Span
-    ensures { λ r. ⌜ (r .from ≤ r .end) × (r .end ≤ 0) ⌝ }
-{
+// Before the first piece.
+pub fn no_piece() -> Span {
     Span {
         from: 0,
         end: 0,
         len: 0,
+        more: true,
     }
 }
 
@@ -57,24 +57,43 @@ fn after_lf(block: &[u8], from: usize, most: usize) -> usize
 
 // The piece that begins at a place of a block; where lines are asked for, it ends after the next LF.
 fn piece_at(block: &[u8], from: usize, len: usize, lines: bool) -> Span
-    requires { ⌜ len ≤ length (now block) ⌝ }
+    requires { ⌜ (from < len) × (len ≤ length (now block)) ⌝ }
     ensures { λ r. ⌜ (r .from ≤ r .end) × (r .end ≤ length (now (block .entry))) ⌝ }
 {
-    if len <= from {
-        return no_piece();
-    }
     let most = furthest(from, len);
     let end = if lines {
         after_lf(block, from, most)
     } else {
         most
     };
-    Span { from, end, len }
+    Span {
+        from,
+        end,
+        len,
+        more: true,
+    }
+}
+
+// The last piece: LF, where a line has begun that none ends, and else nothing.
+fn last_piece(block: &mut [u8], begun: bool) -> Span
+    ensures { λ r. ⌜ (r .from ≤ r .end) × (r .end ≤ length (now (block .exit))) ⌝ }
+{
+    let mut end = 0;
+    if begun && 0 < block.len() {
+        block[0] = LF;
+        end = 1;
+    }
+    Span {
+        from: 0,
+        end,
+        len: end,
+        more: false,
+    }
 }
 
 // The piece after another, from the next block where that one is used up. A read may bring less than a block; none at all is the end of the input, and
-// one that fails says so, by the words for it, and is the end as well.
-pub fn next_piece(block: &mut [u8], was: Span, lines: bool, failed: &[u8]) -> Span
+// one that fails says so, by the words for it, and is the end as well. `begun` says whether a line has begun, which the end of the input ends.
+pub fn next_piece(block: &mut [u8], was: Span, lines: bool, begun: bool, failed: &[u8]) -> Span
     ensures { λ r. ⌜ (r .from ≤ r .end) × (r .end ≤ length (now (block .exit))) ⌝ }
 {
     if was.end < was.len && was.len <= block.len() {
@@ -85,5 +104,8 @@ pub fn next_piece(block: &mut [u8], was: Span, lines: bool, failed: &[u8]) -> Sp
         io::write_all(STDERR_FILENO, failed);
     }
     let n = io::count(got, block);
+    if n == 0 {
+        return last_piece(block, begun);
+    }
     piece_at(block, 0, n, lines)
 }

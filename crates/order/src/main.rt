@@ -6,7 +6,6 @@ use checker::begin;
 use input::next_piece;
 use input::no_piece;
 use output::OUT;
-use output::write_out;
 use output::write_ready;
 use report::HELD_MOST;
 use report::REFUSED;
@@ -39,6 +38,7 @@ fn main() {
             &mut block,
             piece,
             false,
+            now.held > 0,
             b"order: the input cannot be read\n",
         );
         let from = piece.from;
@@ -54,22 +54,7 @@ fn main() {
             &mut fullclocks,
         );
         now = write_ready(&out, answered, end == piece.len);
-        more = from < end && now.at < REFUSED;
+        more = piece.more && now.at < REFUSED;
         turns -= 1;
     }
-    // A rest without LF is answered as if LF ended it.
-    if now.held == 0 {
-        return;
-    }
-    let answered = report_piece(
-        &mut out,
-        b"\n",
-        &mut held,
-        now,
-        &mut control,
-        &mut last,
-        &mut clocks,
-        &mut fullclocks,
-    );
-    write_out(&out, answered);
 }

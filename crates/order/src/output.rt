@@ -12,7 +12,7 @@ const WAITING: usize = 65_536;
 pub(crate) const OUT: usize = WAITING + LINE_ROOM * PIECE;
 
 // Writes what waits. Once the output is closed, `at` stands past the memory, so that nothing more is taken in or written.
-pub(crate) fn write_out(out: &[u8], now: Progress) -> Progress {
+fn write_out(out: &[u8], now: Progress) -> Progress {
     let n = now.at;
     if out.len() < n {
         return now;

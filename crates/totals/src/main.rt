@@ -51,6 +51,7 @@ fn run(every: u32) {
             &mut block,
             piece,
             true,
+            now.held > 0,
             b"totals: the input cannot be read\n",
         );
         let from = piece.from;
@@ -67,23 +68,8 @@ fn run(every: u32) {
             &mut fullclocks,
         );
         now = show_due(&control, every, before, read);
-        more = from < end && now.at < REFUSED;
+        more = piece.more && now.at < REFUSED;
         turns -= 1;
-    }
-    // A rest without LF is fed as if LF ended it.
-    if now.held > 0 {
-        let before = control[COUNT];
-        let read = report_piece(
-            &mut report,
-            b"\n",
-            &mut held,
-            now,
-            &mut control,
-            &mut last,
-            &mut clocks,
-            &mut fullclocks,
-        );
-        now = show_due(&control, every, before, read);
     }
     if now.at < REFUSED {
         show(&control, every);
