@@ -5,7 +5,7 @@ ghost use Prim.Native.Nat.{_≤_, _<_};
 ghost use lib.ListN.{length};
 ghost use Rattle.text.specs.LineForm.{isDigit, isPlain, digits, readDigits, readDecimal};
 
-const DIGITS: usize = 5;
+pub const DIGITS: usize = 5;
 
 fn is_digit(b: u8) -> bool
     ensures { λ r. ⌜ r ≡ isDigit b ⌝ }
@@ -70,7 +70,7 @@ pub(crate) fn read_short(s: &[u8]) -> Number
 }
 
 // What a part of a line says as a decimal.
-pub(crate) fn decimal(s: &[u8]) -> Number
+pub fn read_decimal(s: &[u8]) -> Number
     ensures { λ r. ⌜ r ≡ readDecimal (now (s .entry)) ⌝ }
 {
     if is_plain(s) {
