@@ -21,8 +21,8 @@ use Rattle.text.proofs.RoundTrip.{long-refused}
 -- What is held of a line
 
 -- what is kept where a line has begun with h
-abbrev pub keptWith : State → ℕ → List ℕ → Kept
-keptWith s n h = kept s n (take heldMost h)
+abbrev pub holding : State → ℕ → List ℕ → Kept
+holding s n h = kept s n (take heldMost h)
 
 -- cutting before a list is added or after makes no difference
 pub take-again : (n : ℕ) (a b : List ℕ) → take n (take n a ++ b) ≡ take n (a ++ b)
@@ -43,19 +43,19 @@ parse-held s = picked (leb (length s) heldMost) refl
 
 -- Byte by byte
 
-pub at-lf : (s : State) (n : ℕ) (h : List ℕ) → saidAt (keptWith s n h) lf ≡ saidFor (suc n) s (parseOf h)
+pub at-lf : (s : State) (n : ℕ) (h : List ℕ) → saidAt (holding s n h) lf ≡ saidFor (suc n) s (parseOf h)
 unfolding saidAt
 at-lf s n h = ap (saidFor (suc n) s) (parse-held h)
 
-pub after-lf : (s : State) (n : ℕ) (h : List ℕ) → afterByte (keptWith s n h) lf ≡ keptWith (stateAfter s (parseOf h)) (suc n) []
+pub after-lf : (s : State) (n : ℕ) (h : List ℕ) → afterByte (holding s n h) lf ≡ holding (stateAfter s (parseOf h)) (suc n) []
 unfolding afterByte
-after-lf s n h = ap (λ (p : Parsed). keptWith (stateAfter s p) (suc n) []) (parse-held h)
+after-lf s n h = ap (λ (p : Parsed). holding (stateAfter s p) (suc n) []) (parse-held h)
 
 pub at-other : (k : Kept) (b : ℕ) → (b ≡ lf → ⊥) → saidAt k b ≡ []
 unfolding saidAt
 at-other k b d = rw (ne-eqb b lf d)
 
-pub after-other : (s : State) (n : ℕ) (h : List ℕ) (b : ℕ) → (b ≡ lf → ⊥) → afterByte (keptWith s n h) b ≡ keptWith s n (h ++ (b ∷ []))
+pub after-other : (s : State) (n : ℕ) (h : List ℕ) (b : ℕ) → (b ≡ lf → ⊥) → afterByte (holding s n h) b ≡ holding s n (h ++ (b ∷ []))
 unfolding afterByte
 after-other s n h b d = rw (ne-eqb b lf d, take-again heldMost h (b ∷ []))
 
@@ -83,36 +83,36 @@ all-joined k (p ∷ ps) =
 
 -- a rest without LF is held
 pub rest-held : (s : State) (n : ℕ) (h l : List ℕ) → Without lf l
-    → (saidIn (keptWith s n h) l ≡ []) × (afterPiece (keptWith s n h) l ≡ keptWith s n (h ++ l))
+    → (saidIn (holding s n h) l ≡ []) × (afterPiece (holding s n h) l ≡ holding s n (h ++ l))
 unfolding saidIn afterPiece
-rest-held s n h [] w = (refl, ap (keptWith s n) (sym (append-nil h)))
+rest-held s n h [] w = (refl, ap (holding s n) (sym (append-nil h)))
 rest-held s n h (b ∷ l) w =
     let (d, v) = without-head lf b l w in
     let (p, q) = rest-held s n (h ++ (b ∷ [])) l v in (
-      rw (at-other (keptWith s n h) b d, after-other s n h b d) p,
-      rw (after-other s n h b d) (q ∙ ap (keptWith s n) (append-assoc h (b ∷ []) l)),
+      rw (at-other (holding s n h) b d, after-other s n h b d) p,
+      rw (after-other s n h b d) (q ∙ ap (holding s n) (append-assoc h (b ∷ []) l)),
     )
 
 -- a line that LF ends is answered
 pub line-said : (s : State) (n : ℕ) (h l rest : List ℕ) → Without lf l
-    → saidIn (keptWith s n h) (l ++ (lf ∷ rest))
-    ≡ saidFor (suc n) s (parseOf (h ++ l)) ++ saidIn (keptWith (stateAfter s (parseOf (h ++ l))) (suc n) []) rest
+    → saidIn (holding s n h) (l ++ (lf ∷ rest))
+    ≡ saidFor (suc n) s (parseOf (h ++ l)) ++ saidIn (holding (stateAfter s (parseOf (h ++ l))) (suc n) []) rest
 unfolding saidIn
 line-said s n h l rest w =
     let (p, q) = rest-held s n h l w in
-    said-append (keptWith s n h) l (lf ∷ rest)
+    said-append (holding s n h) l (lf ∷ rest)
     ∙ rw (p, q, at-lf s n (h ++ l), after-lf s n (h ++ l))
 
 pub line-after : (s : State) (n : ℕ) (h l rest : List ℕ) → Without lf l
-    → afterPiece (keptWith s n h) (l ++ (lf ∷ rest)) ≡ afterPiece (keptWith (stateAfter s (parseOf (h ++ l))) (suc n) []) rest
+    → afterPiece (holding s n h) (l ++ (lf ∷ rest)) ≡ afterPiece (holding (stateAfter s (parseOf (h ++ l))) (suc n) []) rest
 unfolding afterPiece
 line-after s n h l rest w =
-    after-append (keptWith s n h) l (lf ∷ rest) ∙ rw (rest-held s n h l w .1, after-lf s n (h ++ l))
+    after-append (holding s n h) l (lf ∷ rest) ∙ rw (rest-held s n h l w .1, after-lf s n (h ++ l))
 
 -- The whole text
 
 -- a line that has begun with h, at the text's end
-end-begun : (s : State) (n : ℕ) (h : List ℕ) → Without lf h → saidAtEnd (keptWith s n h) ≡ reportFrom (suc n) s (linesOf h)
+end-begun : (s : State) (n : ℕ) (h : List ℕ) → Without lf h → saidAtEnd (holding s n h) ≡ reportFrom (suc n) s (linesOf h)
 unfolding reportFrom
 end-begun s n [] w = ap (reportFrom (suc n) s) (sym no-lines)
 end-begun s n (x ∷ h) w =
@@ -121,23 +121,23 @@ end-begun s n (x ∷ h) w =
 
 -- what is said for what follows, where a line has begun with h, and at the end
 from-begun : (s : State) (n : ℕ) (h t : List ℕ) → Without lf h
-    → saidIn (keptWith s n h) t ++ saidAtEnd (afterPiece (keptWith s n h) t) ≡ reportFrom (suc n) s (linesOf (h ++ t))
+    → saidIn (holding s n h) t ++ saidAtEnd (afterPiece (holding s n h) t) ≡ reportFrom (suc n) s (linesOf (h ++ t))
 unfolding saidIn afterPiece reportFrom
 from-begun s n h [] w = end-begun s n h w ∙ ap (λ (l : List ℕ). reportFrom (suc n) s (linesOf l)) (sym (append-nil h))
 from-begun s n h (b ∷ t) w = picked (eqb b lf) refl (from-begun (stateAfter s (parseOf h)) (suc n) [] t (index-none lf)) (from-begun s n (h ++ (b ∷ [])) t)
   where
     picked : (u : Bool) → eqb b lf ≡ u
-        → (let k = keptWith (stateAfter s (parseOf h)) (suc n) [] in
+        → (let k = holding (stateAfter s (parseOf h)) (suc n) [] in
         saidIn k t ++ saidAtEnd (afterPiece k t) ≡ reportFrom (suc (suc n)) (stateAfter s (parseOf h)) (linesOf t))
-        → (let k = keptWith s n (h ++ (b ∷ [])) in
+        → (let k = holding s n (h ++ (b ∷ [])) in
         Without lf (h ++ (b ∷ [])) → saidIn k t ++ saidAtEnd (afterPiece k t) ≡ reportFrom (suc n) s (linesOf (h ++ (b ∷ []) ++ t)))
-        → (let k = keptWith s n h in saidAt k b ++ saidIn (afterByte k b) t ++ saidAtEnd (afterPiece (afterByte k b) t) ≡ reportFrom (suc n) s (linesOf (h ++ (b ∷ t))))
+        → (let k = holding s n h in saidAt k b ++ saidIn (afterByte k b) t ++ saidAtEnd (afterPiece (afterByte k b) t) ≡ reportFrom (suc n) s (linesOf (h ++ (b ∷ t))))
     picked true e here on =
         rw (eqb-true b lf e, at-lf s n h, after-lf s n h, line-first h t w)
         (append-assoc (saidFor (suc n) s (parseOf h)) _ _ ∙ ap (λ (l : List ℕ). saidFor (suc n) s (parseOf h) ++ l) here)
     picked false e here on =
         let d = eqb-false b lf e in
-        rw (at-other (keptWith s n h) b d, after-other s n h b d)
+        rw (at-other (holding s n h) b d, after-other s n h b d)
         (on (without-append lf h (b ∷ []) w (without-cons lf b [] d (index-none lf))) ∙ ap (λ (l : List ℕ). reportFrom (suc n) s (linesOf l)) (append-assoc h (b ∷ []) t))
 
 pub any-cut : AnyCut

@@ -1,6 +1,6 @@
 -- What the code of the lazy reckoning counts on: it takes a kind that is none for the first such kind, goes over the list by places, and adds
 -- numbers that fit. Assumes nothing.
-use mathlib.Core.Path.{_≡_, refl, sym, _∙_, ap, subst}
+use mathlib.Core.Path.{_≡_, refl, sym, _∙_, ap}
 use mathlib.Core.Bool.{Bool, true, false, cond, not, _&&_, _||_, true≢false}
 use mathlib.Core.Logic.{_≢_}
 use mathlib.Core.List.{List, [], _∷_, map}
@@ -8,20 +8,20 @@ use Prim.Native.Nat.{ℕ, zero, suc, _+_, _-_, _≤_, _<_}
 use native.Mathlib.Numerals.{add-one}
 use native.Mathlib.Omega.{arith}
 use borrow.Author.Tests.{lt-ltb, le-ltb, le-leb}
-use lib.Dec.{ltb, leb, eqb}
+use lib.Dec.{ltb, eqb}
 use lib.ListN.{length, getD, set, take, drop, length-set, length-map, length-take, drop-of-length-le, List·getD-map}
 use lib.Seq.{drop-cons, getD-take, getD-set-same, getD-set-other}
 use Rattle.theory.specs.declared.record.Record.{Record}
 use Rattle.theory.specs.declared.walk.Pairs.{Pairs}
 use Rattle.theory.specs.tables.Turns.{turns}
 use Rattle.theory.specs.order.Limits.{tasks}
-use Rattle.theory.specs.order.Recording.{Op, read, write, join, fresh, kind, kinds, kindAt, accessBy, accesses, lossMark}
+use Rattle.theory.specs.order.Recording.{Op, read, write, join, fresh, kind, kinds, numberedKind, kindAccesses, accesses, lossMark}
 use Rattle.theory.specs.fillings.Completion.{bit}
-use Rattle.theory.specs.acceptance.Table.{NamesTask, Standing, tableRow}
+use Rattle.theory.specs.acceptance.Table.{NamesTask, Standing, standingRefusal}
 use Rattle.theory.specs.acceptance.Control.{countAt, countIn, counted, controlStanding, controlRefusal, controlAfter}
 use Rattle.theory.specs.history.History.{asker, kindClashes}
 use Rattle.theory.specs.tables.Reckonings.{wordBits}
-use Rattle.theory.specs.lazy.Fold.{byEnd, byWrite, askerOn, walkable, Lazy, emptied, arrivedNow, keepOn, accessed, walkedOver, noted, acted, recorded, Run, runOf, followed, freshLazy, pairsOf, question, answeredAt, ending, lazyEnd, lazily, recordIn}
+use Rattle.theory.specs.lazy.Fold.{byEnd, byWrite, askerOn, walkable, Lazy, arrivedNow, keepOn, accessed, walkedOver, noted, acted, recorded, Run, runOf, followed, freshLazy, pairsOf, question, answeredAt, ending, lazyEnd, lazily, recordIn}
 use Rattle.theory.specs.feeding.Step.{recordOf, freshControl}
 use Rattle.theory.proofs.basics.Reflects.{Reflects, right, wrong, equal, at-most}
 use Rattle.theory.proofs.acceptance.Rows.{allowed}
@@ -44,6 +44,11 @@ no-arrival word walked counts = none wordBits
 
 -- Kinds
 
+-- a test that makes no difference
+pub either-same : (b : Bool) (s : Lazy) → s ≡ cond b s s
+either-same true s = refl
+either-same false s = refl
+
 -- what is a join and more is a join
 pub join-kind : (k : ℕ) (b : Bool) → (eqb k (kind join) && b) ≡ true → k ≡ kind join
 join-kind k b e = decided (equal k (kind join)) e
@@ -62,8 +67,8 @@ clipped r = record { kind = clippedKind (r .kind); task = r .task; on = r .on }
 clipped-known : (r : Record) → r .kind < length kinds → clipped r ≡ r
 clipped-known r h = rw (lt-ltb (r .kind) (length kinds) h)
 
-unknown : (s : Standing) (r : Record) → length kinds ≤ r .kind → tableRow s r ≡ 1
-unfolding tableRow
+unknown : (s : Standing) (r : Record) → length kinds ≤ r .kind → standingRefusal s r ≡ 1
+unfolding standingRefusal
 unknown s r h = rw (le-leb (length kinds) (r .kind) h)
 
 -- a record and the clipped one get the same refusal
@@ -92,7 +97,7 @@ either-way false h l = l
 module _ (q : Record) (k t on n : ℕ) where
   keep-walked : (side : ℕ) {s : Lazy} → AtMost n s → AtMost n (keepOn q k t side s)
   unfolding keepOn
-  keep-walked side {s} h = either-way (kindClashes (kindAt k) (asker (askerOn q side))) (record { at-most = h .at-most }) h
+  keep-walked side {s} h = either-way (kindClashes (numberedKind k) (asker (askerOn q side))) (record { at-most = h .at-most }) h
 
   access-walked : {s : Lazy} → AtMost n s → AtMost n (accessed q k t s)
   unfolding accessed
@@ -220,7 +225,7 @@ question-clipped q = decided (at-most (length kinds) (q .kind))
     decided : {b : Bool} → Reflects (length kinds ≤ q .kind) b → question (clipped q) ≡ question q
     decided (right h) =
         let none : clippedKind (q .kind) ≡ length kinds = rw (le-ltb (q .kind) (length kinds) h) in
-        no-question (clipped q) (ap accesses none) ∙ sym (no-question q (ap accessBy (kind-above (q .kind) h)))
+        no-question (clipped q) (ap accesses none) ∙ sym (no-question q (ap kindAccesses (kind-above (q .kind) h)))
     decided (wrong n) = ap question (clipped-known q (omega arith))
 
 ending-clipped : (q : Record) (x : Run) → ending (clipped q) x ≡ ending q x

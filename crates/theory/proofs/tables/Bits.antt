@@ -9,7 +9,7 @@ use lib.Count.{trailingZeros, under, trailing-of-zero}
 use lib.Bits.{bitOr, or-block, or-shifted-r, or-zero-r}
 use lib.Pow.{pow-mono, pow-lt}
 use Rattle.theory.specs.tables.Turns.{turns}
-use Rattle.theory.specs.tables.Reckonings.{bitOf, maskOf, lowestTask}
+use Rattle.theory.specs.tables.Reckonings.{indicator, maskOf, lowestTask}
 use Rattle.theory.specs.order.Limits.{tasks}
 
 -- a mask of i bits with one more
@@ -30,16 +30,16 @@ trailing-lt (suc k) n h l = decided (n % 2) refl (trailing-lt k (n / 2))
 
 -- the highest n of the 16 tasks that pass the test, as a mask: bit k is that of task 16 - n + k
 abbrev upper : (ℕ → Bool) → ℕ → ℕ
-upper p n = turns n (λ i m. bitOf (p (tasks - 1 - i)) + 2 * m) 0
+upper p n = turns n (λ i m. indicator (p (tasks - 1 - i)) + 2 * m) 0
 
-bit-le : (b : Bool) → bitOf b ≤ 1
+bit-le : (b : Bool) → indicator b ≤ 1
 bit-le true = omega arith
 bit-le false = omega arith
 
 upper-lt : (p : ℕ → Bool) (n : ℕ) → upper p n < 2 ^ n
 unfolding turns
 upper-lt p zero = omega arith
-upper-lt p (suc n) = rw (add-one n) at (mask-next n (upper p n) (bitOf (p (tasks - 1 - n))) (upper-lt p n) (bit-le (p (tasks - 1 - n))))
+upper-lt p (suc n) = rw (add-one n) at (mask-next n (upper p n) (indicator (p (tasks - 1 - n))) (upper-lt p n) (bit-le (p (tasks - 1 - n))))
 
 -- one more bit below a mask
 trailing-next : (n b m : ℕ) → b ≤ 1 → trailingZeros (suc n) (b + 2 * m) ≡ under b (trailingZeros n m)
@@ -54,7 +54,7 @@ record Lowest (p : ℕ → Bool) (n z : ℕ) : Type 0 where
   below : (k : ℕ) → k < z → p (tasks - n + k) ≡ false
   here : z < n → p (tasks - n + z) ≡ true
 
-lowest-next : (p : ℕ → Bool) (n z : ℕ) (b : Bool) → n < tasks → p (tasks - 1 - n) ≡ b → Lowest p n z → Lowest p (suc n) (under (bitOf b) z)
+lowest-next : (p : ℕ → Bool) (n z : ℕ) (b : Bool) → n < tasks → p (tasks - 1 - n) ≡ b → Lowest p n z → Lowest p (suc n) (under (indicator b) z)
 lowest-next p n z true h e l =
     record { below = λ k i. absurd (omega arith); here = λ i. let q : tasks - suc n + 0 ≡ tasks - 1 - n = omega arith in rw q e }
 lowest-next p n z false h e l = record { below = below; here = λ i. let q : tasks - suc n + suc z ≡ tasks - n + z = omega arith in rw q (l .here (omega arith)) }
@@ -70,7 +70,7 @@ lowest p zero h = record { below = λ k i. absurd (none i); here = λ i. absurd 
     none : {k : ℕ} → k < trailingZeros zero 0 → ⊥
     none i = omega (arith, trailing-of-zero 0)
 lowest p (suc n) h =
-    rw (trailing-next n (bitOf (p (tasks - 1 - n))) (upper p n) (bit-le (p (tasks - 1 - n))))
+    rw (trailing-next n (indicator (p (tasks - 1 - n))) (upper p n) (bit-le (p (tasks - 1 - n))))
     (lowest-next p n (trailingZeros n (upper p n)) (p (tasks - 1 - n)) (omega arith) refl (lowest p n (omega arith)))
 
 lowest-of : (p : ℕ → Bool) → Lowest p tasks (lowestTask (maskOf p))
@@ -114,13 +114,13 @@ mask-ext p q e = upper-ext p q e tasks
 
 -- what the tasks below u that pass the test add up to
 abbrev sums : (ℕ → Bool) → ℕ → ℕ
-sums p u = turns u (λ v m. m + bitOf (p v) * 2 ^ v) 0
+sums p u = turns u (λ v m. m + indicator (p v) * 2 ^ v) 0
 
 pub record Summed (p : ℕ → Bool) (u m : ℕ) : Type 0 where
   pub room : m < 2 ^ u
   pub is : m ≡ sums p u
 
-sum-lt : (u m : ℕ) (b : Bool) → m < 2 ^ u → m + bitOf b * 2 ^ u < 2 ^ (u + 1)
+sum-lt : (u m : ℕ) (b : Bool) → m < 2 ^ u → m + indicator b * 2 ^ u < 2 ^ (u + 1)
 sum-lt u m true h = rw (add-one u) (omega (arith, pow-suc 2 u))
 sum-lt u m false h = rw (add-one u) (omega (arith, pow-suc 2 u))
 
@@ -129,7 +129,7 @@ module _ {p : ℕ → Bool} where
   unfolding turns
   no-sum = record { room = omega arith; is = refl }
 
-  pub one-sum : {u m r : ℕ} {b : Bool} → Summed p u m → r ≡ bitOf b * 2 ^ u → b ≡ p u → Summed p (u + 1) (m + r)
+  pub one-sum : {u m r : ℕ} {b : Bool} → Summed p u m → r ≡ indicator b * 2 ^ u → b ≡ p u → Summed p (u + 1) (m + r)
   unfolding turns
   one-sum {u} {m} {b = b} s e t = record { room = rw e (sum-lt u m b (s .room)); is = rw (add-one u) (rw (e, t, s .is)) }
 
@@ -142,7 +142,7 @@ unfolding turns
 sums-upper p zero n e = let q : n ≡ tasks = omega arith in rw q (omega arith)
 sums-upper p (suc k) n e =
     let q : tasks - 1 - n ≡ k = omega arith in
-    shifted (upper p n) (2 ^ k) (bitOf (p k)) (sums p k) (pow-suc 2 k)
+    shifted (upper p n) (2 ^ k) (indicator (p k)) (sums p k) (pow-suc 2 k)
     ∙ (rw q at (sums-upper p k (suc n) (omega arith)))
   where
     shifted : (x y b t : ℕ) {z : ℕ} → z ≡ y * 2 → x * z + (t + b * y) ≡ (b + 2 * x) * y + t
@@ -171,8 +171,8 @@ module _ {p : ℕ → Bool} where
   pub no-weights : Gathered p 0 0
   no-weights = record { m = 0; summed = no-sum; twice = refl }
 
-  pub one-weight : {u x r : ℕ} {b : Bool} → u < tasks → Gathered p u x → r ≡ bitOf b * (2 ^ u * 2 ^ tasks + 2 ^ u) → b ≡ p u → Gathered p (u + 1) (bitOr x r)
-  one-weight {u} {x} {r} {b} h g e t = record { m = g .m + bitOf b * 2 ^ u; summed = one-sum (g .summed) refl t; twice = rw (g .twice, e) (of b) }
+  pub one-weight : {u x r : ℕ} {b : Bool} → u < tasks → Gathered p u x → r ≡ indicator b * (2 ^ u * 2 ^ tasks + 2 ^ u) → b ≡ p u → Gathered p (u + 1) (bitOr x r)
+  one-weight {u} {x} {r} {b} h g e t = record { m = g .m + indicator b * 2 ^ u; summed = one-sum (g .summed) refl t; twice = rw (g .twice, e) (of b) }
     where
       room : g .m < 2 ^ tasks
       room = sum-fits (g .summed) (omega arith)
@@ -180,7 +180,7 @@ module _ {p : ℕ → Bool} where
       weight : 2 ^ u < 2 ^ tasks
       weight = pow-lt h
 
-      of : (b : Bool) → bitOr (g .m * 2 ^ tasks + g .m) (bitOf b * (2 ^ u * 2 ^ tasks + 2 ^ u)) ≡ (g .m + bitOf b * 2 ^ u) * 2 ^ tasks + (g .m + bitOf b * 2 ^ u)
+      of : (b : Bool) → bitOr (g .m * 2 ^ tasks + g .m) (indicator b * (2 ^ u * 2 ^ tasks + 2 ^ u)) ≡ (g .m + indicator b * 2 ^ u) * 2 ^ tasks + (g .m + indicator b * 2 ^ u)
       of true =
           let one : 1 * (2 ^ u * 2 ^ tasks + 2 ^ u) ≡ 2 ^ u * 2 ^ tasks + 2 ^ u = omega arith in
           let joined : bitOr (g .m) (2 ^ u) ≡ g .m + 1 * 2 ^ u = single in

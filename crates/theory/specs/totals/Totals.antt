@@ -16,8 +16,8 @@ abbrev pub racesAt : ℕ
 racesAt = countAt + 1
 
 -- where the verdicts w on variable v are
-abbrev pub totalsAt : ℕ
-totalsAt = racesAt + 1
+abbrev pub firstTotal : ℕ
+firstTotal = racesAt + 1
 
 abbrev pub verdictPlace : Verdict → ℕ
 verdictPlace Clear = 0
@@ -25,11 +25,11 @@ verdictPlace Race = 1
 verdictPlace Doubt = 2
 
 abbrev pub totalAt : Verdict → ℕ → ℕ
-totalAt w v = totalsAt + verdictPlace w * variables + v
+totalAt w v = firstTotal + verdictPlace w * variables + v
 
 -- so many cells has the control table
 abbrev pub controlCells : ℕ
-controlCells = totalsAt + 3 * variables
+controlCells = firstTotal + 3 * variables
 
 -- How they are read
 
