@@ -14,6 +14,7 @@ pub mod Wrote
 pub mod Lengths
 pub mod ReportExamples
 -- Texts in pieces, what the functions over them need, and the demand
+pub mod Stream
 pub mod Pieces
 pub mod Reporting
 pub mod Held

@@ -19,6 +19,7 @@ use Rattle.text.specs.declared.parsed.Parsed.{Parsed}
 use Rattle.text.specs.Lines.{linesOf}
 use Rattle.text.specs.LineForm.{parseOf}
 use Rattle.text.specs.ReportLines.{wordFor, refusedLine, lineFor, reportLine}
+use Rattle.text.specs.Stream.{linesSaid}
 use Rattle.text.specs.Report.{saidFor, stateAfter, reportFrom, reportOf, tooSmall}
 use Rattle.text.specs.TextDemands.{TextForm, LineGot, no-record, refused, judged, taken, LinesGot, no-lines, a-line, TextHandled, refused-whole, reported, TextDemand1, OneReport, Tells, tells-nothing, tells-no-record, tells-answer, TextFed}
 use Rattle.text.proofs.Lines.{lines-fit}
@@ -56,7 +57,7 @@ module _ (line : List ℕ) where
 -- A text
 
 answered : (n : ℕ) (s : State) (lines : List (List ℕ)) → LinesGot n s lines (reportFrom n s lines)
-unfolding reportFrom
+unfolding linesSaid
 answered n s [] = no-lines
 answered n s (line ∷ lines) = a-line (line-got line n s (parseOf line) refl) (answered (suc n) (stateAfter s (parseOf line)) lines)
 
@@ -123,7 +124,7 @@ module _ {n : ℕ} {s : State} {line : List ℕ} where
   got-fixed (taken {r = r} f z a m) = form-fixed f refl (ap (lineFor n r) (sym m))
 
 answered-fixed : {n : ℕ} {s : State} {lines : List (List ℕ)} {report : List ℕ} → LinesGot n s lines report → report ≡ reportFrom n s lines
-unfolding reportFrom
+unfolding linesSaid
 answered-fixed no-lines = refl
 answered-fixed {n} (a-line {lines = lines} g a) =
     let f = got-fixed g in
@@ -136,7 +137,7 @@ one-report text report a = answered-fixed a
 -- The answers are those of feeding
 
 told : (n : ℕ) (s : State) (lines : List (List ℕ)) → (rs : List Record) × Tells n lines rs (replies byClocks s rs) (reportFrom n s lines)
-unfolding reportFrom
+unfolding linesSaid
 told n s [] = ([], tells-nothing)
 told n s (line ∷ lines) = by-parse (parseOf line) refl (told (suc n) (stateAfter s (parseOf line)) lines)
   where

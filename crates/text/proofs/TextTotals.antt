@@ -15,6 +15,7 @@ use Rattle.theory.proofs.totals.Kept.{clocks-keep-totals}
 use Rattle.text.specs.declared.parsed.Parsed.{Parsed}
 use Rattle.text.specs.Lines.{lf}
 use Rattle.text.specs.LineForm.{parseOf}
+use Rattle.text.specs.Stream.{pieceSaid, pieceKept}
 use Rattle.text.specs.Report.{saidFor, stateAfter}
 use Rattle.text.specs.Pieces.{Kept, freshKept, saidAt, afterByte, saidIn, afterPiece, wholeOf}
 use Rattle.text.specs.TextDemands.{Tells, tells-nothing, tells-no-record, tells-answer}
@@ -39,7 +40,7 @@ line-ended {n} {s} {lines} {said} {after} line x = by-parse (parseOf line) refl 
 
 -- byte by byte, where a line has begun with h
 so-far : (s : State) (n : ℕ) (h t : List ℕ) → SoFar (suc n) s (endedIn h t) (saidIn (keptWith s n h) t) ((afterPiece (keptWith s n h) t) .state)
-unfolding saidIn afterPiece
+unfolding pieceSaid pieceKept
 so-far s n h [] = record { records = []; tells = tells-nothing; state = refl }
 so-far s n h (b ∷ t) = picked (eqb b lf) refl (so-far (stateAfter s (parseOf h)) (suc n) [] t) (so-far s n (h ++ (b ∷ [])) t)
   where
@@ -52,12 +53,12 @@ so-far s n h (b ∷ t) = picked (eqb b lf) refl (so-far (stateAfter s (parseOf h
 
 -- pieces are their text
 said-whole : (k : Kept) (ps : List (List ℕ)) → saidSoFar k ps ≡ saidIn k (wholeOf ps)
-unfolding saidIn wholeOf
+unfolding pieceSaid wholeOf
 said-whole k [] = refl
 said-whole k (p ∷ ps) = ap (λ (l : List ℕ). saidIn k p ++ l) (said-whole (afterPiece k p) ps) ∙ sym (said-append k p (wholeOf ps))
 
 kept-whole : (k : Kept) (ps : List (List ℕ)) → keptAfter k ps ≡ afterPiece k (wholeOf ps)
-unfolding afterPiece wholeOf
+unfolding pieceKept wholeOf
 kept-whole k [] = refl
 kept-whole k (p ∷ ps) = kept-whole (afterPiece k p) ps ∙ sym (after-append k p (wholeOf ps))
 

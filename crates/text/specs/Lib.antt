@@ -3,6 +3,7 @@ pub mod Bytes
 pub mod Lines
 pub mod Printing
 pub mod LineForm
+pub mod Stream
 pub mod ReportLines
 pub mod Report
 pub mod Pieces

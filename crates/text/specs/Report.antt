@@ -13,6 +13,7 @@ use Rattle.text.specs.declared.parsed.Parsed.{Parsed}
 use Rattle.text.specs.Lines.{linesOf}
 use Rattle.text.specs.LineForm.{parseOf}
 use Rattle.text.specs.ReportLines.{reportLine, refusedLine}
+use Rattle.text.specs.Stream.{Reader, linesSaid}
 
 -- what the report has for a line: "A line that yields no record is refused with 1"
 abbrev pub saidFor : ℕ → State → Parsed → List ℕ
@@ -24,10 +25,13 @@ abbrev pub stateAfter : State → Parsed → State
 stateAfter s Parsed.Nothing = s
 stateAfter s (Parsed.Record r) = (stepOf s r) .state
 
+-- the lines of a recording
+abbrev pub records : Reader State
+records = record { said = λ n s l. saidFor n s (parseOf l); next = λ s l. stateAfter s (parseOf l) }
+
 -- the report of lines, the first having number n, fed to a state
-unfoldable pub reportFrom : ℕ → State → List (List ℕ) → List ℕ
-reportFrom n s [] = []
-reportFrom n s (l ∷ ls) = saidFor n s (parseOf l) ++ reportFrom (suc n) (stateAfter s (parseOf l)) ls
+abbrev pub reportFrom : ℕ → State → List (List ℕ) → List ℕ
+reportFrom = linesSaid records
 
 -- the report of a text
 unfoldable pub reportOf : List ℕ → List ℕ
