@@ -9,7 +9,7 @@ use theory::Task;
 use theory::Variable;
 ghost use mathlib.Core.Path.{_≡_};
 ghost use mathlib.Core.Bool.{true};
-ghost use Prim.Native.Nat.{_<_, _+_, _*_, _%_, _^_};
+ghost use Prim.Native.Nat.{_<_, _+_, _-_, _*_, _%_, _^_};
 ghost use Rattle.theory.specs.order.Limits.{tasks, variables};
 ghost use Rattle.theory.specs.order.Recording.{accesses};
 ghost use Rattle.theory.specs.tables.Reckonings.{wordBits, bitOf, lowestTask, masksBy};
@@ -27,6 +27,14 @@ pub(crate) fn weight(k: u32) -> u32
     ensures { λ r. ⌜ (r ≡ 2 ^ k) × (r < 2 ^ wordBits) ⌝ }
 {
     1 << k
+}
+
+// All bits of a word but that of weight 2 to the power k.
+pub(crate) fn all_but(k: u32) -> u32
+    requires { ⌜ k < wordBits ⌝ }
+    ensures { λ r. ⌜ r ≡ 2 ^ wordBits - 1 - 2 ^ k ⌝ }
+{
+    !weight(k)
 }
 
 // What task u adds to a mask that it is in or not: its bit, and again in the upper half of the word. A loop that gathers such weights by `|` is
@@ -57,7 +65,7 @@ pub(crate) fn no_masks() -> Masks
 }
 
 // The lowest-numbered task of a mask that is not empty.
-fn lowest(mask: u16) -> Task
+pub(crate) fn lowest(mask: u16) -> Task
     requires { ⌜ (mask ≡ 0 → ⊥) ⌝ }
     ensures { λ r. ⌜ (r .0 ≡ lowestTask mask) × (r .0 < tasks) ⌝ }
 {

@@ -7,6 +7,7 @@ use crate::history::ask_at;
 use crate::history::clashes;
 use crate::history::latest_number;
 use crate::history::slot;
+use crate::masks::all_but;
 use crate::masks::lower_half;
 use crate::masks::weight;
 use crate::masks::weight_of;
@@ -33,7 +34,7 @@ use theory::Variable;
 use theory::WORD_BITS;
 ghost use mathlib.Core.Path.{_≡_};
 ghost use mathlib.Core.Bool.{cond};
-ghost use Prim.Native.Nat.{_<_, _≤_, _-_, _^_};
+ghost use Prim.Native.Nat.{_<_, _≤_};
 ghost use lib.Bits.{bitOr};
 ghost use lib.Dec.{ltb};
 ghost use lib.ListN.{length};
@@ -42,7 +43,7 @@ ghost use Rattle.theory.specs.order.Recording.{Op, kind as number, kindAt};
 ghost use Rattle.theory.specs.acceptance.Table.{Fitting};
 ghost use Rattle.theory.specs.history.History.{askers, asker, kindClashes, slot as slotOf, slots, underEach};
 ghost use Rattle.theory.specs.tables.Rows.{actedRow, cell, joinRow, rowOf, joinWith, putRow, flow, noteActed, joinsActed, onward, gather, spread, noteNamed, mix};
-ghost use Rattle.theory.specs.tables.Reckonings.{wordBits, slotWords, knownSlots, clearSlot, addSlot, setOwn, setMask, masksBy};
+ghost use Rattle.theory.specs.tables.Reckonings.{slotWords, knownSlots, clearSlot, addSlot, setOwn, setMask, masksBy};
 ghost use Rattle.theory.proofs.tables.Reckoned.{apartBy};
 ghost use Rattle.theory.proofs.history.Accesses.{OfAccess};
 
@@ -170,14 +171,6 @@ pub(crate) fn mix(cells: &mut Sets, mask: u32)
     gather(cells, mask);
     spread(cells, mask);
     note_named(cells, mask);
-}
-
-// All bits of a word but that of weight 2 to the power k.
-fn all_but(k: u32) -> u32
-    requires { ⌜ k < wordBits ⌝ }
-    ensures { λ r. ⌜ r ≡ 2 ^ wordBits - 1 - 2 ^ k ⌝ }
-{
-    !weight(k)
 }
 
 // No row knows of the slot's access.

@@ -46,6 +46,17 @@ unfoldable pub entered : ℕ → ℕ → ℕ → Bool → List ℕ → List ℕ
 entered v low high accepted control =
     set (pairs accepted v high low (pairs accepted v low high control)) entriesAt (takenIn control + 1)
 
+-- numbers of a variable and of two tasks
+abbrev pub pairInRange : ℕ → ℕ → ℕ → Bool
+pairInRange v low high = ltb v variables && (ltb low tasks && ltb high tasks)
+
+-- an entry of any numbers is taken in where they are in their ranges and there is room; else the table stays as it was
+abbrev pub enters : ℕ → ℕ → ℕ → List ℕ → Bool
+enters v low high control = pairInRange v low high && not (full control)
+
+abbrev pub afterEntry : ℕ → ℕ → ℕ → Bool → List ℕ → List ℕ
+afterEntry v low high accepted control = cond (enters v low high control) (entered v low high accepted control) control
+
 -- How a Race is reported
 
 -- an access whose numbers are in their ranges
@@ -53,15 +64,26 @@ abbrev pub accessInRange : Record → Bool
 accessInRange r = accesses (r .kind) && (ltb (r .task) tasks && ltb (r .on) variables)
 
 -- the tasks whose latest conflicting access has no path here in the fullest filling and that are not paired with the acting task as accepted
-unfoldable pub openMask : State → Record → ℕ
-openMask s r = maskOf (λ u. clockApart (s .fullclocks) (s .last) (r .kind) (r .task) (r .on) u && not (bit (pairedWith (s .control) (r .on) (r .task)) u))
+unfoldable pub openTasks : List ℕ → List ℕ → List ℕ → ℕ → ℕ → ℕ → ℕ
+openTasks control last fullclocks k task on = maskOf (λ u. clockApart fullclocks last k task on u && not (bit (pairedWith control on task) u))
 
 abbrev pub excuseOf : Bool → ℕ → Excuse
 excuseOf known partner = record { known = known; partner = recordNumber partner }
 
--- by the state once the access r is fed, its partner by document 01 being w
-unfoldable pub excuse : State → Record → ℕ → Excuse
-excuse s r w =
-    cond (ltb 0 (takenIn (s .control)) && accessInRange r)
-    (cond (eqb (openMask s r) 0) (excuseOf true w) (excuseOf false (latestNumber (s .last) (r .kind) (r .on) (lowestTask (openMask s r)))))
+-- by the mask of these tasks, the partner by document 01 being w
+abbrev pub excuseOpen : List ℕ → ℕ → ℕ → ℕ → ℕ → Excuse
+excuseOpen last k on mask w = cond (eqb mask 0) (excuseOf true w) (excuseOf false (latestNumber last k on (lowestTask mask)))
+
+-- by the tables that are looked at
+unfoldable pub excuseBy : List ℕ → List ℕ → List ℕ → Record → ℕ → Excuse
+excuseBy control last fullclocks r w =
+    cond (ltb 0 (takenIn control) && accessInRange r)
+    (excuseOpen last (r .kind) (r .on) (openTasks control last fullclocks (r .kind) (r .task) (r .on)) w)
     (excuseOf false w)
+
+-- by the state once the access r is fed
+abbrev pub openMask : State → Record → ℕ
+openMask s r = openTasks (s .control) (s .last) (s .fullclocks) (r .kind) (r .task) (r .on)
+
+abbrev pub excuse : State → Record → ℕ → Excuse
+excuse s r w = excuseBy (s .control) (s .last) (s .fullclocks) r w
