@@ -10,6 +10,7 @@ mod records;
 mod source;
 mod telling;
 mod text;
+mod walks;
 
 fn main() {
     recordings::short();
@@ -27,5 +28,6 @@ fn main() {
     edges::masks();
     joining::joins();
     accepting::entries();
+    walks::lists();
     recordings::full();
 }

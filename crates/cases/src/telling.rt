@@ -2,6 +2,7 @@
 use theory::Answer;
 use theory::Excuse;
 use theory::Masks;
+use theory::Pairs;
 use theory::RecordNumber;
 
 pub(crate) fn line(text: &[u8]) {
@@ -22,6 +23,18 @@ fn told(word: &[u8], n: u32) {
 
 pub(crate) fn tell_entry(n: u32) {
     told(b"entry ", n);
+}
+
+pub(crate) fn tell_pairs(p: Pairs) {
+    if p.refused != 0 {
+        told(b"refused ", p.refused);
+        return;
+    }
+    told(b"pairs ", p.pairs);
+    told(b"paths ", p.paths);
+    io::write_all(1, b"walked ");
+    io::print_decimal(1, p.walked);
+    io::write_all(1, b"\n");
 }
 
 pub(crate) fn tell(a: Answer) {

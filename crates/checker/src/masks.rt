@@ -9,7 +9,7 @@ use theory::Task;
 use theory::Variable;
 ghost use mathlib.Core.Path.{_≡_};
 ghost use mathlib.Core.Bool.{true};
-ghost use Prim.Native.Nat.{_<_, _+_, _-_, _*_, _%_, _^_};
+ghost use Prim.Native.Nat.{_<_, _+_, _*_, _-_, _%_, _^_};
 ghost use Rattle.theory.specs.order.Limits.{tasks, variables};
 ghost use Rattle.theory.specs.order.Recording.{accesses};
 ghost use Rattle.theory.specs.tables.Reckonings.{wordBits, bitOf, lowestTask, masksBy};

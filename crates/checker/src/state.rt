@@ -15,7 +15,7 @@ ghost use Rattle.theory.specs.feeding.Step.{freshControl, freshState, freshSets
 ghost use Rattle.theory.specs.feeding.Lent.{tables, setTables};
 
 // Task 0 is live, the others are unseen, and no record is accepted yet.
-fn fresh_control() -> Control
+pub(crate) fn fresh_control() -> Control
     ensures { λ r. ⌜ r ≡ freshControl ⌝ }
 {
     let mut control = [0u32; CONTROL_CELLS];

@@ -1,6 +1,7 @@
 // The functions for a host in C that keeps a running state. They are an archive of their own: in one with `order_report` the step would
 // have two callers, and the compiler would no longer make it part of the loop over lines.
 mod feeding;
+mod lazy;
 mod totals;
 
 pub use feeding::answer_numbers;
@@ -8,5 +9,6 @@ pub use feeding::order_begin;
 pub use feeding::order_feed;
 pub use feeding::order_sets_begin;
 pub use feeding::order_sets_feed;
+pub use lazy::order_lazy;
 pub use totals::order_any_race;
 pub use totals::order_totals;

@@ -7,3 +7,5 @@ pub mod Passed
 pub mod Steps
 pub mod Followed
 pub mod Answer
+-- what the functions over the list need
+pub mod Code

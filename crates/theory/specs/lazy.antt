@@ -2,3 +2,4 @@
 pub mod Walk
 pub mod Fold
 pub mod Answer
+pub mod Lent

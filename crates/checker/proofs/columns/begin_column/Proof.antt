@@ -1,0 +1,15 @@
+-- The nodes, the column's number and the words, each as its equation has it.
+use borrow.Author.Needs.{needs}
+use Rattle.checker.proofs.columns.begin_column.Statement.{statement}
+use Rattle.checker.proofs.columns.begin_column.Tie as tie
+
+returns : tie.Need-returns
+returns c =
+    let at-weight = c .before .before .before in
+    let at-add = at-weight .before in
+    rw (c .before .all-but .ensures, at-weight .weight .ensures .0, at-add .add-column .ensures, at-add .before .before .before .clear-column .ensures, at-add .before .task-row .ensures)
+
+pub begin-column-spec : {M : Type 1} → statement M
+begin-column-spec = tie.close (tie.spec
+    (λ c κs. search needs) (λ c κs. search needs) (λ c κs. search needs) (λ c. search needs) (λ c. search needs)
+    (λ c κs. search needs) (λ c κs. search needs) returns)

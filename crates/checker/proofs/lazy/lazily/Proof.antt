@@ -1,0 +1,28 @@
+-- The records before the last are followed, and the last is answered.
+use mathlib.Core.Path.{refl, _∙_}
+use Prim.Native.Nat.{_-_}
+use native.Mathlib.Omega.{arith}
+use lib.ListN.{length}
+use Rattle.theory.specs.lazy.Fold.{freshLazy}
+use Rattle.theory.proofs.lazy.Code.{lazily-by, lazily-empty}
+use borrow.Author.Needs.{needs}
+use Rattle.checker.proofs.lazy.lazily.Statement.{statement}
+use Rattle.checker.proofs.lazy.lazily.Tie as tie
+
+returns : tie.Need-returns
+returns c = c .no-pairs .ensures ∙ lazily-empty (c .before .before .args .list .now) (c .before .if1 .taken)
+
+returns-2 : tie.Need-returns-2
+unfolding freshLazy
+returns-2 c =
+    let at-follow = c .before .before .before .before in
+    let at-question = at-follow .before .before .before .before in
+    let at-record = at-question .before .before in
+    let xs = at-record .before .before .args .list .now in
+    lazily-by xs (length xs - 1) (omega (arith, at-record .before .if1 .left)) (at-record .record-at .ensures) (at-question .question .ensures .0) (at-question .before .fresh-control .ensures)
+    (at-follow .follow .ensures) (c .ending .ensures) refl
+
+pub lazily-spec : {M : Type 1} → statement M
+lazily-spec = tie.close (tie.spec
+    (λ c κs. search needs) returns (λ c. search needs) (λ c κs. search needs) (λ c κs. search needs)
+    (λ c κs. search needs) (λ c κs. search needs) (λ c κs. search needs) returns-2)
