@@ -2,11 +2,12 @@
 use mathlib.Core.Path.{_≡_, refl, sym, ap, subst, _∙_}
 use mathlib.Core.Bool.{Bool, true, false, cond, _||_}
 use mathlib.Core.List.{List, _∷_, _++_, append-assoc}
-use Prim.Native.Nat.{ℕ, zero, suc, _+_, _^_, _≤_, _<_}
+use Prim.Native.Nat.{ℕ, zero, suc, _+_, _-_, _^_, _≤_, _<_}
 use native.Mathlib.Nat.{div-eq-of-lt}
 use native.Mathlib.Omega.{arith}
 use lib.Dec.{ltb, eqb}
-use lib.ListN.{length, length-append}
+use lib.ListN.{length, take, drop, length-append}
+use lib.Seq.{drop-drop}
 use borrow.Author.Tests.{eqb-true, eq-eqb}
 use Rattle.theory.specs.order.Limits.{tasks, variables, records}
 use Rattle.theory.proofs.basics.Reflects.{Reflects, right, wrong, both, same-as, at-most}
@@ -20,6 +21,7 @@ use Rattle.text.specs.EntryForm.{markedBy, entryBy, entryOf, entryText, 
 use Rattle.text.specs.Printing.{bytes, digitsOf, widthIn, width, decimal, recordDigits, fiveDigits}
 use Rattle.text.proofs.Bytes.{Without, without-append, before-seam, after-seam, joined, is-the-word}
 use Rattle.text.proofs.Digits.{digits-long, decimal-fits}
+use Rattle.text.proofs.LineForm.{cut-before}
 use Rattle.text.proofs.Numerals.{let-through, read-printed, printed-read}
 use Rattle.text.proofs.RoundTrip.{field-by, field-is, field-read-by, field-read, digits-whole, field-whole}
 
@@ -234,6 +236,38 @@ entry-taken e h =
     (record-whole (e .rec)) (field-whole varName (e .var) refl) (field-whole lowName (e .low) refl) (field-whole highName (e .high) refl)
     ∙ rw (record-read (e .rec) (h .rec-within), field-read varName (e .var) (omega arith), field-read lowName (e .low) (omega arith), field-read highName (e .high) (omega arith))
     (mark-read (e .rec) (e .var) (e .low) (e .high) (e .accepted) ∙ range-within e h)
+
+-- What the code has
+
+-- at a place of a line with n spaces left to pass, the next of them at e: they are passed from place p on
+pub spaces-passed : (n : ℕ) (s : List ℕ) (at e p : ℕ) → 0 < n → e ≡ at + indexOf space (drop at s) → drop p s ≡ drop (suc e) s
+    → afterSpaces n (drop at s) ≡ afterSpaces (n - 1) (drop p s)
+unfolding afterSpaces
+spaces-passed zero s at e p h c q = absurd (omega arith)
+spaces-passed (suc n) s at e p h c q =
+    let z : suc n - 1 ≡ n = omega arith in
+    let f : at + suc (indexOf space (drop at s)) ≡ suc e = omega arith in
+    rw z (ap (afterSpaces n) (drop-drop (suc (indexOf space (drop at s))) at s ∙ ap (λ (k : ℕ). drop k s) f ∙ sym q))
+
+pub spaces-all : (n : ℕ) (s : List ℕ) → n ≡ 0 → afterSpaces n s ≡ s
+spaces-all n s h = rw h (no-spaces s)
+
+-- the word is cut at e
+pub word-cut : (k : ℕ) (s t : List ℕ) (e : ℕ) → t ≡ afterSpaces k s → e ≡ 0 + indexOf space t → take e t ≡ wordAfter k s
+unfolding wordAfter
+word-cut k s t e q c = cut-before t e 0 c ∙ ap (upTo space) q
+
+-- the last word is one of the two marks
+pub mark-known : (rec var low high : ℕ) (s : List ℕ) (t : Bool) → t ≡ isWord (markWord true) s → (t || isWord (markWord false) s) ≡ true
+    → markedBy rec var low high s ≡ withinRange (record { rec = rec; var = var; low = low; high = high; accepted = t })
+unfolding markedBy
+mark-known rec var low high s t e f = rw (← e, f)
+
+-- what the fields say is what the line says
+pub fields-read : (s : List ℕ) {x y z w : Number} → recordOf (wordAfter 0 s) ≡ x → fieldOf varName (wordAfter 1 s) ≡ y → fieldOf lowName (wordAfter 2 s) ≡ z
+    → fieldOf highName (wordAfter 3 s) ≡ w → entryOf s ≡ entryBy x y z w (afterSpaces 4 s)
+unfolding entryOf
+fields-read s a b c d = rw (a, b, c, d)
 
 -- The two lines of document 02
 
