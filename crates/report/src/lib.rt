@@ -2,6 +2,7 @@
 mod answering;
 mod decimal;
 mod entry;
+mod entry_form;
 mod parsing;
 mod reader;
 mod scan;

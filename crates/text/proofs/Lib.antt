@@ -7,6 +7,7 @@ pub mod Reading
 -- The line form, both ways, and the lines of a report
 pub mod LineForm
 pub mod RoundTrip
+pub mod EntryForm
 pub mod Places
 pub mod Ops
 pub mod Short

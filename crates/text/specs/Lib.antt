@@ -9,6 +9,8 @@ pub mod Report
 pub mod Pieces
 pub mod TextDemands
 pub mod TextTotals
+-- Entries of the faults already accepted, as document 02 has them
+pub mod EntryForm
 -- As memory: what is written, what answering promises, and how a reader moves
 pub mod Wrote
 pub mod Answers
