@@ -1,0 +1,2 @@
+-- F-7: the step leaves what a planner has accepted as it was; which Races are known
+pub mod Kept
