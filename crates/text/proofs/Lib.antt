@@ -17,7 +17,9 @@ pub mod ReportExamples
 -- Texts in pieces, what the functions over them need, and the demand
 pub mod Stream
 pub mod Pieces
+pub mod Entries
 pub mod Reporting
 pub mod Held
+pub mod Excused
 pub mod TextDemands
 pub mod TextTotals

@@ -1,13 +1,8 @@
 -- A recording that comes in pieces: its report does not depend on the cut. Instances of Stream.antt. Assumes nothing.
-use mathlib.Core.Path.{_≡_, refl, sym, ap, _∙_}
-use mathlib.Core.Bool.{Bool, true, false}
+use mathlib.Core.Path.{_≡_, ap}
 use mathlib.Core.List.{List, [], _∷_, _++_}
-use Prim.Native.Nat.{ℕ, suc, _<_}
-use native.Mathlib.Omega.{arith}
-use lib.Dec.{leb}
-use lib.ListN.{length, take, length-take}
-use lib.Seq.{take-all}
-use borrow.Author.Tests.{leb-true, leb-false}
+use Prim.Native.Nat.{ℕ, suc}
+use lib.ListN.{take}
 use Rattle.theory.specs.declared.state.State.{State}
 use Rattle.theory.specs.feeding.Step.{freshState}
 use Rattle.text.specs.Lines.{lf}
@@ -21,14 +16,7 @@ use Rattle.text.proofs.RoundTrip.{long-refused}
 
 -- what is held of a line says what the line does
 pub parse-held : (s : List ℕ) → parseOf (take heldMost s) ≡ parseOf s
-parse-held s = picked (leb (length s) heldMost) refl
-  where
-    picked : (t : Bool) → leb (length s) heldMost ≡ t → parseOf (take heldMost s) ≡ parseOf s
-    picked true e = ap parseOf (take-all heldMost s (leb-true (length s) heldMost e))
-    picked false e =
-        let h : heldMost < length s = leb-false (length s) heldMost e in
-        let k : length (take heldMost s) ≡ heldMost = length-take heldMost s ∙ omega arith in
-        long-refused (take heldMost s) (omega arith) ∙ sym (long-refused s (omega arith))
+parse-held = Stream.held-same parseOf long-refused
 
 -- so a recording's lines may be held so
 pub held-enough : HeldEnough records

@@ -2,11 +2,12 @@
 use mathlib.Core.Path.{_≡_, refl, sym, ap, ap₂, _∙_}
 use mathlib.Core.Bool.{Bool, true, false}
 use mathlib.Core.List.{List, [], _∷_, _++_, append-nil, append-assoc}
-use Prim.Native.Nat.{ℕ, zero, suc}
+use Prim.Native.Nat.{ℕ, zero, suc, _<_}
 use native.Mathlib.Omega.{arith}
-use lib.Dec.{eqb}
-use lib.ListN.{length, take}
-use borrow.Author.Tests.{ne-eqb, eqb-true, eqb-false}
+use lib.Dec.{eqb, leb}
+use lib.ListN.{length, take, length-take}
+use lib.Seq.{take-all}
+use borrow.Author.Tests.{ne-eqb, eqb-true, eqb-false, leb-true, leb-false}
 use Rattle.text.specs.Lines.{lf, linesOf}
 use Rattle.text.specs.LineForm.{longest}
 use Rattle.text.specs.Stream.{Reader, linesSaid, Pending, pending, heldMost, byteSaid, byteKept, pieceSaid, pieceKept, endSaid, piecesSaid, wholeOf, HeldEnough, CutsAlike}
@@ -20,6 +21,17 @@ pub take-again : (n : ℕ) (a b : List ℕ) → take n (take n a ++ b) ≡ take 
 take-again zero a b = refl
 take-again (suc n) [] b = refl
 take-again (suc n) (x ∷ a) b = ap (λ (l : List ℕ). x ∷ l) (take-again n a b)
+
+-- what a line says that is nothing for a line of more than `longest` bytes is said by as much of it as is held
+pub held-same : {A : Type 0} (says : List ℕ → A) {nothing : A} → ((s : List ℕ) → longest < length s → says s ≡ nothing) → (s : List ℕ) → says (take heldMost s) ≡ says s
+held-same says {nothing} long s = picked (leb (length s) heldMost) refl
+  where
+    picked : (t : Bool) → leb (length s) heldMost ≡ t → says (take heldMost s) ≡ says s
+    picked true e = ap says (take-all heldMost s (leb-true (length s) heldMost e))
+    picked false e =
+        let h : heldMost < length s = leb-false (length s) heldMost e in
+        let k : length (take heldMost s) ≡ heldMost = length-take heldMost s ∙ omega arith in
+        long (take heldMost s) (omega arith) ∙ sym (long s (omega arith))
 
 module _ {S : Type 0} (rd : Reader S) (y : HeldEnough rd) where
   -- what is kept where a line has begun with h

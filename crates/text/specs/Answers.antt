@@ -2,7 +2,7 @@
 -- memory that holds the line that has begun, with `state` each at entry and at exit.
 use mathlib.Core.Path.{_≡_}
 use Prim.Native.Nat.{ℕ, suc, _+_, _*_, _^_, _≤_, _<_}
-use mathlib.Core.List.{List, [], _∷_}
+use mathlib.Core.List.{List}
 use lib.ListN.{length, take, drop}
 use lib.Seq.{sets}
 use Rattle.theory.specs.declared.state.State.{State}
@@ -10,7 +10,6 @@ use Rattle.theory.specs.feeding.Lent.{Twice}
 use Rattle.text.specs.declared.parsed.Parsed.{Parsed}
 use Rattle.text.specs.declared.progress.Progress.{Progress}
 use Rattle.text.specs.Lines.{lineRoom, linesOf, lineEnd}
-use Rattle.text.specs.LineForm.{parseOf}
 use Rattle.text.specs.Reading.{LineStarts}
 use Rattle.text.specs.Wrote.{Wrote}
 use Rattle.text.specs.Stream.{linesAfter}

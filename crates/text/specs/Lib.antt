@@ -7,6 +7,7 @@ pub mod Stream
 pub mod ReportLines
 pub mod Report
 pub mod Pieces
+pub mod Entries
 pub mod TextDemands
 pub mod TextTotals
 -- Entries of the faults already accepted, as document 02 has them

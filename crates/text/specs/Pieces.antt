@@ -1,16 +1,16 @@
 -- The report of a text that comes in pieces: what is kept between them, what each byte adds to the report, and the law that the cut does
 -- not matter.
 use mathlib.Core.Path.{_≡_}
-use Prim.Native.Nat.{ℕ, suc, _+_, _-_, _/_, _^_}
-use mathlib.Core.Bool.{Bool, cond, _&&_}
-use mathlib.Core.List.{List, [], _∷_, _++_}
-use lib.Dec.{eqb, leb}
+use Prim.Native.Nat.{ℕ, _-_, _/_, _^_}
+use mathlib.Core.Bool.{Bool, _&&_}
+use mathlib.Core.List.{List, []}
+use lib.Dec.{leb}
 use lib.ListN.{length, take}
 use Rattle.theory.specs.declared.state.State.{State}
 use Rattle.theory.specs.feeding.Step.{freshState}
 use Rattle.text.specs.declared.progress.Progress.{Progress}
-use Rattle.text.specs.Lines.{lf, lineRoom, lineEnd}
-use Rattle.text.specs.Stream.{Pending, pending, byteSaid, byteKept, pieceSaid, pieceKept, endSaid, piecesSaid}
+use Rattle.text.specs.Lines.{lineRoom, lineEnd}
+use Rattle.text.specs.Stream.{Pending, pending, byteSaid, byteKept, pieceSaid, pieceKept, endSaid, piecesSaid, pendingIn, progressTo}
 pub use Rattle.text.specs.Stream.{heldMost}
 unfoldable pub use Rattle.text.specs.Stream.{wholeOf}
 use Rattle.text.specs.Report.{records, reportOf}
@@ -60,12 +60,11 @@ HeldOpen = (k : Kept) (piece : List ℕ) → lineEnd (k .held) ≡ length (k .he
 
 -- what is kept, from the progress and the memory that holds the line that has begun
 abbrev pub keptOf : State → Progress → List ℕ → Kept
-keptOf s begun memory = kept s (begun .lines) (take (begun .held) memory)
+keptOf = pendingIn
 
 -- the progress after a piece, the report having come to a place before it
 abbrev pub progressAfter : Kept → ℕ → List ℕ → Progress
-progressAfter k at piece =
-    record { lines = (afterPiece k piece) .lines; held = length ((afterPiece k piece) .held); at = at + length (saidIn k piece) }
+progressAfter = progressTo records
 
 -- n bytes of one line are held: the memory can hold a line, no more bytes of it are held, and no LF is among them
 abbrev pub holdsOpen : List ℕ → ℕ → Bool

@@ -6,6 +6,7 @@ use mathlib.Core.Bool.{cond}
 use mathlib.Core.List.{List, [], _∷_, _++_}
 use lib.Dec.{eqb}
 use lib.ListN.{length, take}
+use Rattle.text.specs.declared.progress.Progress.{Progress}
 use Rattle.text.specs.Lines.{lf, linesOf}
 use Rattle.text.specs.LineForm.{longest}
 
@@ -73,6 +74,17 @@ module _ {S : Type 0} (x : Reader S) where
 unfoldable pub wholeOf : List (List ℕ) → List ℕ
 wholeOf [] = []
 wholeOf (p ∷ ps) = p ++ wholeOf ps
+
+-- As memory
+
+-- what is pending, from the progress and the memory that holds the line that has begun
+abbrev pub pendingIn : {S : Type 0} → S → Progress → List ℕ → Pending S
+pendingIn s begun memory = pending s (begun .lines) (take (begun .held) memory)
+
+-- the progress after a piece, what is said having come to a place before it
+abbrev pub progressTo : {S : Type 0} → Reader S → Pending S → ℕ → List ℕ → Progress
+progressTo x k at piece =
+    record { lines = (pieceKept x k piece) .lines; held = length ((pieceKept x k piece) .held); at = at + length (pieceSaid x k piece) }
 
 -- What is claimed
 

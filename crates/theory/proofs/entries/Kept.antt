@@ -7,20 +7,19 @@ use native.Mathlib.Omega.{arith}
 use lib.ListN.{getD}
 use Rattle.theory.specs.declared.record.Record.{Record}
 use Rattle.theory.specs.declared.state.State.{State}
-use Rattle.theory.specs.declared.masks.Masks.{Masks}
 use Rattle.theory.specs.order.Limits.{variables}
 use Rattle.theory.specs.order.Recording.{kind, lossMark, accesses}
 use Rattle.theory.specs.acceptance.Table.{Proper}
 use Rattle.theory.specs.acceptance.Control.{controlRefusal, controlAfter}
 use Rattle.theory.specs.verdicts.Verdict.{Verdict, Race, Clear, Doubt}
 use Rattle.theory.specs.feeding.Meaning.{Meaning, refuses, takes, judges, meaning}
-use Rattle.theory.specs.feeding.Step.{clockAnswer, answeredBy, answerByMasks, stepBy, stepOf}
+use Rattle.theory.specs.feeding.Step.{clockAnswer, stepBy, stepOf}
 use Rattle.theory.specs.totals.Totals.{racesAt, totalAt, entriesAt, withVerdict, totalled}
 use Rattle.theory.specs.entries.Table.{takenIn, pairedWith, excuseOf, excuseBy, excuse}
 use Rattle.theory.proofs.acceptance.Accepted.{accepts, names-task}
 use Rattle.theory.proofs.history.Accesses.{of-access}
 use Rattle.theory.proofs.totals.Raised.{raise-other}
-use Rattle.theory.proofs.totals.Moved.{place-below, noted-elsewhere}
+use Rattle.theory.proofs.totals.Moved.{noted-elsewhere}
 
 -- a verdict on a variable raises totals alone
 verdict-kept : (w : Verdict) (v i : ℕ) (control : List ℕ) → v < variables → entriesAt ≤ i → getD (withVerdict w v control) i 0 ≡ getD control i 0
