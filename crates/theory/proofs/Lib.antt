@@ -7,5 +7,5 @@ pub mod history
 pub mod tables
 pub mod totals
 pub mod feeding
-pub mod entries
 pub mod lazy
+pub mod entries
