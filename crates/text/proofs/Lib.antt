@@ -23,3 +23,4 @@ pub mod Held
 pub mod Excused
 pub mod TextDemands
 pub mod TextTotals
+pub mod TextKnown

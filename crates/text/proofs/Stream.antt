@@ -10,7 +10,7 @@ use lib.Seq.{take-all}
 use borrow.Author.Tests.{ne-eqb, eqb-true, eqb-false, leb-true, leb-false}
 use Rattle.text.specs.Lines.{lf, linesOf}
 use Rattle.text.specs.LineForm.{longest}
-use Rattle.text.specs.Stream.{Reader, linesSaid, Pending, pending, heldMost, byteSaid, byteKept, pieceSaid, pieceKept, endSaid, piecesSaid, wholeOf, HeldEnough, CutsAlike}
+use Rattle.text.specs.Stream.{Reader, linesSaid, linesAfter, Pending, pending, heldMost, byteSaid, byteKept, pieceSaid, pieceKept, endSaid, piecesSaid, endState, piecesAfter, wholeOf, HeldEnough, CutsAlike, EndsAlike}
 use Rattle.text.proofs.Bytes.{Without, index-none, without-append, without-cons, without-head}
 use Rattle.text.proofs.Lines.{no-lines, line-first, line-last}
 
@@ -136,6 +136,37 @@ module _ {S : Type 0} (rd : Reader S) (y : HeldEnough rd) where
           let d = eqb-false b lf e in
           rw (at-other (heldOf s n h) b d, after-other s n h b d)
           (on (without-append lf h (b ∷ []) w (without-cons lf b [] d (index-none lf))) ∙ ap (λ (l : List ℕ). linesSaid rd (suc n) s (linesOf l)) (append-assoc h (b ∷ []) t))
+
+  -- the state after pieces is that after their text
+  all-after : (k : Pending S) (ps : List (List ℕ)) → piecesAfter rd k ps ≡ endState rd (pieceKept rd k (wholeOf ps))
+  unfolding piecesAfter wholeOf pieceKept
+  all-after k [] = refl
+  all-after k (p ∷ ps) = all-after (pieceKept rd k p) ps ∙ ap (λ (g : Pending S). endState rd g) (sym (after-append k p (wholeOf ps)))
+
+  end-state : (s : S) (n : ℕ) (h : List ℕ) → Without lf h → endState rd (heldOf s n h) ≡ linesAfter rd s (linesOf h)
+  unfolding linesAfter
+  end-state s n [] w = ap (linesAfter rd s) (sym no-lines)
+  end-state s n (x ∷ h) w =
+      rw (ne-eqb (suc (length (take longest h))) 0 (λ e. omega arith))
+      (ap (λ (g : Pending S). g .state) (after-lf s n (x ∷ h)) ∙ ap (linesAfter rd s) (sym (line-last (x ∷ h) w (omega arith))))
+
+  state-begun : (s : S) (n : ℕ) (h t : List ℕ) → Without lf h → endState rd (pieceKept rd (heldOf s n h) t) ≡ linesAfter rd s (linesOf (h ++ t))
+  unfolding pieceKept linesAfter
+  state-begun s n h [] w = end-state s n h w ∙ ap (λ (l : List ℕ). linesAfter rd s (linesOf l)) (sym (append-nil h))
+  state-begun s n h (b ∷ t) w = picked (eqb b lf) refl (state-begun (rd .next s h) (suc n) [] t (index-none lf)) (state-begun s n (h ++ (b ∷ [])) t)
+    where
+      picked : (u : Bool) → eqb b lf ≡ u
+          → endState rd (pieceKept rd (heldOf (rd .next s h) (suc n) []) t) ≡ linesAfter rd (rd .next s h) (linesOf t)
+          → (Without lf (h ++ (b ∷ [])) → endState rd (pieceKept rd (heldOf s n (h ++ (b ∷ []))) t) ≡ linesAfter rd s (linesOf (h ++ (b ∷ []) ++ t)))
+          → endState rd (pieceKept rd (byteKept rd (heldOf s n h) b) t) ≡ linesAfter rd s (linesOf (h ++ (b ∷ t)))
+      picked true e here on = rw (eqb-true b lf e, after-lf s n h, line-first h t w) here
+      picked false e here on =
+          let d = eqb-false b lf e in
+          rw (after-other s n h b d)
+          (on (without-append lf h (b ∷ []) w (without-cons lf b [] d (index-none lf))) ∙ ap (λ (l : List ℕ). linesAfter rd s (linesOf l)) (append-assoc h (b ∷ []) t))
+
+  pub ends-alike : EndsAlike rd
+  ends-alike s ps = all-after (pending s 0 []) ps ∙ state-begun s 0 [] (wholeOf ps) (index-none lf)
 
   pub cuts-alike : CutsAlike rd
   cuts-alike s ps = all-joined (pending s 0 []) ps ∙ from-begun s 0 [] (wholeOf ps) (index-none lf)

@@ -7,11 +7,12 @@ pub mod Stream
 pub mod ReportLines
 pub mod Report
 pub mod Pieces
-pub mod Entries
 pub mod TextDemands
 pub mod TextTotals
 -- Entries of the faults already accepted, as document 02 has them
 pub mod EntryForm
+pub mod Entries
+pub mod TextKnown
 -- As memory: what is written, what answering promises, and how a reader moves
 pub mod Wrote
 pub mod Answers

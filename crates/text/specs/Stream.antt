@@ -70,6 +70,14 @@ module _ {S : Type 0} (x : Reader S) where
   piecesSaid k [] = endSaid k
   piecesSaid k (p ∷ ps) = pieceSaid k p ++ piecesSaid (pieceKept k p) ps
 
+  -- the state after pieces and the text's end
+  abbrev pub endState : Pending S → S
+  endState k = cond (eqb (length (k .held)) 0) (k .state) ((byteKept k lf) .state)
+
+  unfoldable pub piecesAfter : Pending S → List (List ℕ) → S
+  piecesAfter k [] = endState k
+  piecesAfter k (p ∷ ps) = piecesAfter (pieceKept k p) ps
+
 -- the text that was cut into pieces
 unfoldable pub wholeOf : List (List ℕ) → List ℕ
 wholeOf [] = []
@@ -96,3 +104,7 @@ pub record HeldEnough {S : Type 0} (x : Reader S) : Type 0 where
 -- however a text is cut, what is said for its pieces is what is said for its lines
 abbrev pub CutsAlike : {S : Type 0} → Reader S → Type 0
 CutsAlike {S} x = (s : S) (pieces : List (List ℕ)) → piecesSaid x (pending s 0 []) pieces ≡ linesSaid x 1 s (linesOf (wholeOf pieces))
+
+-- and the state is the same
+abbrev pub EndsAlike : {S : Type 0} → Reader S → Type 0
+EndsAlike {S} x = (s : S) (pieces : List (List ℕ)) → piecesAfter x (pending s 0 []) pieces ≡ linesAfter x s (linesOf (wholeOf pieces))

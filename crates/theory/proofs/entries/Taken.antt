@@ -52,18 +52,18 @@ module _ (f : Fault) (fits : Fits f) (control : List ℕ) (size : length control
   abbrev next : List ℕ
   next = entered (f .variable) (f .low) (f .high) (f .accepted) control
 
-  is-entered : takenIn control < entries → afterEntry (f .variable) (f .low) (f .high) (f .accepted) control ≡ next
+  pub is-entered : takenIn control < entries → afterEntry (f .variable) (f .low) (f .high) (f .accepted) control ≡ next
   is-entered room =
       rw (lt-ltb (f .variable) variables (fits .variable-fits), lt-ltb (f .low) tasks low-fits, lt-ltb (f .high) tasks (fits .high-fits), lt-ltb (takenIn control) entries room)
 
   second-size : length second ≡ controlCells
   second-size = pairs-size (f .accepted) (f .variable) (f .high) (f .low) first ∙ (pairs-size (f .accepted) (f .variable) (f .low) (f .high) control ∙ size)
 
-  entered-size : length next ≡ controlCells
+  pub entered-size : length next ≡ controlCells
   unfolding entered
   entered-size = length-set second entriesAt (takenIn control + 1) ∙ second-size
 
-  entered-taken : takenIn next ≡ suc (takenIn control)
+  pub entered-taken : takenIn next ≡ suc (takenIn control)
   unfolding entered
   entered-taken = getD-set-same second entriesAt (takenIn control + 1) 0 (omega (arith, second-size)) ∙ omega arith
 
