@@ -25,7 +25,7 @@ ghost use Rattle.theory.specs.order.Recording.{lossMark};
 ghost use Rattle.theory.specs.acceptance.Table.{Fitting};
 ghost use Rattle.theory.specs.fillings.Completion.{arrived, full};
 ghost use Rattle.theory.specs.history.History.{lastAfter};
-ghost use Rattle.theory.specs.tables.Reckonings.{clockOwn, clocksBy, setOwn, setsBy, clockMask, clockMasks, setMask, setMasks};
+ghost use Rattle.theory.specs.tables.Reckonings.{clockOwn, nextClocks, setOwn, nextSets, clockMask, clockMasks, setMask, setMasks};
 ghost use Rattle.theory.specs.feeding.Step.{answerByMasks, answeredBy};
 ghost use Rattle.theory.specs.feeding.Meaning.{meaning};
 ghost use Rattle.theory.specs.totals.Totals.{totalled};
@@ -96,8 +96,8 @@ pub(crate) fn act_by_clocks(
         ⌜ (a ≡ answeredBy (l .entry) kind on (number .0) (clockMasks (c .entry) (f .entry) (l .entry) kind (task .0) on))
         × (t .exit ≡ totalled (meaning a) on (t .entry))
         × (l .exit ≡ lastAfter kind (task .0) on (number .0) (l .entry))
-        × (c .exit ≡ clocksBy arrived kind (task .0) on (number .0) (c .entry))
-        × (f .exit ≡ clocksBy full kind (task .0) on (number .0) (f .entry)) ⌝ }
+        × (c .exit ≡ nextClocks arrived kind (task .0) on (number .0) (c .entry))
+        × (f .exit ≡ nextClocks full kind (task .0) on (number .0) (f .entry)) ⌝ }
 {
     if is_access(kind) {
         return access_by_clocks(
@@ -161,8 +161,8 @@ pub(crate) fn act_by_sets(
         ⌜ (a ≡ answeredBy (l .entry) kind on (number .0) (setMasks (s .entry) (f .entry) (l .entry) kind (task .0) on))
         × (t .exit ≡ totalled (meaning a) on (t .entry))
         × (l .exit ≡ lastAfter kind (task .0) on (number .0) (l .entry))
-        × (s .exit ≡ setsBy arrived kind (task .0) on (s .entry))
-        × (f .exit ≡ setsBy full kind (task .0) on (f .entry)) ⌝ }
+        × (s .exit ≡ nextSets arrived kind (task .0) on (s .entry))
+        × (f .exit ≡ nextSets full kind (task .0) on (f .entry)) ⌝ }
 {
     if is_access(kind) {
         return access_by_sets(

@@ -2,7 +2,7 @@
 // the recording as it arrived. Empty for a record that is no access or would be refused.
 use crate::clocks::clock_masks;
 use crate::history::is_access;
-use crate::masks::no_masks;
+use crate::masks::empty_masks;
 use crate::refusals::refusal;
 use crate::sets::set_masks;
 use theory::Clocks;
@@ -29,13 +29,13 @@ pub fn apart_by_clocks(
 {
     let refused = refusal(control, r);
     if refused != 0 {
-        return no_masks();
+        return empty_masks();
     }
     let kind = r.kind;
     if is_access(kind) {
         return clock_masks(clocks, fullclocks, last, kind, Task(r.task), Variable(r.on));
     }
-    no_masks()
+    empty_masks()
 }
 
 // By the sets.
@@ -50,11 +50,11 @@ pub fn apart_by_sets(
 {
     let refused = refusal(control, r);
     if refused != 0 {
-        return no_masks();
+        return empty_masks();
     }
     let kind = r.kind;
     if is_access(kind) {
         return set_masks(sets, fullsets, last, kind, Task(r.task), Variable(r.on));
     }
-    no_masks()
+    empty_masks()
 }

@@ -6,7 +6,7 @@ use crate::bools::either;
 use crate::history::ask_at;
 use crate::history::slot;
 use crate::masks::lower_half;
-use crate::masks::weight_of;
+use crate::masks::added_weight;
 use crate::rows::acquired_row;
 use crate::rows::acted_after;
 use crate::rows::has_bit;
@@ -254,7 +254,7 @@ fn mask(cells: &Clocks, last: &History, row: usize, from: usize) -> u32
     let mut x: u32 = 0;
     let mut c: usize = 0;
     while c < COLUMNS {
-        x = x | weight_of(cells[row + c] < last[from + c], Task(c as u32));
+        x = x | added_weight(cells[row + c] < last[from + c], Task(c as u32));
         c += 1;
     }
     x

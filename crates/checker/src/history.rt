@@ -19,7 +19,7 @@ ghost use Prim.Native.Nat.{_<_};
 ghost use lib.Dec.{ltb, eqb};
 ghost use lib.ListN.{set, length};
 ghost use Rattle.theory.specs.order.Limits.{tasks, variables};
-ghost use Rattle.theory.specs.order.Recording.{Op, kind as number, accesses, kindAt};
+ghost use Rattle.theory.specs.order.Recording.{Op, kind as number, accesses, numberedKind};
 ghost use Rattle.theory.specs.history.History.{askers, asker, askAt, kindClashes, slot, slots, latestNumber, withAccess, emptiedUnder, emptied};
 ghost use Rattle.theory.proofs.history.Accesses.{OfAccess};
 
@@ -44,7 +44,7 @@ pub(crate) fn is_access(kind: u8) -> bool
 // Whether a record of this kind clashes with the kind of access that has number a: two accesses do, unless they are of one kind and no writes.
 pub(crate) fn clashes(kind: u8, a: usize) -> bool
     requires { ⌜ a < length askers ⌝ }
-    ensures { λ r. ⌜ r ≡ kindClashes (kindAt kind) (asker a) ⌝ }
+    ensures { λ r. ⌜ r ≡ kindClashes (numberedKind kind) (asker a) ⌝ }
 {
     let own = ask_at(kind);
     both(own < ASKERS, either(own != a, kind == WRITE))
@@ -70,7 +70,7 @@ pub(crate) fn latest_number(last: &History, kind: u8, v: Variable, u: Task) -> R
 fn keep_under(last: &mut History, a: usize, kind: u8, task: Task, v: Variable, number: RecordNumber)
     requires { ⌜ (a < length askers) × (task .0 < tasks) × (v .0 < variables) ⌝ }
     ensures { λ _. ⌜ now (last .exit)
-        ≡ cond (kindClashes (kindAt kind) (asker a)) (set (now (last .entry)) (slot a (v .0) (task .0)) (number .0)) (now (last .entry)) ⌝ }
+        ≡ cond (kindClashes (numberedKind kind) (asker a)) (set (now (last .entry)) (slot a (v .0) (task .0)) (number .0)) (now (last .entry)) ⌝ }
 {
     if clashes(kind, a) {
         last[slot(a, v, task)] = number.0;

@@ -12,7 +12,7 @@ ghost use mathlib.Core.Bool.{true};
 ghost use Prim.Native.Nat.{_<_, _+_, _*_, _-_, _%_, _^_};
 ghost use Rattle.theory.specs.order.Limits.{tasks, variables};
 ghost use Rattle.theory.specs.order.Recording.{accesses};
-ghost use Rattle.theory.specs.tables.Reckonings.{wordBits, bitOf, lowestTask, masksBy};
+ghost use Rattle.theory.specs.tables.Reckonings.{wordBits, indicator, lowestTask, masksBy};
 ghost use Rattle.theory.specs.feeding.Step.{answerByMasks};
 
 // Every mask is below this: it has a bit for each task.
@@ -39,9 +39,9 @@ pub(crate) fn all_but(k: u32) -> u32
 
 // What task u adds to a mask that it is in or not: its bit, and again in the upper half of the word. A loop that gathers such weights by `|` is
 // made vector code of; one of single bits, or of sums, is not.
-pub(crate) fn weight_of(b: bool, u: Task) -> u32
+pub(crate) fn added_weight(b: bool, u: Task) -> u32
     requires { ⌜ u .0 < tasks ⌝ }
-    ensures { λ r. ⌜ r ≡ bitOf b * (2 ^ u .0 * 2 ^ tasks + 2 ^ u .0) ⌝ }
+    ensures { λ r. ⌜ r ≡ indicator b * (2 ^ u .0 * 2 ^ tasks + 2 ^ u .0) ⌝ }
 {
     if b { weight(u.0) * TWICE } else { 0 }
 }
@@ -55,7 +55,7 @@ pub(crate) fn lower_half(x: u32) -> u16
 }
 
 // The masks of a record that is no access.
-pub(crate) fn no_masks() -> Masks
+pub(crate) fn empty_masks() -> Masks
     ensures { λ r. ⌜ r ≡ masksBy 0 0 ⌝ }
 {
     Masks {

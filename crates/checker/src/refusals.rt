@@ -29,7 +29,7 @@ ghost use mathlib.Core.Bool.{cond, not, _&&_, _||_};
 ghost use Prim.Native.Nat.{_<_, _^_};
 ghost use lib.Dec.{leb, eqb};
 ghost use Rattle.theory.specs.order.Limits.{tasks, semaphores, flags, variables, records};
-ghost use Rattle.theory.specs.order.Recording.{lossMark, seriesOf};
+ghost use Rattle.theory.specs.order.Recording.{lossMark, kindSeries};
 ghost use Rattle.theory.proofs.acceptance.Rows.{OfAct};
 ghost use Rattle.theory.specs.fillings.Completion.{names};
 ghost use Rattle.theory.specs.acceptance.Table.{anyBelow};
@@ -79,7 +79,7 @@ fn no_variable(on: u32) -> bool
 
 // Row 3: the number is none of the kind's series.
 fn outside(kind: u8, on: u32) -> bool
-    ensures { λ r. ⌜ r ≡ leb (seriesOf kind) on ⌝ }
+    ensures { λ r. ⌜ r ≡ leb (kindSeries kind) on ⌝ }
 {
     match kind {
         TAKE => no_semaphore(on),

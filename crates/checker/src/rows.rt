@@ -26,7 +26,7 @@ pub(crate) fn task_row(t: Task) -> usize
 }
 
 // The row of the one task or of the other.
-fn task_row_of(first: bool, one: Task, other: Task) -> usize
+fn either_row(first: bool, one: Task, other: Task) -> usize
     ensures { λ r. ⌜ r ≡ cond first (taskRow (one .0)) (taskRow (other .0)) ⌝ }
 {
     if first {
@@ -56,7 +56,7 @@ pub(crate) fn acquired_row(kind: u8, task: Task, on: u32, joins: bool) -> usize
     match kind {
         TAKE => semaphore_row(Semaphore(on)),
         LOOK => flag_row(Flag(on)),
-        JOIN => task_row_of(joins, Task(on), task),
+        JOIN => either_row(joins, Task(on), task),
         _ => task_row(task),
     }
 }

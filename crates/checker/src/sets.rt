@@ -10,7 +10,7 @@ use crate::history::slot;
 use crate::masks::all_but;
 use crate::masks::lower_half;
 use crate::masks::weight;
-use crate::masks::weight_of;
+use crate::masks::added_weight;
 use crate::rows::acquired_row;
 use crate::rows::acted_after;
 use crate::rows::has_bit;
@@ -39,7 +39,7 @@ ghost use lib.Bits.{bitOr};
 ghost use lib.Dec.{ltb};
 ghost use lib.ListN.{length};
 ghost use Rattle.theory.specs.order.Limits.{tasks, variables};
-ghost use Rattle.theory.specs.order.Recording.{Op, kind as number, kindAt};
+ghost use Rattle.theory.specs.order.Recording.{Op, kind as number, numberedKind};
 ghost use Rattle.theory.specs.acceptance.Table.{Fitting};
 ghost use Rattle.theory.specs.history.History.{askers, asker, kindClashes, slot as slotOf, slots, underEach};
 ghost use Rattle.theory.specs.tables.Rows.{actedRow, cell, joinRow, rowOf, joinWith, putRow, flow, noteActed, joinsActed, onward, gather, spread, noteNamed, mix};
@@ -209,7 +209,7 @@ fn begin_slot(cells: &mut Sets, r: usize, s: usize)
 fn keep_under(cells: &mut Sets, a: usize, kind: u8, task: Task, v: Variable)
     requires { ⌜ (a < length askers) × (task .0 < tasks) × (v .0 < variables) ⌝ }
     ensures { λ _. let s = slotOf a (v .0) (task .0) in ⌜ now (cells .exit)
-        ≡ cond (kindClashes (kindAt kind) (asker a)) (addSlot (task .0) s (clearSlot s (now (cells .entry)))) (now (cells .entry)) ⌝ }
+        ≡ cond (kindClashes (numberedKind kind) (asker a)) (addSlot (task .0) s (clearSlot s (now (cells .entry)))) (now (cells .entry)) ⌝ }
 {
     if clashes(kind, a) {
         begin_slot(cells, task_row(task), slot(a, v, task));
@@ -308,7 +308,7 @@ fn mask(cells: &Sets, last: &History, kind: u8, task: Task, v: Variable) -> u16
     let mut x: u32 = 0;
     let mut u: u32 = 0;
     while u < TASKS {
-        x = x | weight_of(apart(known, last, kind, v, Task(u)), Task(u));
+        x = x | added_weight(apart(known, last, kind, v, Task(u)), Task(u));
         u += 1;
     }
     lower_half(x)

@@ -31,7 +31,7 @@ ghost use mathlib.Core.Logic.{_≢_};
 ghost use Prim.Native.Nat.{_<_, _≤_, _+_};
 ghost use lib.ListN.{length};
 ghost use Rattle.theory.specs.order.Limits.{tasks, records};
-ghost use Rattle.theory.specs.order.Recording.{accesses, kindAt, lossMark};
+ghost use Rattle.theory.specs.order.Recording.{accesses, numberedKind, lossMark};
 ghost use Rattle.theory.specs.acceptance.Table.{Fitting, Proper};
 ghost use Rattle.theory.specs.history.History.{askers, asker, kindClashes};
 ghost use Rattle.theory.specs.tables.Reckonings.{withBit};
@@ -56,7 +56,7 @@ fn keep_on(
 ) -> Walk
     requires { ⌜ (side ≤ byWrite) × (a < length askers) × (task .0 < tasks) ⌝ }
     ensures { λ r. let s = lent nodes counts in ⌜ s .exit r
-        ≡ cond (kindClashes (kindAt kind) (asker a)) (beginColumn (column side (task .0)) (task .0) (s .entry walk)) (s .entry walk) ⌝ }
+        ≡ cond (kindClashes (numberedKind kind) (asker a)) (beginColumn (column side (task .0)) (task .0) (s .entry walk)) (s .entry walk) ⌝ }
 {
     if clashes(kind, a) {
         return begin_column(nodes, counts, walk, side * TASKS + task.0, task);

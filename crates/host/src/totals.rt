@@ -5,7 +5,7 @@ use theory::Control;
 ghost use mathlib.Core.Path.{_≡_};
 ghost use mathlib.Core.Bool.{cond};
 ghost use mathlib.Core.List.{[], _∷_};
-ghost use Rattle.theory.specs.tables.Reckonings.{bitOf};
+ghost use Rattle.theory.specs.tables.Reckonings.{indicator};
 ghost use Rattle.theory.specs.totals.Totals.{totalsOf, anyRace};
 
 // Writes how many accesses of a variable were Clear, Race and Doubt so far, and returns 1. Where there is no such variable it returns 0, and
@@ -13,7 +13,7 @@ ghost use Rattle.theory.specs.totals.Totals.{totalsOf, anyRace};
 #[no_mangle]
 pub extern "C" fn order_totals(control: &Control, v: u32, totals: &mut [u32; 3]) -> u32
     ensures { λ r. let t = totalsOf (now (control .entry)) v in
-        ⌜ (r ≡ bitOf (t .known)) × (now (totals .exit) ≡ cond (t .known) (t .clear ∷ t .race ∷ t .doubt ∷ []) (now (totals .entry))) ⌝ }
+        ⌜ (r ≡ indicator (t .known)) × (now (totals .exit) ≡ cond (t .known) (t .clear ∷ t .race ∷ t .doubt ∷ []) (now (totals .entry))) ⌝ }
 {
     let t = totals_of(control, v);
     if !t.known {
@@ -26,7 +26,7 @@ pub extern "C" fn order_totals(control: &Control, v: u32, totals: &mut [u32; 3])
 // Returns 1 where any access was a Race so far, and 0 where none was.
 #[no_mangle]
 pub extern "C" fn order_any_race(control: &Control) -> u32
-    ensures { λ r. ⌜ r ≡ bitOf (anyRace (now (control .entry))) ⌝ }
+    ensures { λ r. ⌜ r ≡ indicator (anyRace (now (control .entry))) ⌝ }
 {
     if any_race(control) { 1 } else { 0 }
 }

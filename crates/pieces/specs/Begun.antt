@@ -11,5 +11,5 @@ abbrev pub begun : List ℕ → Progress
 begun numbers = record { lines = getD numbers 0 0; held = getD numbers 1 0; at = 0 }
 
 -- the two numbers of what is kept after a piece
-abbrev pub counts : Kept → List ℕ
-counts k = k .lines ∷ length (k .held) ∷ []
+abbrev pub progressNumbers : Kept → List ℕ
+progressNumbers k = k .lines ∷ length (k .held) ∷ []

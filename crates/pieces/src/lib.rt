@@ -12,8 +12,8 @@ ghost use Prim.Native.Nat.{_-_, _^_};
 ghost use lib.ListN.{length};
 ghost use lib.Seq.{sets as written};
 ghost use Rattle.theory.specs.feeding.Lent.{tables};
-ghost use Rattle.text.specs.Pieces.{keptOf, fits, saidIn, afterPiece};
-ghost use Rattle.pieces.specs.Begun.{begun, counts};
+ghost use Rattle.text.specs.Pieces.{fromMemory, fits, saidIn, afterPiece};
+ghost use Rattle.pieces.specs.Begun.{begun, progressNumbers};
 
 // Answers the lines that end in a piece of a text, into the report memory from its start on, and holds what is left. Returns the count of
 // bytes written. Where the memory has under 64 bytes for each byte of the piece, or the lent numbers are none that a piece leaves, nothing
@@ -32,13 +32,13 @@ pub extern "C" fn order_piece(
 ) -> u64
     ensures { λ n. let state = tables control last clocks fullclocks in
         let from = begun (now (progress .entry)) in
-        let k = keptOf (state .entry) from (now (held .entry)) in
+        let k = fromMemory (state .entry) from (now (held .entry)) in
         let said = saidIn k (now (piece .entry)) in
         let after = afterPiece k (now (piece .entry)) in
         let taken = fits (length (now (report .entry))) (length (now (piece .entry))) (now (held .entry)) from in
         ⌜ (n ≡ cond taken (length said) (2 ^ 64 - 1))
         × (now (report .exit) ≡ cond taken (written (now (report .entry)) 0 said) (now (report .entry)))
-        × (now (progress .exit) ≡ cond taken (written (now (progress .entry)) 0 (counts after)) (now (progress .entry)))
+        × (now (progress .exit) ≡ cond taken (written (now (progress .entry)) 0 (progressNumbers after)) (now (progress .entry)))
         × (state .exit ≡ cond taken (after .state) (state .entry))
         × (now (held .exit) ≡ cond taken (written (now (held .entry)) 0 (after .held)) (now (held .entry))) ⌝ }
 {

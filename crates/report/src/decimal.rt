@@ -4,7 +4,7 @@ ghost use mathlib.Core.Path.{_≡_};
 ghost use Prim.Native.Nat.{_≤_, _<_};
 ghost use lib.ListN.{length};
 ghost use Rattle.text.specs.EntryForm.{digitsIn};
-ghost use Rattle.text.specs.LineForm.{isDigit, isPlain, digits, digitsFrom, decimalOf};
+ghost use Rattle.text.specs.LineForm.{isDigit, isPlain, digits, readDigits, readDecimal};
 ghost use Rattle.text.specs.Printing.{recordDigits};
 
 const DIGITS: usize = 5;
@@ -37,7 +37,7 @@ fn is_plain(s: &[u8]) -> bool
 // The number that is read from digits.
 fn read_digits(s: &[u8]) -> Number
     requires { ⌜ length (now s) ≤ digits ⌝ }
-    ensures { λ r. ⌜ r ≡ digitsFrom 0 (now (s .entry)) ⌝ }
+    ensures { λ r. ⌜ r ≡ readDigits 0 (now (s .entry)) ⌝ }
 {
     let mut v: u32 = 0;
     let mut i = 0;
@@ -56,7 +56,7 @@ fn read_digits(s: &[u8]) -> Number
 // no branch on how many they are.
 pub(crate) fn read_short(s: &[u8]) -> Number
     requires { ⌜ (0 < length (now s)) × (length (now s) ≤ 2) ⌝ }
-    ensures { λ r. ⌜ r ≡ decimalOf (now (s .entry)) ⌝ }
+    ensures { λ r. ⌜ r ≡ readDecimal (now (s .entry)) ⌝ }
 {
     let first = s[0];
     let last = s[s.len() - 1];
@@ -76,7 +76,7 @@ pub(crate) fn read_short(s: &[u8]) -> Number
 
 // What a part of a line says as a decimal.
 pub(crate) fn decimal(s: &[u8]) -> Number
-    ensures { λ r. ⌜ r ≡ decimalOf (now (s .entry)) ⌝ }
+    ensures { λ r. ⌜ r ≡ readDecimal (now (s .entry)) ⌝ }
 {
     if is_plain(s) {
         return read_digits(s);

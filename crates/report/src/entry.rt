@@ -11,7 +11,7 @@ ghost use Prim.Native.Nat.{_≤_, _*_};
 ghost use lib.ListN.{length};
 ghost use Rattle.text.specs.Lines.{lineRoom, linesOf};
 ghost use Rattle.text.specs.Wrote.{Wrote};
-ghost use Rattle.text.specs.Report.{reportOf, countOf, memoryOf};
+ghost use Rattle.text.specs.Report.{reportOf, returnedCount, memoryOf};
 
 // Writes the report of a text: each of its lines is answered, a rest without LF too.
 fn write_report(text: &[u8], report: &mut [u8]) -> usize
@@ -45,7 +45,7 @@ const TOO_SMALL: u64 = u64::MAX;
 // bytes for each line of the text; it is then untouched. Bytes after the written ones stay.
 #[no_mangle]
 pub extern "C" fn order_report(text: &[u8], report: &mut [u8]) -> u64
-    ensures { λ r. ⌜ (r ≡ countOf (now (text .entry)) (now (report .entry)))
+    ensures { λ r. ⌜ (r ≡ returnedCount (now (text .entry)) (now (report .entry)))
         × (now (report .exit) ≡ memoryOf (now (text .entry)) (now (report .entry))) ⌝ }
 {
     if report.len() / LINE_ROOM < line_count(text) {

@@ -12,7 +12,7 @@ use theory::Record;
 ghost use mathlib.Core.Path.{_≡_};
 ghost use Prim.Native.Nat.{suc, _≤_, _<_};
 ghost use lib.ListN.{length, drop};
-ghost use Rattle.text.specs.LineForm.{actOf, markOf, parseOf};
+ghost use Rattle.text.specs.LineForm.{parseAct, parseMark, parseOf};
 
 // The place after a space; the end where there is none.
 pub(crate) fn past(s: &[u8], at: usize) -> usize
@@ -24,7 +24,7 @@ pub(crate) fn past(s: &[u8], at: usize) -> usize
 
 // What follows the op of an act: `task=T on=N`.
 fn act(kind: u8, s: &[u8]) -> Parsed
-    ensures { λ r. ⌜ r ≡ actOf kind (now (s .entry)) ⌝ }
+    ensures { λ r. ⌜ r ≡ parseAct kind (now (s .entry)) ⌝ }
 {
     let e = place_of(s, 0, SPACE);
     let Number::Value(task) = field(b"task=", &s[..e]) else {
@@ -39,7 +39,7 @@ fn act(kind: u8, s: &[u8]) -> Parsed
 
 // What follows `op=lost`: `tasks=M`.
 fn mark(s: &[u8]) -> Parsed
-    ensures { λ r. ⌜ r ≡ markOf (now (s .entry)) ⌝ }
+    ensures { λ r. ⌜ r ≡ parseMark (now (s .entry)) ⌝ }
 {
     let Number::Value(on) = field(b"tasks=", s) else {
         return Parsed::Nothing;

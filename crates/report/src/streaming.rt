@@ -20,7 +20,7 @@ ghost use Rattle.theory.specs.feeding.Lent.{seen, tables};
 ghost use Rattle.text.specs.Lines.{lineEnd};
 ghost use Rattle.text.specs.LineForm.{parseOf};
 ghost use Rattle.text.specs.Reading.{LastLf};
-ghost use Rattle.text.specs.Pieces.{heldMost, keptOf, saidIn, afterPiece, progressAfter, holdsOpen, fits, refused};
+ghost use Rattle.text.specs.Pieces.{heldMost, fromMemory, saidIn, afterPiece, progressAfter, holdsOpen, fits, refused};
 ghost use Rattle.text.specs.Answers.{LineAnswered, PieceFits, EndedAnswered, PieceAnswered};
 
 fn least(a: usize, b: usize) -> usize
@@ -89,7 +89,7 @@ fn put_ended(
 ) -> Reached
     requires { ⌜ PieceFits (now out) (now piece) (now held) begun × LastLf (now piece) rest × (0 < rest) ⌝ }
     ensures { λ r. let state = tables control last clocks fullclocks in
-        ⌜ EndedAnswered (seen out) (begun .at) (keptOf (state .entry) begun (now (held .entry))) (now (piece .entry)) rest (state .exit) (r .lines) (r .at) ⌝ }
+        ⌜ EndedAnswered (seen out) (begun .at) (fromMemory (state .entry) begun (now (held .entry))) (now (piece .entry)) rest (state .exit) (r .lines) (r .at) ⌝ }
 {
     if begun.held == 0 {
         return put_lines(
@@ -221,7 +221,7 @@ pub fn report_piece(
 ) -> Progress
     ensures { λ r. let state = tables control last clocks fullclocks in
         let taken = fits (length (now (out .entry))) (length (now (piece .entry))) (now (held .entry)) begun in
-        let before = keptOf (state .entry) begun (now (held .entry)) in
+        let before = fromMemory (state .entry) begun (now (held .entry)) in
         let after = afterPiece before (now (piece .entry)) in
         ⌜ (r ≡ cond taken (progressAfter before (begun .at) (now (piece .entry))) (refused begun))
         × (now (out .exit) ≡ cond taken (written (now (out .entry)) (begun .at) (saidIn before (now (piece .entry)))) (now (out .entry)))

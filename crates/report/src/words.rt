@@ -10,8 +10,8 @@ ghost use Prim.Native.Nat.{_+_, _≤_, _<_};
 ghost use lib.ListN.{length, take, drop};
 ghost use Rattle.theory.specs.order.Recording.{lossMark};
 ghost use Rattle.text.specs.Bytes.{upTo, startsWith, isWord, little};
-ghost use Rattle.text.specs.LineForm.{fieldOf, kindOf, placeOf, words, wordOf, opName, space};
-ghost use Rattle.text.specs.Places.{OpAt, openingOf, opBytes};
+ghost use Rattle.text.specs.LineForm.{fieldOf, namedKind, placeOf, words, wordOf, opName, space};
+ghost use Rattle.text.specs.Places.{OpAt, kindOpening, opBytes};
 
 pub(crate) const SPACE: u8 = 32;
 
@@ -78,7 +78,7 @@ fn place(s: &[u8]) -> u8
 
 // The kind that a first word `op=W` names; the count of the words where it names none.
 pub(crate) fn kind(s: &[u8]) -> u8
-    ensures { λ r. ⌜ r ≡ kindOf (now (s .entry)) ⌝ }
+    ensures { λ r. ⌜ r ≡ namedKind (now (s .entry)) ⌝ }
 {
     if starts_with(b"op=", s) {
         return place(&s[3..]);
@@ -89,7 +89,7 @@ pub(crate) fn kind(s: &[u8]) -> u8
 // The kind that the first word of a line names; the count of the words where it names none. An op whose space is one of the first eight bytes,
 // such as that of a loss mark, is known by them.
 pub(crate) fn op(line: &[u8]) -> u8
-    ensures { λ r. ⌜ r ≡ kindOf (upTo space (now (line .entry))) ⌝ }
+    ensures { λ r. ⌜ r ≡ namedKind (upTo space (now (line .entry))) ⌝ }
 {
     if 8 <= line.len() {
         let bytes = eight(line, 0);
@@ -166,7 +166,7 @@ fn slot(bytes: u64) -> u64 {
 // The one op that a line's first eight bytes can name. That it is so is not relied on. The compiler makes tables of it, by slots, since the
 // entry is looked for by its slot and not by its place.
 fn guess(bytes: u64) -> Opening
-    ensures { λ r. ⌜ (r .kind < length words) × (r .bytes ≡ little (openingOf (r .kind))) × (r .len ≡ opBytes (openingOf (r .kind))) ⌝ }
+    ensures { λ r. ⌜ (r .kind < length words) × (r .bytes ≡ little (kindOpening (r .kind))) × (r .len ≡ opBytes (kindOpening (r .kind))) ⌝ }
 {
     let at = slot(bytes);
     let openings = OPENINGS;

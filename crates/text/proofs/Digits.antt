@@ -8,7 +8,7 @@ use native.Mathlib.Omega.{arith}
 use lib.Dec.{leb, ltb}
 use lib.ListN.{length, length-append}
 use borrow.Author.Tests.{leb-true, leb-false, lt-ltb, le-ltb, ltb-true, ltb-false}
-use Rattle.text.specs.Printing.{lastDigit, digitsOf, widthIn, width, decimal, fiveDigits}
+use Rattle.text.specs.Printing.{lastDigit, lastDigits, widthIn, width, decimal, fiveDigits}
 
 -- Division by powers of ten
 
@@ -34,20 +34,20 @@ some-above n k h = picked (leb (10 ^ k) n) refl
 
 -- The last digits
 
-pub digits-long : (k n : ℕ) → length (digitsOf k n) ≡ k
-unfolding digitsOf
+pub digits-long : (k n : ℕ) → length (lastDigits k n) ≡ k
+unfolding lastDigits
 digits-long zero n = refl
 digits-long (suc k) n = ap suc (digits-long k n)
 
 -- the digits of the tenth, and the last one
-digits-more : (k n : ℕ) → digitsOf (suc k) n ≡ digitsOf k (n / 10) ++ (lastDigit n ∷ [])
-unfolding digitsOf
+digits-more : (k n : ℕ) → lastDigits (suc k) n ≡ lastDigits k (n / 10) ++ (lastDigit n ∷ [])
+unfolding lastDigits
 digits-more zero n = ap (λ (m : ℕ). lastDigit m ∷ []) (div-one n)
 digits-more (suc k) n = ap₂ (λ (m : ℕ) (ds : List ℕ). lastDigit m ∷ ds) (divide-tenth n k) (digits-more k n)
 
 -- five of them, one by one
 pub five-digits : (n : ℕ) → fiveDigits n ≡ lastDigit (n / 10_000) ∷ lastDigit (n / 1000) ∷ lastDigit (n / 100) ∷ lastDigit (n / 10) ∷ lastDigit n ∷ []
-unfolding digitsOf
+unfolding lastDigits
 five-digits n = rw (div-one n)
 
 -- How many digits there are
@@ -126,13 +126,13 @@ width-of (suc w) n l h =
 
 -- below ten a number is one digit
 pub decimal-small : (n : ℕ) → n < 10 → decimal n ≡ lastDigit n ∷ []
-unfolding decimal digitsOf
+unfolding decimal lastDigits
 decimal-small n h = rw (width-small n h, div-one n)
 
 -- from ten on, the digits of its tenth and the last one
 pub decimal-more : (n : ℕ) → 10 ≤ n → decimal n ≡ decimal (n / 10) ++ (lastDigit n ∷ [])
 unfolding decimal
-decimal-more n h = ap (λ (k : ℕ). digitsOf k n) (width-more n h) ∙ digits-more (width (n / 10)) n
+decimal-more n h = ap (λ (k : ℕ). lastDigits k n) (width-more n h) ∙ digits-more (width (n / 10)) n
 
 pub length-small : (n : ℕ) → n < 10 → length (decimal n) ≡ 1
 length-small n h = ap length (decimal-small n h)

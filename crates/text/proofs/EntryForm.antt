@@ -15,10 +15,10 @@ use Rattle.text.specs.declared.entry.Entry.{Entry}
 use Rattle.text.specs.declared.entry.EntryLine.{EntryLine}
 use Rattle.text.specs.declared.number.Number.{Number}
 use Rattle.text.specs.Bytes.{indexOf, upTo, after, startsWith, isWord}
-use Rattle.text.specs.LineForm.{digitsFrom, space, fieldOf}
+use Rattle.text.specs.LineForm.{readDigits, space, fieldOf}
 use Rattle.text.specs.EntryForm.{afterSpaces, wordAfter, recName, varName, lowName, highName, markWord, digitsIn, recordOf, inRange, withinRange}
 use Rattle.text.specs.EntryForm.{markedBy, entryBy, entryOf, entryText, InForm, EntryTaken, OnlyEntryText, OnlyInForm, LongEntry}
-use Rattle.text.specs.Printing.{bytes, digitsOf, widthIn, width, decimal, recordDigits, fiveDigits}
+use Rattle.text.specs.Printing.{bytes, lastDigits, widthIn, width, decimal, recordDigits, fiveDigits}
 use Rattle.text.proofs.Bytes.{Without, without-append, before-seam, after-seam, joined, is-the-word}
 use Rattle.text.proofs.Digits.{digits-long, decimal-fits}
 use Rattle.text.proofs.LineForm.{cut-before}
@@ -27,15 +27,15 @@ use Rattle.text.proofs.RoundTrip.{field-by, field-is, field-read-by, fi
 
 -- Record numbers
 
-digits-in : (k : ℕ) (s : List ℕ) (n : ℕ) → digitsIn k s ≡ Number.Value n → s ≡ digitsOf k n
+digits-in : (k : ℕ) (s : List ℕ) (n : ℕ) → digitsIn k s ≡ Number.Value n → s ≡ lastDigits k n
 unfolding digitsIn
 digits-in k s n e =
-    let (f, g) = let-through (eqb (length s) k) (digitsFrom 0 s) n e in
-    read-printed 0 n s g ∙ ap (λ (m : ℕ). digitsOf m n) (eqb-true (length s) k f)
+    let (f, g) = let-through (eqb (length s) k) (readDigits 0 s) n e in
+    read-printed 0 n s g ∙ ap (λ (m : ℕ). lastDigits m n) (eqb-true (length s) k f)
 
-in-digits : (k n : ℕ) → n < 10 ^ k → digitsIn k (digitsOf k n) ≡ Number.Value n
+in-digits : (k n : ℕ) → n < 10 ^ k → digitsIn k (lastDigits k n) ≡ Number.Value n
 unfolding digitsIn
-in-digits k n h = rw (eq-eqb (length (digitsOf k n)) k (digits-long k n)) (printed-read 0 n k (sym (div-eq-of-lt h)))
+in-digits k n h = rw (eq-eqb (length (lastDigits k n)) k (digits-long k n)) (printed-read 0 n k (sym (div-eq-of-lt h)))
 
 record-is : (s : List ℕ) (n : ℕ) → recordOf s ≡ Number.Value n → s ≡ recName ++ fiveDigits n
 unfolding recordOf
@@ -272,9 +272,9 @@ fields-read s a b c d = rw (a, b, c, d)
 -- The two lines of document 02
 
 accepted : entryText (record { rec = 12; var = 5; low = 1; high = 3; accepted = true }) ≡ bytes "rec=00012 var=5 low=1 high=3 mark=accepted"
-unfolding entryText decimal width widthIn digitsOf
+unfolding entryText decimal width widthIn lastDigits
 accepted = refl
 
 opened : entryText (record { rec = 12; var = 5; low = 1; high = 3; accepted = false }) ≡ bytes "rec=00012 var=5 low=1 high=3 mark=open"
-unfolding entryText decimal width widthIn digitsOf
+unfolding entryText decimal width widthIn lastDigits
 opened = refl

@@ -8,23 +8,23 @@ use Rattle.theory.specs.declared.record.Record.{Record}
 use Rattle.theory.specs.declared.answer.Answer.{Answer}
 use Rattle.theory.specs.verdicts.Verdict.{Verdict, Race, Clear, Doubt}
 use Rattle.theory.specs.feeding.Meaning.{Meaning, refuses, takes, judges, meaning, refusalNumber}
-use Rattle.text.specs.Printing.{bytes, digitsOf, decimal}
+use Rattle.text.specs.Printing.{bytes, lastDigits, decimal}
 use Rattle.text.specs.ReportLines.{accessPart, accessLine, refusedAs, refusedLine, wordFor, lineFor, reportLine}
 use Rattle.text.proofs.Digits.{decimal-fits}
 
 -- the lengths of the lines: the words and the numbers of five digits are of fixed length
 pub length-access-part : (number task variable : ℕ) → length (accessPart number task variable) ≡ 20 + length (decimal task) + length (decimal variable)
-unfolding accessPart digitsOf
+unfolding accessPart lastDigits
 length-access-part number task variable = simp length-append (omega arith)
 
 pub length-access-line : (number task variable : ℕ) (verdict : List ℕ) (partner : ℕ)
     → length (accessLine number task variable verdict partner) ≡ 41 + length (decimal task) + length (decimal variable) + length verdict
-unfolding accessLine digitsOf
+unfolding accessLine lastDigits
 length-access-line number task variable verdict partner = simp length-append (omega (arith, length-access-part number task variable))
 
 -- the partner of a Clear access is 0, so that its verdict's words and numbers are one word
 pub clear-line : (number task variable : ℕ) → accessLine number task variable (bytes "clear") 0 ≡ accessPart number task variable ++ bytes " verdict=clear with=00000\n"
-unfolding accessLine digitsOf
+unfolding accessLine lastDigits
 clear-line number task variable = simp append-assoc refl
 
 length-refused : (name : List ℕ) (line number : ℕ) → length (refusedAs name line number) ≡ 10 + length name + length (decimal line) + length (decimal number)

@@ -14,7 +14,7 @@ use Rattle.theory.specs.order.Recording.{lossMark}
 use Rattle.text.specs.declared.number.Number.{Number}
 use Rattle.text.specs.declared.parsed.Parsed.{Parsed}
 use Rattle.text.specs.Bytes.{indexOf, upTo, after, startsWith, isWord}
-use Rattle.text.specs.LineForm.{words, opName, taskName, onName, space, placeOf, kindOf, fieldBy, fieldOf, actOf, markOf, restOf, parseOf}
+use Rattle.text.specs.LineForm.{words, opName, taskName, onName, space, placeOf, namedKind, fieldBy, fieldOf, parseAct, parseMark, restOf, parseOf}
 
 -- Words
 
@@ -46,12 +46,12 @@ module _ (ws : List (List ℕ)) (s : List ℕ) (k : ℕ) (h : placeOf ws s ≡ k
   words-ended l =
       sym (h ∙ ap (λ (vs : List (List ℕ)). k + placeOf vs s) (drop-of-length-le ws l) ∙ ap (λ (n : ℕ). k + n) (no-word s) ∙ add-zero k)
 
-pub is-op : (s : List ℕ) → startsWith opName s ≡ true → kindOf s ≡ placeOf words (drop 3 s)
-unfolding kindOf
+pub is-op : (s : List ℕ) → startsWith opName s ≡ true → namedKind s ≡ placeOf words (drop 3 s)
+unfolding namedKind
 is-op s e = rw e
 
-pub no-op : (s : List ℕ) → startsWith opName s ≡ false → kindOf s ≡ length words
-unfolding kindOf
+pub no-op : (s : List ℕ) → startsWith opName s ≡ false → namedKind s ≡ length words
+unfolding namedKind
 no-op s e = rw e
 
 -- Fields
@@ -76,32 +76,32 @@ module _ (s : List ℕ) (e p : ℕ) (cut : e ≡ 0 + indexOf space s) where
   pub cut-after : drop p s ≡ drop (suc e) s → take (length s - p) (drop p s) ≡ after space s
   cut-after h = let q : e ≡ indexOf space s = omega arith in part-from s p ∙ h ∙ ap (λ (k : ℕ). drop (suc k) s) q
 
-  pub act-no-task : (k : ℕ) → fieldOf taskName (take e s) ≡ Number.Nothing → actOf k s ≡ Parsed.Nothing
-  unfolding actOf
+  pub act-no-task : (k : ℕ) → fieldOf taskName (take e s) ≡ Number.Nothing → parseAct k s ≡ Parsed.Nothing
+  unfolding parseAct
   act-no-task k f = rw (← cut-before, f)
 
   module _ (next : drop p s ≡ drop (suc e) s) where
     pub act-no-on : (k t : ℕ) → fieldOf taskName (take e s) ≡ Number.Value t → fieldOf onName (take (length s - p) (drop p s)) ≡ Number.Nothing
-        → actOf k s ≡ Parsed.Nothing
-    unfolding actOf
+        → parseAct k s ≡ Parsed.Nothing
+    unfolding parseAct
     act-no-on k t f g = rw (← cut-before, ← cut-after next, f, g)
 
     pub act-whole : (k t n : ℕ) → fieldOf taskName (take e s) ≡ Number.Value t → fieldOf onName (take (length s - p) (drop p s)) ≡ Number.Value n
-        → actOf k s ≡ Parsed.Record (record { kind = k; task = t; on = n })
-    unfolding actOf
+        → parseAct k s ≡ Parsed.Record (record { kind = k; task = t; on = n })
+    unfolding parseAct
     act-whole k t n f g = rw (← cut-before, ← cut-after next, f, g)
 
-    pub parsed-by : (k : ℕ) → k ≡ kindOf (take e s) → parseOf s ≡ restOf k (take (length s - p) (drop p s))
+    pub parsed-by : (k : ℕ) → k ≡ namedKind (take e s) → parseOf s ≡ restOf k (take (length s - p) (drop p s))
     unfolding parseOf
     parsed-by k h = rw (← cut-before, ← cut-after next, h)
 
 -- What follows the op
 
 module _ (k : ℕ) (s : List ℕ) where
-  pub rest-act : k < length words → (k ≡ lossMark → ⊥) → restOf k s ≡ actOf k s
+  pub rest-act : k < length words → (k ≡ lossMark → ⊥) → restOf k s ≡ parseAct k s
   rest-act h d = rw (lt-ltb k (length words) h, ne-eqb k lossMark d)
 
-  pub rest-mark : k ≡ lossMark → restOf k s ≡ markOf s
+  pub rest-mark : k ≡ lossMark → restOf k s ≡ parseMark s
   rest-mark h = rw h
 
   pub rest-none : length words ≤ k → restOf k s ≡ Parsed.Nothing

@@ -11,8 +11,8 @@ use lib.ListN.{length, getD, drop, drop-of-length-le}
 use lib.Seq.{drop-cons}
 use borrow.Author.Tests.{leb-true, eqb-true, le-leb, lt-leb, lt-ltb, le-ltb, eq-eqb, ne-eqb, eqb-false, not-true}
 use Rattle.text.specs.declared.number.Number.{Number}
-use Rattle.text.specs.LineForm.{digits, isDigit, isPlain, digitsFrom, decimalOf}
-use Rattle.text.specs.Printing.{lastDigit, digitsOf, decimal}
+use Rattle.text.specs.LineForm.{digits, isDigit, isPlain, readDigits, readDecimal}
+use Rattle.text.specs.Printing.{lastDigit, lastDigits, decimal}
 use Rattle.text.proofs.Bytes.{and-true}
 use Rattle.text.proofs.Digits.{divide-more, none-above, some-above, digits-long, fills, width-of}
 
@@ -35,16 +35,16 @@ power-fits i h = pow-le-pow-right {n = 10} (omega arith) h
 -- Reading from place i on
 
 module _ (v : ℕ) (s : List ℕ) (i : ℕ) where
-  pub read-digit : i < length s → isDigit (getD s i 0) ≡ true → digitsFrom v (drop i s) ≡ digitsFrom (v * 10 + (getD s i 0 - 48)) (drop (i + 1) s)
-  unfolding digitsFrom
+  pub read-digit : i < length s → isDigit (getD s i 0) ≡ true → readDigits v (drop i s) ≡ readDigits (v * 10 + (getD s i 0 - 48)) (drop (i + 1) s)
+  unfolding readDigits
   read-digit h e = rw (add-one i, drop-cons s i 0 h, e)
 
-  pub read-other : i < length s → isDigit (getD s i 0) ≡ false → digitsFrom v (drop i s) ≡ Number.Nothing
-  unfolding digitsFrom
+  pub read-other : i < length s → isDigit (getD s i 0) ≡ false → readDigits v (drop i s) ≡ Number.Nothing
+  unfolding readDigits
   read-other h e = rw (drop-cons s i 0 h, e)
 
-  pub read-all : length s ≤ i → digitsFrom v (drop i s) ≡ Number.Value v
-  unfolding digitsFrom
+  pub read-all : length s ≤ i → readDigits v (drop i s) ≡ Number.Value v
+  unfolding readDigits
   read-all h = rw (drop-of-length-le s h)
 
 -- Plain numbers
@@ -76,12 +76,12 @@ module _ (s : List ℕ) where
   unfolding isPlain
   plain-some h k = rw (ne-eqb (length s) 1 (omega arith), lt-ltb 1 (length s) h, le-leb (length s) digits k)
 
-  pub decimal-plain : isPlain s ≡ true → decimalOf s ≡ digitsFrom 0 s
-  unfolding decimalOf
+  pub decimal-plain : isPlain s ≡ true → readDecimal s ≡ readDigits 0 s
+  unfolding readDecimal
   decimal-plain e = rw e
 
-  pub decimal-other : isPlain s ≡ false → decimalOf s ≡ Number.Nothing
-  unfolding decimalOf
+  pub decimal-other : isPlain s ≡ false → readDecimal s ≡ Number.Nothing
+  unfolding readDecimal
   decimal-other e = rw e
 
 -- One or two bytes: the first counts ten times where it is not the last
@@ -102,30 +102,30 @@ short-fits (a ∷ []) k d e = omega (arith, d)
 short-fits (a ∷ (b ∷ [])) k d e = omega (arith, d, e)
 short-fits (a ∷ (b ∷ (c ∷ s))) k d e = absurd (omega arith)
 
-pub short-first : (s : List ℕ) → 0 < length s → length s ≤ 2 → isDigit (getD s 0 0) ≡ false → decimalOf s ≡ Number.Nothing
-unfolding decimalOf isPlain digitsFrom
+pub short-first : (s : List ℕ) → 0 < length s → length s ≤ 2 → isDigit (getD s 0 0) ≡ false → readDecimal s ≡ Number.Nothing
+unfolding readDecimal isPlain readDigits
 short-first [] h k e = absurd (omega arith)
 short-first (a ∷ []) h k e = rw e
 short-first (a ∷ (b ∷ [])) h k e = rw e (nothing (not (eqb a 48)))
 short-first (a ∷ (b ∷ (c ∷ s))) h k e = absurd (omega arith)
 
-pub short-last : (s : List ℕ) → 0 < length s → length s ≤ 2 → isDigit (getD s 0 0) ≡ true → isDigit (getD s (length s - 1) 0) ≡ false → decimalOf s ≡ Number.Nothing
-unfolding decimalOf isPlain digitsFrom
+pub short-last : (s : List ℕ) → 0 < length s → length s ≤ 2 → isDigit (getD s 0 0) ≡ true → isDigit (getD s (length s - 1) 0) ≡ false → readDecimal s ≡ Number.Nothing
+unfolding readDecimal isPlain readDigits
 short-last [] h k d e = absurd (omega arith)
 short-last (a ∷ []) h k d e = rw e
 short-last (a ∷ (b ∷ [])) h k d e = rw (d, e) (nothing (not (eqb a 48)))
 short-last (a ∷ (b ∷ (c ∷ s))) h k d e = absurd (omega arith)
 
-pub short-low : (s : List ℕ) → 0 < length s → length s ≤ 2 → Digit (getD s 0 0) → shortValue s < shortLeast s → decimalOf s ≡ Number.Nothing
-unfolding decimalOf isPlain digitsFrom
+pub short-low : (s : List ℕ) → 0 < length s → length s ≤ 2 → Digit (getD s 0 0) → shortValue s < shortLeast s → readDecimal s ≡ Number.Nothing
+unfolding readDecimal isPlain readDigits
 short-low [] h k d l = absurd (omega arith)
 short-low (a ∷ []) h k d l = absurd (omega arith)
 short-low (a ∷ (b ∷ [])) h k d l = rw (eq-eqb a 48 (omega (arith, d)))
 short-low (a ∷ (b ∷ (c ∷ s))) h k d l = absurd (omega arith)
 
 pub short-read : (s : List ℕ) → 0 < length s → length s ≤ 2 → isDigit (getD s 0 0) ≡ true → isDigit (getD s (length s - 1) 0) ≡ true
-    → shortLeast s ≤ shortValue s → decimalOf s ≡ Number.Value (shortValue s)
-unfolding decimalOf isPlain digitsFrom
+    → shortLeast s ≤ shortValue s → readDecimal s ≡ Number.Value (shortValue s)
+unfolding readDecimal isPlain readDigits
 short-read [] h k d e l = absurd (omega arith)
 short-read (a ∷ []) h k d e l = rw d (ap Number.Value (omega arith))
 short-read (a ∷ (b ∷ [])) h k d e l =
@@ -140,21 +140,21 @@ let-through true x n e = (refl, e)
 let-through false x n e = absurd (let z : _≡_ {A = ℕ} 0 1 = cc in omega arith)
 
 -- what was read before the digits is what stands above them
-read-above : (v n : ℕ) (s : List ℕ) → digitsFrom v s ≡ Number.Value n → n / 10 ^ length s ≡ v
-unfolding digitsFrom
+read-above : (v n : ℕ) (s : List ℕ) → readDigits v s ≡ Number.Value n → n / 10 ^ length s ≡ v
+unfolding readDigits
 read-above v n [] e = let q : v ≡ n = cc in div-one n ∙ sym q
 read-above v n (b ∷ s) e =
-    let (d, f) = let-through (isDigit b) (digitsFrom (v * 10 + (b - 48)) s) n e in
+    let (d, f) = let-through (isDigit b) (readDigits (v * 10 + (b - 48)) s) n e in
     let g = a-digit b d in
     let h : n / 10 ^ length s ≡ v * 10 + (b - 48) = read-above (v * 10 + (b - 48)) n s f in
     divide-more n (length s) ∙ rw h (omega arith)
 
 -- what was read is printed again
-pub read-printed : (v n : ℕ) (s : List ℕ) → digitsFrom v s ≡ Number.Value n → s ≡ digitsOf (length s) n
-unfolding digitsFrom digitsOf
+pub read-printed : (v n : ℕ) (s : List ℕ) → readDigits v s ≡ Number.Value n → s ≡ lastDigits (length s) n
+unfolding readDigits lastDigits
 read-printed v n [] e = refl
 read-printed v n (b ∷ s) e =
-    let (d, f) = let-through (isDigit b) (digitsFrom (v * 10 + (b - 48)) s) n e in
+    let (d, f) = let-through (isDigit b) (readDigits (v * 10 + (b - 48)) s) n e in
     let g = a-digit b d in
     let h : n / 10 ^ length s ≡ v * 10 + (b - 48) = read-above (v * 10 + (b - 48)) n s f in
     let q : b ≡ lastDigit (n / 10 ^ length s) = rw h (omega arith) in
@@ -164,8 +164,8 @@ is-digit : (b : ℕ) → 48 ≤ b → b ≤ 57 → isDigit b ≡ true
 is-digit b h k = rw (le-leb 48 b h, le-leb b 57 k)
 
 -- what was printed is read again, after what stands above it
-pub printed-read : (v n k : ℕ) → v ≡ n / 10 ^ k → digitsFrom v (digitsOf k n) ≡ Number.Value n
-unfolding digitsFrom digitsOf
+pub printed-read : (v n k : ℕ) → v ≡ n / 10 ^ k → readDigits v (lastDigits k n) ≡ Number.Value n
+unfolding readDigits lastDigits
 printed-read v n zero e = ap Number.Value (e ∙ div-one n)
 printed-read v n (suc k) e =
     let q : v * 10 + (lastDigit (n / 10 ^ k) - 48) ≡ n / 10 ^ k = omega (arith, divide-more n k) in
@@ -180,21 +180,21 @@ first-digit n k l h e =
     let q : n / 10 ^ k ≡ 0 = omega (arith, divide-more n k) in
     omega (arith, none-above n k q)
 
-printed-plain : (n w : ℕ) → w < digits → n < 10 ^ suc w → (0 < w → 10 ^ w ≤ n) → isPlain (digitsOf (suc w) n) ≡ true
-unfolding digitsOf
-printed-plain n zero h u l = plain-one (digitsOf 1 n) (digits-long 1 n)
+printed-plain : (n w : ℕ) → w < digits → n < 10 ^ suc w → (0 < w → 10 ^ w ≤ n) → isPlain (lastDigits (suc w) n) ≡ true
+unfolding lastDigits
+printed-plain n zero h u l = plain-one (lastDigits 1 n) (digits-long 1 n)
 printed-plain n (suc k) h u l =
-    let e : length (digitsOf (suc (suc k)) n) ≡ suc (suc k) = digits-long (suc (suc k)) n in
-    plain-some (digitsOf (suc (suc k)) n) (omega arith) (omega arith)
+    let e : length (lastDigits (suc (suc k)) n) ≡ suc (suc k) = digits-long (suc (suc k)) n in
+    plain-some (lastDigits (suc (suc k)) n) (omega arith) (omega arith)
     ∙ ap not (ne-eqb (lastDigit (n / 10 ^ suc k)) 48 (first-digit n (suc k) (l (omega arith)) u))
 
 -- the text of a number is read as that number
-pub decimal-read : (n : ℕ) → n < 10 ^ digits → decimalOf (decimal n) ≡ Number.Value n
+pub decimal-read : (n : ℕ) → n < 10 ^ digits → readDecimal (decimal n) ≡ Number.Value n
 unfolding decimal
 decimal-read n h =
     let (w, f, g) = fills (digits - 1) n h in
-    ap (λ (k : ℕ). decimalOf (digitsOf k n)) (f .wide)
-    ∙ decimal-plain (digitsOf (suc w) n) (printed-plain n w (omega arith) (f .below) (f .filled))
+    ap (λ (k : ℕ). readDecimal (lastDigits k n)) (f .wide)
+    ∙ decimal-plain (lastDigits (suc w) n) (printed-plain n w (omega arith) (f .below) (f .filled))
     ∙ printed-read 0 n (suc w) (sym (div-eq-of-lt (f .below)))
 
 plain-first : (b : ℕ) (s : List ℕ) → isPlain (b ∷ s) ≡ true → 0 < length s → b ≡ 48 → ⊥
@@ -203,15 +203,15 @@ plain-first b s e h =
     eqb-false b 48 (not-true (eqb b 48) (sym (plain-some (b ∷ s) (omega arith) f) ∙ e))
 
 -- so that the number fills its digits
-first-counts : (b : ℕ) (s : List ℕ) (n : ℕ) → isPlain (b ∷ s) ≡ true → digitsFrom 0 (b ∷ s) ≡ Number.Value n → 0 < length s → 10 ^ length s ≤ n
-unfolding digitsFrom
+first-counts : (b : ℕ) (s : List ℕ) (n : ℕ) → isPlain (b ∷ s) ≡ true → readDigits 0 (b ∷ s) ≡ Number.Value n → 0 < length s → 10 ^ length s ≤ n
+unfolding readDigits
 first-counts b s n p f h =
-    let (d, g) = let-through (isDigit b) (digitsFrom (0 * 10 + (b - 48)) s) n f in
+    let (d, g) = let-through (isDigit b) (readDigits (0 * 10 + (b - 48)) s) n f in
     let q : n / 10 ^ length s ≡ 0 * 10 + (b - 48) = read-above (0 * 10 + (b - 48)) n s g in
     some-above n (length s) (omega (arith, a-digit b d, plain-first b s p h))
 
-no-number : (n : ℕ) → decimalOf [] ≡ Number.Value n → ⊥
-unfolding decimalOf isPlain
+no-number : (n : ℕ) → readDecimal [] ≡ Number.Value n → ⊥
+unfolding readDecimal isPlain
 no-number n e = let z : _≡_ {A = ℕ} 0 1 = cc in omega arith
 
 -- what is read as a number is the text of that number, which has at most 5 digits
@@ -219,14 +219,14 @@ pub record Printed (s : List ℕ) (n : ℕ) : Type 0 where
   pub is : s ≡ decimal n
   pub short : n < 10 ^ digits
 
-pub read-decimal : (s : List ℕ) (n : ℕ) → decimalOf s ≡ Number.Value n → Printed s n
-unfolding decimalOf decimal
+pub read-decimal : (s : List ℕ) (n : ℕ) → readDecimal s ≡ Number.Value n → Printed s n
+unfolding readDecimal decimal
 read-decimal [] n e = absurd (no-number n e)
 read-decimal (b ∷ s) n e =
-    let (p, f) = let-through (isPlain (b ∷ s)) (digitsFrom 0 (b ∷ s)) n e in
+    let (p, f) = let-through (isPlain (b ∷ s)) (readDigits 0 (b ∷ s)) n e in
     let k : length (b ∷ s) ≤ digits = plain-fits (b ∷ s) p in
     let u : n < 10 ^ suc (length s) = none-above n (suc (length s)) (read-above 0 n (b ∷ s) f) in
     record {
-      is = read-printed 0 n (b ∷ s) f ∙ ap (λ (m : ℕ). digitsOf m n) (sym (width-of (length s) n (first-counts b s n p f) u));
+      is = read-printed 0 n (b ∷ s) f ∙ ap (λ (m : ℕ). lastDigits m n) (sym (width-of (length s) n (first-counts b s n p f) u));
       short = omega (arith, pow-le-pow-right {n = 10} (omega arith) {i = suc (length s)} {j = digits} k);
     }

@@ -7,7 +7,7 @@ use lib.ListN.{length, getD, take, drop, take-append-drop, length-drop, length-a
 use lib.Seq.{drop-cons, drop-drop, take-all, length-take-le}
 use Rattle.text.specs.declared.number.Number.{Number}
 use Rattle.text.specs.Bytes.{little}
-use Rattle.text.specs.LineForm.{decimalOf}
+use Rattle.text.specs.LineForm.{readDecimal}
 use Rattle.text.specs.Printing.{decimal}
 use Rattle.text.specs.Places.{StandsAt, FieldAt}
 use Rattle.text.proofs.Bytes.{take-seam, word-dropped, Below, below-take, below-drop, little-same}
@@ -59,7 +59,7 @@ says-four s at w h l a b e =
     says-little s at w (omega arith) a b (ap (λ (n : ℕ). little (take n (drop at s))) l ∙ e ∙ ap little (take-all 4 w (omega arith)))
 
 -- a number that is read from a part, after a name of so many bytes
-pub field-stands : (s : List ℕ) (at name n m v : ℕ) → m ≡ n → at + name + n ≤ length s → decimalOf (take m (drop (at + name) s)) ≡ Number.Value v
+pub field-stands : (s : List ℕ) (at name n m v : ℕ) → m ≡ n → at + name + n ≤ length s → readDecimal (take m (drop (at + name) s)) ≡ Number.Value v
     → (w : List ℕ) → length w ≡ name → StandsAt s at w → FieldAt s at w v (name + n)
 field-stands s at name n m v z h e w q k =
     let d : ℕ = at + name in

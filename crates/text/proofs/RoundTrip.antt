@@ -15,9 +15,9 @@ use Rattle.theory.proofs.acceptance.Rows.{none-below}
 use Rattle.text.specs.declared.number.Number.{Number}
 use Rattle.text.specs.declared.parsed.Parsed.{Parsed}
 use Rattle.text.specs.Bytes.{indexOf, upTo, after, startsWith, isWord}
-use Rattle.text.specs.LineForm.{digits, decimalOf, words, opName, taskName, onName, tasksName, space, placeOf, kindOf, fieldBy, fieldOf, actBy, markBy}
-use Rattle.text.specs.LineForm.{actOf, markOf, restOf, parseOf, wordOf, textOf, Sayable, TextTaken, OnlyText, OnlySayable, LongRefused}
-use Rattle.text.specs.Printing.{lastDigit, digitsOf, width, decimal}
+use Rattle.text.specs.LineForm.{digits, readDecimal, words, opName, taskName, onName, tasksName, space, placeOf, namedKind, fieldBy, fieldOf, actRecord, markRecord}
+use Rattle.text.specs.LineForm.{parseAct, parseMark, restOf, parseOf, wordOf, textOf, Sayable, TextTaken, OnlyText, OnlySayable, LongRefused}
+use Rattle.text.specs.Printing.{lastDigit, lastDigits, width, decimal}
 use Rattle.text.proofs.Bytes.{Without, without-cons, without-append, before-seam, after-seam, joined, word-split, word-starts, word-dropped, is-the-word}
 use Rattle.text.proofs.Digits.{decimal-fits}
 use Rattle.text.proofs.Numerals.{let-through, decimal-read, read-decimal}
@@ -39,7 +39,7 @@ pub record Field (name s : List ℕ) (n : ℕ) : Type 0 where
 pub field-is : (name s : List ℕ) (n : ℕ) → fieldOf name s ≡ Number.Value n → Field name s n
 unfolding fieldOf
 field-is name s n e =
-    let (t, f, g) = field-by decimalOf name s n e in
+    let (t, f, g) = field-by readDecimal name s n e in
     let p = read-decimal t n g in
     record { is = f ∙ ap (λ (l : List ℕ). name ++ l) (p .is); short = p .short }
 
@@ -54,8 +54,8 @@ word-at (w ∷ ws) s h = picked (isWord w s) refl h (word-at ws s)
     picked false e h ih = ih (omega arith)
 
 -- a first word that names a kind is `op=` and the kind's word
-pub op-is : (s : List ℕ) → kindOf s < length words → s ≡ opName ++ wordOf (kindOf s)
-unfolding kindOf
+pub op-is : (s : List ℕ) → namedKind s < length words → s ≡ opName ++ wordOf (namedKind s)
+unfolding namedKind
 op-is s h = picked (startsWith opName s) refl h
   where
     picked : (t : Bool) → startsWith opName s ≡ t → cond t (placeOf words (drop 3 s)) (length words) < length words
@@ -90,8 +90,8 @@ record Said (s : List ℕ) (r : Record) : Type 0 where
   is : s ≡ textOf r
   can : Sayable r
 
-act-said : (s : List ℕ) (k : ℕ) → k ≡ kindOf (upTo space s) → k < length words → (k ≡ lossMark → ⊥) → (x y : Number) → fieldOf taskName (upTo space (after space s)) ≡ x
-    → fieldOf onName (after space (after space s)) ≡ y → (r : Record) → actBy k x y ≡ Parsed.Record r → Said s r
+act-said : (s : List ℕ) (k : ℕ) → k ≡ namedKind (upTo space s) → k < length words → (k ≡ lossMark → ⊥) → (x y : Number) → fieldOf taskName (upTo space (after space s)) ≡ x
+    → fieldOf onName (after space (after space s)) ≡ y → (r : Record) → actRecord k x y ≡ Parsed.Record r → Said s r
 act-said s k q l h (Number.Value t) (Number.Value n) f g r e =
     let same : record { kind = k; task = t; on = n } ≡ r = cc in
     let w : upTo space s ≡ opName ++ wordOf k = rw q (op-is (upTo space s) (omega arith)) in
@@ -104,8 +104,8 @@ act-said s k q l h (Number.Value t) (Number.Value n) f g r e =
 act-said s k q l h (Number.Value t) Number.Nothing f g r e = absurd (let z : _≡_ {A = ℕ} 0 1 = cc in omega arith)
 act-said s k q l h Number.Nothing y f g r e = absurd (let z : _≡_ {A = ℕ} 0 1 = cc in omega arith)
 
-mark-said : (s : List ℕ) → kindOf (upTo space s) ≡ lossMark → (x : Number) → fieldOf tasksName (after space s) ≡ x
-    → (r : Record) → markBy x ≡ Parsed.Record r → Said s r
+mark-said : (s : List ℕ) → namedKind (upTo space s) ≡ lossMark → (x : Number) → fieldOf tasksName (after space s) ≡ x
+    → (r : Record) → markRecord x ≡ Parsed.Record r → Said s r
 mark-said s q (Number.Value n) f r e =
     let same : record { kind = lossMark; task = 0; on = n } ≡ r = cc in
     let w : upTo space s ≡ opName ++ wordOf lossMark = op-is (upTo space s) (omega arith) ∙ ap (λ (k : ℕ). opName ++ wordOf k) q in
@@ -117,13 +117,13 @@ mark-said s q (Number.Value n) f r e =
 mark-said s q Number.Nothing f r e = absurd (let z : _≡_ {A = ℕ} 0 1 = cc in omega arith)
 
 said : (s : List ℕ) (r : Record) → parseOf s ≡ Parsed.Record r → Said s r
-unfolding parseOf actOf markOf
-said s r e = picked (ltb (kindOf (upTo space s)) (length words)) refl (eqb (kindOf (upTo space s)) lossMark) refl e
+unfolding parseOf parseAct parseMark
+said s r e = picked (ltb (namedKind (upTo space s)) (length words)) refl (eqb (namedKind (upTo space s)) lossMark) refl e
   where
-    picked : (t : Bool) → ltb (kindOf (upTo space s)) (length words) ≡ t → (b : Bool) → eqb (kindOf (upTo space s)) lossMark ≡ b
-        → cond t (cond b (markOf (after space s)) (actOf (kindOf (upTo space s)) (after space s))) Parsed.Nothing ≡ Parsed.Record r → Said s r
-    picked true f true g e = mark-said s (eqb-true (kindOf (upTo space s)) lossMark g) (fieldOf tasksName (after space s)) refl r e
-    picked true f false g e = act-said s (kindOf (upTo space s)) refl (ltb-true (kindOf (upTo space s)) (length words) f) (eqb-false (kindOf (upTo space s)) lossMark g)
+    picked : (t : Bool) → ltb (namedKind (upTo space s)) (length words) ≡ t → (b : Bool) → eqb (namedKind (upTo space s)) lossMark ≡ b
+        → cond t (cond b (parseMark (after space s)) (parseAct (namedKind (upTo space s)) (after space s))) Parsed.Nothing ≡ Parsed.Record r → Said s r
+    picked true f true g e = mark-said s (eqb-true (namedKind (upTo space s)) lossMark g) (fieldOf tasksName (after space s)) refl r e
+    picked true f false g e = act-said s (namedKind (upTo space s)) refl (ltb-true (namedKind (upTo space s)) (length words) f) (eqb-false (namedKind (upTo space s)) lossMark g)
         (fieldOf taskName (upTo space (after space s))) (fieldOf onName (after space (after space s))) refl refl r e
     picked false f b g e = absurd (let z : _≡_ {A = ℕ} 0 1 = cc in omega arith)
 
@@ -139,9 +139,9 @@ only-sayable s r e = said s r e .can
 pub each-kind : (p : ℕ → Bool) → anyBelow (length words) (λ k. not (p k)) ≡ false → (k : ℕ) → k < length words → p k ≡ true
 each-kind p e k h = not-false (p k) (none-below (length words) (λ k. not (p k)) e k h)
 
-pub op-kind : (k : ℕ) → k < length words → kindOf (opName ++ wordOf k) ≡ k
-unfolding turns kindOf placeOf isWord startsWith
-op-kind k h = eqb-true _ _ (each-kind (λ k. eqb (kindOf (opName ++ wordOf k)) k) refl k h)
+pub op-kind : (k : ℕ) → k < length words → namedKind (opName ++ wordOf k) ≡ k
+unfolding turns namedKind placeOf isWord startsWith
+op-kind k h = eqb-true _ _ (each-kind (λ k. eqb (namedKind (opName ++ wordOf k)) k) refl k h)
 
 pub op-whole : (k : ℕ) → k < length words → Without space (opName ++ wordOf k)
 unfolding turns indexOf
@@ -176,12 +176,12 @@ field-read-by read name t n e = rw (word-starts name t, word-dropped name t) e
 
 pub field-read : (name : List ℕ) (n : ℕ) → n < 10 ^ digits → fieldOf name (name ++ decimal n) ≡ Number.Value n
 unfolding fieldOf
-field-read name n h = field-read-by decimalOf name (decimal n) n (decimal-read n h)
+field-read name n h = field-read-by readDecimal name (decimal n) n (decimal-read n h)
 
-pub digits-whole : (b k n : ℕ) → b < 48 → Without b (digitsOf k n)
-unfolding digitsOf indexOf
+pub digits-whole : (b k n : ℕ) → b < 48 → Without b (lastDigits k n)
+unfolding lastDigits indexOf
 digits-whole b zero n h = refl
-digits-whole b (suc k) n h = without-cons b (lastDigit (n / 10 ^ k)) (digitsOf k n) (λ e. omega arith) (digits-whole b k n h)
+digits-whole b (suc k) n h = without-cons b (lastDigit (n / 10 ^ k)) (lastDigits k n) (λ e. omega arith) (digits-whole b k n h)
 
 -- no byte below the digits is in the text of a number
 pub decimal-whole : (b n : ℕ) → b < 48 → Without b (decimal n)
@@ -191,13 +191,13 @@ decimal-whole b n h = digits-whole b (width n) n h
 pub field-whole : (name : List ℕ) (n : ℕ) → Without space name → Without space (name ++ decimal n)
 field-whole name n h = without-append space name (decimal n) h (decimal-whole space n (omega arith))
 
-parse-words : (w s : List ℕ) → Without space w → parseOf (w ++ (space ∷ s)) ≡ restOf (kindOf w) s
+parse-words : (w s : List ℕ) → Without space w → parseOf (w ++ (space ∷ s)) ≡ restOf (namedKind w) s
 unfolding parseOf
-parse-words w s h = ap₂ (λ (x : List ℕ) (y : List ℕ). restOf (kindOf x) y) (before-seam space w s h) (after-seam space w s h)
+parse-words w s h = ap₂ (λ (x : List ℕ) (y : List ℕ). restOf (namedKind x) y) (before-seam space w s h) (after-seam space w s h)
 
-act-words : (k : ℕ) (w s : List ℕ) → Without space w → actOf k (w ++ (space ∷ s)) ≡ actBy k (fieldOf taskName w) (fieldOf onName s)
-unfolding actOf
-act-words k w s h = ap₂ (λ (x : List ℕ) (y : List ℕ). actBy k (fieldOf taskName x) (fieldOf onName y)) (before-seam space w s h) (after-seam space w s h)
+act-words : (k : ℕ) (w s : List ℕ) → Without space w → parseAct k (w ++ (space ∷ s)) ≡ actRecord k (fieldOf taskName w) (fieldOf onName s)
+unfolding parseAct
+act-words k w s h = ap₂ (λ (x : List ℕ) (y : List ℕ). actRecord k (fieldOf taskName x) (fieldOf onName y)) (before-seam space w s h) (after-seam space w s h)
 
 act-taken : (k t n : ℕ) → k < length words → (k ≡ lossMark → ⊥) → t < 10 ^ digits → n < 10 ^ digits
     → parseOf (textOf (record { kind = k; task = t; on = n })) ≡ Parsed.Record (record { kind = k; task = t; on = n })
@@ -209,17 +209,17 @@ act-taken k t n l h f g =
     ∙ ap (λ (j : ℕ). restOf j rest) (op-kind k l)
     ∙ rest-act k rest l h
     ∙ act-words k (taskName ++ decimal t) (onName ++ decimal n) (field-whole taskName t refl)
-    ∙ ap₂ (actBy k) (field-read taskName t f) (field-read onName n g)
+    ∙ ap₂ (actRecord k) (field-read taskName t f) (field-read onName n g)
 
 mark-taken : (n : ℕ) → n < 10 ^ digits
     → parseOf (textOf (record { kind = lossMark; task = 0; on = n })) ≡ Parsed.Record (record { kind = lossMark; task = 0; on = n })
-unfolding markOf
+unfolding parseMark
 mark-taken n h =
     let rest = tasksName ++ decimal n in
     ap parseOf (mark-text 0 n)
     ∙ parse-words (opName ++ wordOf lossMark) rest (op-whole lossMark (omega arith))
     ∙ ap (λ (j : ℕ). restOf j rest) (op-kind lossMark (omega arith))
-    ∙ ap markBy (field-read tasksName n h)
+    ∙ ap markRecord (field-read tasksName n h)
 
 pub text-taken : TextTaken
 text-taken r h = picked (eqb (r .kind) lossMark) refl

@@ -12,7 +12,7 @@ use Rattle.theory.specs.declared.record.Record.{Record}
 use Rattle.theory.specs.declared.state.State.{State}
 use Rattle.theory.specs.feeding.Meaning.{Meaning, refuses, meaning}
 use Rattle.theory.specs.feeding.Step.{freshState}
-use Rattle.theory.specs.feeding.Feeding.{replies, byClocks, rowFor, Handled, access-taken, other-taken}
+use Rattle.theory.specs.feeding.Feeding.{replies, byClocks, checkerRefusal, Handled, access-taken, other-taken}
 use Rattle.theory.specs.feeding.Feeding
 use Rattle.theory.proofs.feeding.Demanded.{clocks-demand1}
 use Rattle.text.specs.declared.parsed.Parsed.{Parsed}
@@ -97,7 +97,7 @@ text-demand1 text memory h = decided (tooSmall text (length memory)) refl
 -- No other report would do
 
 -- a record to which a row applies is refused with that row's number
-row-refuses : (s : State) (r : Record) {k : ℕ} → rowFor byClocks s r ≡ k → 1 ≤ k → (meaning (byClocks .answer s r) ≡ refuses k) × (byClocks .next s r ≡ s)
+row-refuses : (s : State) (r : Record) {k : ℕ} → checkerRefusal byClocks s r ≡ k → 1 ≤ k → (meaning (byClocks .answer s r) ≡ refuses k) × (byClocks .next s r ≡ s)
 row-refuses s r {k} z l = by-cases (clocks-demand1 s r)
   where
     by-cases : Handled byClocks s r → (meaning (byClocks .answer s r) ≡ refuses k) × (byClocks .next s r ≡ s)

@@ -11,7 +11,7 @@ use Rattle.theory.specs.declared.record.Record.{Record}
 use Rattle.theory.specs.declared.state.State.{State}
 use Rattle.theory.specs.order.Limits as Limits
 use Rattle.theory.specs.order.Recording.{Event}
-use Rattle.theory.specs.acceptance.Table.{refusal, recordedAfter}
+use Rattle.theory.specs.acceptance.Table.{refusal, appendUnless}
 use Rattle.theory.specs.verdicts.Verdict.{Race, Clear, Doubt}
 use Rattle.theory.specs.feeding.Meaning.{Meaning, refuses, takes, judges, meaning}
 use Rattle.theory.specs.feeding.Step.{freshState, freshControl}
@@ -198,7 +198,7 @@ as-races (line ∷ lines) n es s z x y none = by-parse (parseOf line) (λ es s z
     by-parse (Parsed.Record r) rest =
         let (e, x′) = clocks-simulate .steps es s r x in
         let (q, y′) = clocks-simulate .steps es z r y in
-        a-line (said r (e ∙ sym q)) (rest (recordedAfter es r (refusal es r)) (byClocks .next s r) (byClocks .next z r) x′ y′ (none-after z (Parsed.Record r) none))
+        a-line (said r (e ∙ sym q)) (rest (appendUnless es r (refusal es r)) (byClocks .next s r) (byClocks .next z r) x′ y′ (none-after z (Parsed.Record r) none))
       where
         said : (r : Record) → meaning (byClocks .answer s r) ≡ meaning (byClocks .answer z r) → AsRace (saidFor n s (Parsed.Record r)) (saidFor n z (Parsed.Record r))
         said r e =

@@ -14,7 +14,7 @@ use Rattle.text.specs.Reading.{LineStarts}
 use Rattle.text.specs.Wrote.{Wrote}
 use Rattle.text.specs.Stream.{linesAfter}
 use Rattle.text.specs.Report.{saidFor, stateAfter, records, reportFrom}
-use Rattle.text.specs.Pieces.{Kept, kept, keptOf, heldMost, saidIn, afterPiece, progressAfter}
+use Rattle.text.specs.Pieces.{Kept, kept, fromMemory, heldMost, saidIn, afterPiece, progressAfter}
 
 -- a line that says `parsed` was answered under its number, from the place `at` on; `to` is the next place
 pub record LineAnswered (out : Twice (List ℕ)) (at number : ℕ) (state : Twice State) (parsed : Parsed) (to : ℕ) : Type 0 where
@@ -58,7 +58,7 @@ pub record EndedAnswered (out : Twice (List ℕ)) (at : ℕ) (k : Kept) (piece :
 
 -- a piece was answered
 pub record PieceAnswered (out held : Twice (List ℕ)) (state : Twice State) (begun : Progress) (piece : List ℕ) (ended : Progress) : Type 0 where
-  pub progress : ended ≡ progressAfter (keptOf (state .entry) begun (held .entry)) (begun .at) piece
-  pub wrote : out .exit ≡ sets (out .entry) (begun .at) (saidIn (keptOf (state .entry) begun (held .entry)) piece)
-  pub fed : state .exit ≡ (afterPiece (keptOf (state .entry) begun (held .entry)) piece) .state
-  pub holds : held .exit ≡ sets (held .entry) 0 ((afterPiece (keptOf (state .entry) begun (held .entry)) piece) .held)
+  pub progress : ended ≡ progressAfter (fromMemory (state .entry) begun (held .entry)) (begun .at) piece
+  pub wrote : out .exit ≡ sets (out .entry) (begun .at) (saidIn (fromMemory (state .entry) begun (held .entry)) piece)
+  pub fed : state .exit ≡ (afterPiece (fromMemory (state .entry) begun (held .entry)) piece) .state
+  pub holds : held .exit ≡ sets (held .entry) 0 ((afterPiece (fromMemory (state .entry) begun (held .entry)) piece) .held)

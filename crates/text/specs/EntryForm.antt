@@ -10,7 +10,7 @@ use Rattle.text.specs.declared.entry.Entry.{Entry}
 use Rattle.text.specs.declared.entry.EntryLine.{EntryLine}
 use Rattle.text.specs.declared.number.Number.{Number}
 use Rattle.text.specs.Bytes.{upTo, after, isWord}
-use Rattle.text.specs.LineForm.{space, digitsFrom, fieldBy, fieldOf, longest}
+use Rattle.text.specs.LineForm.{space, readDigits, fieldBy, fieldOf, longest}
 use Rattle.text.specs.Printing.{bytes, decimal, recordDigits, fiveDigits}
 
 -- Words
@@ -44,7 +44,7 @@ markWord false = bytes "mark=open"
 
 -- the number that k digits say, leading zeros included
 unfoldable pub digitsIn : ℕ → List ℕ → Number
-digitsIn k s = cond (eqb (length s) k) (digitsFrom 0 s) Number.Nothing
+digitsIn k s = cond (eqb (length s) k) (readDigits 0 s) Number.Nothing
 
 -- the number of a field `rec=DDDDD`
 unfoldable pub recordOf : List ℕ → Number

@@ -27,13 +27,13 @@ unfoldable pub isPlain : List ℕ → Bool
 isPlain s = eqb (length s) 1 || (ltb 1 (length s) && (leb (length s) digits && not (eqb (getD s 0 0) 48)))
 
 -- the number that is read from digits after the number v; nothing where a byte is no digit
-unfoldable pub digitsFrom : ℕ → List ℕ → Number
-digitsFrom v [] = Number.Value v
-digitsFrom v (b ∷ s) = cond (isDigit b) (digitsFrom (v * 10 + (b - 48)) s) Number.Nothing
+unfoldable pub readDigits : ℕ → List ℕ → Number
+readDigits v [] = Number.Value v
+readDigits v (b ∷ s) = cond (isDigit b) (readDigits (v * 10 + (b - 48)) s) Number.Nothing
 
 -- the number that a text says
-unfoldable pub decimalOf : List ℕ → Number
-decimalOf s = cond (isPlain s) (digitsFrom 0 s) Number.Nothing
+unfoldable pub readDecimal : List ℕ → Number
+readDecimal s = cond (isPlain s) (readDigits 0 s) Number.Nothing
 
 -- Words
 
@@ -76,8 +76,8 @@ placeOf [] s = zero
 placeOf (w ∷ ws) s = cond (isWord w s) zero (suc (placeOf ws s))
 
 -- the kind that `op=W` names; the count of the words where it names none
-unfoldable pub kindOf : List ℕ → ℕ
-kindOf s = cond (startsWith opName s) (placeOf words (drop (length opName) s)) (length words)
+unfoldable pub namedKind : List ℕ → ℕ
+namedKind s = cond (startsWith opName s) (placeOf words (drop (length opName) s)) (length words)
 
 -- the number of a field, from what follows its name
 abbrev pub fieldBy : (List ℕ → Number) → List ℕ → List ℕ → Number
@@ -85,36 +85,36 @@ fieldBy read name s = cond (startsWith name s) (read (drop (length name) s)) Num
 
 -- the number of a field `name=N`
 unfoldable pub fieldOf : List ℕ → List ℕ → Number
-fieldOf name s = fieldBy decimalOf name s
+fieldOf name s = fieldBy readDecimal name s
 
 -- Lines
 
 -- the record of an act, from its kind and what its two fields say
-abbrev pub actBy : ℕ → Number → Number → Parsed
-actBy k (Number.Value t) (Number.Value n) = Parsed.Record (record { kind = k; task = t; on = n })
-actBy k (Number.Value t) Number.Nothing = Parsed.Nothing
-actBy k Number.Nothing n = Parsed.Nothing
+abbrev pub actRecord : ℕ → Number → Number → Parsed
+actRecord k (Number.Value t) (Number.Value n) = Parsed.Record (record { kind = k; task = t; on = n })
+actRecord k (Number.Value t) Number.Nothing = Parsed.Nothing
+actRecord k Number.Nothing n = Parsed.Nothing
 
 -- the record of a loss mark, from what its field says
-abbrev pub markBy : Number → Parsed
-markBy (Number.Value m) = Parsed.Record (record { kind = lossMark; task = 0; on = m })
-markBy Number.Nothing = Parsed.Nothing
+abbrev pub markRecord : Number → Parsed
+markRecord (Number.Value m) = Parsed.Record (record { kind = lossMark; task = 0; on = m })
+markRecord Number.Nothing = Parsed.Nothing
 
 -- what follows the op of an act: `task=T on=N`
-unfoldable pub actOf : ℕ → List ℕ → Parsed
-actOf k s = actBy k (fieldOf taskName (upTo space s)) (fieldOf onName (after space s))
+unfoldable pub parseAct : ℕ → List ℕ → Parsed
+parseAct k s = actRecord k (fieldOf taskName (upTo space s)) (fieldOf onName (after space s))
 
 -- what follows the op of a loss mark: `tasks=M`
-unfoldable pub markOf : List ℕ → Parsed
-markOf s = markBy (fieldOf tasksName s)
+unfoldable pub parseMark : List ℕ → Parsed
+parseMark s = markRecord (fieldOf tasksName s)
 
 -- what follows an op of kind k, if that is the kind of a word
 abbrev pub restOf : ℕ → List ℕ → Parsed
-restOf k s = cond (ltb k (length words)) (cond (eqb k lossMark) (markOf s) (actOf k s)) Parsed.Nothing
+restOf k s = cond (ltb k (length words)) (cond (eqb k lossMark) (parseMark s) (parseAct k s)) Parsed.Nothing
 
 -- the record that a line says, if it is of the text form
 unfoldable pub parseOf : List ℕ → Parsed
-parseOf s = restOf (kindOf (upTo space s)) (after space s)
+parseOf s = restOf (namedKind (upTo space s)) (after space s)
 
 -- The text of a record
 

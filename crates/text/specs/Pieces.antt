@@ -59,8 +59,8 @@ HeldOpen = (k : Kept) (piece : List ℕ) → lineEnd (k .held) ≡ length (k .he
 -- As memory
 
 -- what is kept, from the progress and the memory that holds the line that has begun
-abbrev pub keptOf : State → Progress → List ℕ → Kept
-keptOf = pendingIn
+abbrev pub fromMemory : State → Progress → List ℕ → Kept
+fromMemory = pendingIn
 
 -- the progress after a piece, the report having come to a place before it
 abbrev pub progressAfter : Kept → ℕ → List ℕ → Progress

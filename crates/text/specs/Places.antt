@@ -23,8 +23,8 @@ abbrev pub opening : List ℕ → List ℕ
 opening w = take 8 (opName ++ (w ++ (space ∷ taskName)))
 
 -- those of an act of kind k
-abbrev pub openingOf : ℕ → List ℕ
-openingOf k = opening (wordOf k)
+abbrev pub kindOpening : ℕ → List ℕ
+kindOpening k = opening (wordOf k)
 
 -- how many of them are the op's, which has six at least: those before the space
 abbrev pub opBytes : List ℕ → ℕ

@@ -16,9 +16,9 @@ abbrev pub lastDigit : ℕ → ℕ
 lastDigit n = n % 10 + 48
 
 -- the last k digits of n, leading zeros included
-unfoldable pub digitsOf : ℕ → ℕ → List ℕ
-digitsOf zero n = []
-digitsOf (suc k) n = lastDigit (n / 10 ^ k) ∷ digitsOf k n
+unfoldable pub lastDigits : ℕ → ℕ → List ℕ
+lastDigits zero n = []
+lastDigits (suc k) n = lastDigit (n / 10 ^ k) ∷ lastDigits k n
 
 -- how many digits n has without leading zeros, if at most `most`
 unfoldable pub widthIn : ℕ → ℕ → ℕ
@@ -31,11 +31,11 @@ width n = widthIn (suc n) n
 
 -- n in base ten, with no leading zeros
 unfoldable pub decimal : ℕ → List ℕ
-decimal n = digitsOf (width n) n
+decimal n = lastDigits (width n) n
 
 -- a record number: five digits, leading zeros included
 abbrev pub recordDigits : ℕ
 recordDigits = 5
 
 abbrev pub fiveDigits : ℕ → List ℕ
-fiveDigits n = digitsOf recordDigits n
+fiveDigits n = lastDigits recordDigits n

@@ -48,8 +48,8 @@ abbrev pub tooSmall : List ℕ → ℕ → Bool
 tooSmall text size = ltb (size / 64) (length (linesOf text))
 
 -- the count of bytes written, or 64 one-bits
-abbrev pub countOf : List ℕ → List ℕ → ℕ
-countOf text memory = cond (tooSmall text (length memory)) (2 ^ 64 - 1) (length (reportOf text))
+abbrev pub returnedCount : List ℕ → List ℕ → ℕ
+returnedCount text memory = cond (tooSmall text (length memory)) (2 ^ 64 - 1) (length (reportOf text))
 
 -- the memory after: untouched, or the report from its start on and the bytes after it as they were
 abbrev pub memoryOf : List ℕ → List ℕ → List ℕ

@@ -13,11 +13,11 @@ use Rattle.theory.specs.acceptance.Table.{lastRow}
 use Rattle.theory.specs.order.Recording.{accesses}
 use Rattle.theory.specs.feeding.Meaning.{takes, judges, meaning}
 use Rattle.theory.specs.feeding.Step.{freshState}
-use Rattle.theory.specs.feeding.Feeding.{byClocks, rowFor, numberFor, fed}
+use Rattle.theory.specs.feeding.Feeding.{byClocks, checkerRefusal, numberFor, fed}
 use Rattle.text.specs.Lines.{linesOf}
 use Rattle.text.specs.LineForm.{textOf, Sayable}
 use Rattle.text.specs.ReportLines.{wordFor, accessLine, refusedLine, reportLine}
-use Rattle.text.specs.Report.{reportOf, countOf, memoryOf}
+use Rattle.text.specs.Report.{reportOf, returnedCount, memoryOf}
 
 -- A line
 
@@ -31,13 +31,13 @@ pub data LineGot (n : ℕ) (s : State) (line : List ℕ) : State → List ℕ �
   -- "A line that yields no record is refused with 1"
   no-record : ((r : Record) → ¬ TextForm line r) → LineGot n s line s (refusedLine n 1)
   -- its record is refused with the number of the first row that applies, and the state stays
-  refused : {r : Record} {k : ℕ} → TextForm line r → rowFor byClocks s r ≡ k → 1 ≤ k → k ≤ lastRow → LineGot n s line s (refusedLine n k)
+  refused : {r : Record} {k : ℕ} → TextForm line r → checkerRefusal byClocks s r ≡ k → 1 ≤ k → k ≤ lastRow → LineGot n s line s (refusedLine n k)
   -- "One line for an accepted access", with its record number, its verdict and the partner
-  judged : {r : Record} {v : Verdict} {w : ℕ} → TextForm line r → rowFor byClocks s r ≡ 0 → accesses (r .kind) ≡ true →
+  judged : {r : Record} {v : Verdict} {w : ℕ} → TextForm line r → checkerRefusal byClocks s r ≡ 0 → accesses (r .kind) ≡ true →
       meaning (byClocks .answer s r) ≡ judges (numberFor byClocks s) v w →
       LineGot n s line (byClocks .next s r) (accessLine (numberFor byClocks s) (r .task) (r .on) (wordFor v) w)
   -- "none for other records"
-  taken : {r : Record} → TextForm line r → rowFor byClocks s r ≡ 0 → accesses (r .kind) ≡ false →
+  taken : {r : Record} → TextForm line r → checkerRefusal byClocks s r ≡ 0 → accesses (r .kind) ≡ false →
       meaning (byClocks .answer s r) ≡ takes (numberFor byClocks s) → LineGot n s line (byClocks .next s r) []
 
 -- A text
@@ -51,10 +51,10 @@ pub data LinesGot : ℕ → State → List (List ℕ) → List ℕ → Type 0 wh
 -- a text with report memory: the count that is returned, and the memory after
 pub data TextHandled (text memory : List ℕ) : Type 0 where
   -- row 11: "64 one-bits", "which leaves that memory untouched"
-  refused-whole : length memory < 64 * length (linesOf text) → countOf text memory ≡ 2 ^ 64 - 1 → memoryOf text memory ≡ memory → TextHandled text memory
+  refused-whole : length memory < 64 * length (linesOf text) → returnedCount text memory ≡ 2 ^ 64 - 1 → memoryOf text memory ≡ memory → TextHandled text memory
   -- the report from the memory's start on; "Bytes after the written ones stay"
   reported : 64 * length (linesOf text) ≤ length memory → LinesGot 1 freshState (linesOf text) (reportOf text) →
-      length (reportOf text) ≤ 64 * length (linesOf text) → countOf text memory ≡ length (reportOf text) →
+      length (reportOf text) ≤ 64 * length (linesOf text) → returnedCount text memory ≡ length (reportOf text) →
       memoryOf text memory ≡ reportOf text ++ drop (length (reportOf text)) memory → TextHandled text memory
 
 -- a text that a machine can hold has a length of 64 bits

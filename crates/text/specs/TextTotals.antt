@@ -12,9 +12,9 @@ use Rattle.text.specs.Pieces.{Kept, freshKept, saidIn, afterPiece, whole
 use Rattle.text.specs.TextDemands.{Tells}
 
 -- what is kept after pieces, and what the report has for them so far
-abbrev pub keptAfter : Kept → List (List ℕ) → Kept
-keptAfter k [] = k
-keptAfter k (p ∷ ps) = keptAfter (afterPiece k p) ps
+abbrev pub afterPieces : Kept → List (List ℕ) → Kept
+afterPieces k [] = k
+afterPieces k (p ∷ ps) = afterPieces (afterPiece k p) ps
 
 abbrev pub saidSoFar : Kept → List (List ℕ) → List ℕ
 saidSoFar k [] = []
@@ -32,4 +32,4 @@ TextTotals =
     (pieces : List (List ℕ)) →
     (rs : List Record)
     × Tells 1 (endedIn [] (wholeOf pieces)) rs (fed rs) (saidSoFar freshKept pieces)
-    × Totalled ((keptAfter freshKept pieces) .state .control) rs (map meaning (fed rs))
+    × Totalled ((afterPieces freshKept pieces) .state .control) rs (map meaning (fed rs))

@@ -4,7 +4,7 @@ use mathlib.Core.Bool.{Bool, not, _&&_}
 use mathlib.Core.List.{List}
 use lib.Dec.{eqb, ltb}
 use Rattle.text.specs.declared.number.Number.{Number}
-use Rattle.text.specs.LineForm.{decimalOf}
+use Rattle.text.specs.LineForm.{readDecimal}
 
 -- the number, and 0 where there is none
 abbrev pub numberOr0 : Number → ℕ
@@ -13,7 +13,7 @@ numberOr0 Number.Nothing = 0
 
 -- after so many accepted records each a table is asked for, as a decimal of the text form; 0 where the word asks for none
 abbrev pub everyOf : List ℕ → ℕ
-everyOf word = numberOr0 (decimalOf word)
+everyOf word = numberOr0 (readDecimal word)
 
 -- a table is due where the count of accepted records has grown, and come to a multiple of the number asked for
 abbrev pub due : ℕ → ℕ → ℕ → Bool

@@ -2,7 +2,7 @@
 ghost use Prim.Native.Nat.{_≤_};
 ghost use mathlib.Core.Path.{_≡_};
 ghost use lib.ListN.{length};
-ghost use Rattle.text.specs.LineForm.{digits, isDigit, digitsFrom};
+ghost use Rattle.text.specs.LineForm.{digits, isDigit, readDigits};
 ghost use Rattle.totals.specs.Argument.{numberOr0, everyOf};
 
 // Numbers have so many digits at most, as in the text of a recording.
@@ -17,7 +17,7 @@ fn is_digit(b: u8) -> bool
 // The number that the digits say; 0 where a byte is no digit.
 fn read_digits(word: &[u8]) -> u32
     requires { ⌜ length (now word) ≤ digits ⌝ }
-    ensures { λ r. ⌜ r ≡ numberOr0 (digitsFrom 0 (now (word .entry))) ⌝ }
+    ensures { λ r. ⌜ r ≡ numberOr0 (readDigits 0 (now (word .entry))) ⌝ }
 {
     let mut n: u32 = 0;
     let mut i = 0;

@@ -8,12 +8,12 @@ use Rattle.theory.specs.declared.answer.Answer.the-variants.{Refused}
 use Rattle.theory.specs.declared.state.SetState.{SetState}
 use Rattle.theory.specs.declared.state.State.{State}
 use Rattle.theory.specs.order.Limits.{tasks, records}
-use Rattle.theory.specs.order.Recording.{Op, start, join, kind, lossMark, seriesOf}
+use Rattle.theory.specs.order.Recording.{Op, start, join, kind, lossMark, kindSeries}
 use Rattle.theory.specs.acceptance.Table.{Proper, NamesTask}
 use Rattle.theory.specs.acceptance.Control.{countIn, controlStanding, controlRefusal}
 use Rattle.theory.specs.declared.masks.Masks.{Masks}
 use Rattle.theory.specs.tables.Reckonings.{masksBy}
-use Rattle.theory.specs.feeding.Step.{masksUnless, setStepBy, stepBy}
+use Rattle.theory.specs.feeding.Step.{masksUnless, setStepUnless, stepUnless}
 use Rattle.theory.proofs.acceptance.Rows.{allowed}
 
 -- an accepted record is proper, and there is room for it
@@ -30,16 +30,16 @@ accepts control r n e z =
 pub names-task : {k task on : ℕ} → Proper k task on → NamesTask k on
 names-task {k} {task} {on} p = record { started = λ q. of start refl (λ w. omega arith) q; joined = λ q. of join refl (λ w. omega arith) q }
   where
-    of : (o : Op) → seriesOf (kind o) ≡ tasks → (k ≡ lossMark → ⊥) → k ≡ kind o → on < tasks
-    of o e n q = subst (λ (i : ℕ). on < i) (ap seriesOf q ∙ e) (p .act-fits n .on-fits)
+    of : (o : Op) → kindSeries (kind o) ≡ tasks → (k ≡ lossMark → ⊥) → k ≡ kind o → on < tasks
+    of o e n q = subst (λ (i : ℕ). on < i) (ap kindSeries q ∙ e) (p .act-fits n .on-fits)
 
 -- a refused record leaves the state as it was
 
-pub set-refused : (n : ℕ) (s : SetState) (r : Record) → ¬ (n ≡ 0) → record { state = s; answer = Refused n } ≡ setStepBy n s r
+pub set-refused : (n : ℕ) (s : SetState) (r : Record) → ¬ (n ≡ 0) → record { state = s; answer = Refused n } ≡ setStepUnless n s r
 set-refused zero s r h = absurd (h refl)
 set-refused (suc n) s r h = refl
 
-pub refused : (n : ℕ) (s : State) (r : Record) → ¬ (n ≡ 0) → record { state = s; answer = Refused n } ≡ stepBy n s r
+pub refused : (n : ℕ) (s : State) (r : Record) → ¬ (n ≡ 0) → record { state = s; answer = Refused n } ≡ stepUnless n s r
 refused zero s r h = absurd (h refl)
 refused (suc n) s r h = refl
 

@@ -12,9 +12,9 @@ use borrow.Author.Tests.{le-leb}
 use Rattle.theory.specs.declared.record.Record.{Record}
 use Rattle.theory.specs.order.Limits.{tasks}
 use Rattle.theory.specs.tables.Turns.{turns}
-use Rattle.theory.specs.order.Recording.{Op, Event, act, lost, kind, kinds, lossMark, seriesOf}
+use Rattle.theory.specs.order.Recording.{Op, Event, act, lost, kind, kinds, lossMark, kindSeries}
 use Rattle.theory.specs.fillings.Completion.{names}
-use Rattle.theory.specs.acceptance.Table.{Phase, isLive, isUnseen, phaseAfter, phaseFrom, phase, Fitting, hasKind, anyBelow, Standing, _when_, firstRow, tableRow, standing, refusal}
+use Rattle.theory.specs.acceptance.Table.{Phase, isLive, isUnseen, nextPhase, laterPhase, phase, Fitting, hasKind, anyBelow, Standing, _when_, firstRow, standingRefusal, standing, refusal}
 use Rattle.theory.specs.acceptance.Control.{liveIn, unseenIn, countIn, controlStanding, controlRefusal, counted, controlAfter}
 use Rattle.theory.specs.totals.Totals.{controlCells}
 use Rattle.theory.specs.feeding.Step.{freshControl}
@@ -45,9 +45,9 @@ fresh-control = record { size = refl; count = refl; live = fresh-live; unseen = 
 
 -- One more event
 
-pub phase-snoc : (p : Phase) (es : List Event) (e : Event) (t : ℕ) → phaseFrom p (es ++ (e ∷ [])) t ≡ phaseAfter e t (phaseFrom p es t)
+pub phase-snoc : (p : Phase) (es : List Event) (e : Event) (t : ℕ) → laterPhase p (es ++ (e ∷ [])) t ≡ nextPhase e t (laterPhase p es t)
 phase-snoc p [] e t = refl
-phase-snoc p (d ∷ es) e t = phase-snoc (phaseAfter d t p) es e t
+phase-snoc p (d ∷ es) e t = phase-snoc (nextPhase d t p) es e t
 
 cond-same : (b : Bool) (p : Phase) → cond b p p ≡ p
 cond-same true p = refl
@@ -64,7 +64,7 @@ module _ {es : List Event} {control : List ℕ} (x : ExactControl es control) wh
 
   -- the event is counted in a table that holds the phases after it
   noted : (e : Event) (after : List ℕ) → length after ≡ length control → countIn after ≡ countIn control →
-      ((t : ℕ) → t < tasks → Holds after t (phaseAfter e t (phase es t))) → ExactControl (es ++ (e ∷ [])) (counted after)
+      ((t : ℕ) → t < tasks → Holds after t (nextPhase e t (phase es t))) → ExactControl (es ++ (e ∷ [])) (counted after)
   noted e after s c h =
       record {
         size = length-set after tasks (countIn after + 1) ∙ (s ∙ x .size);
@@ -80,12 +80,12 @@ module _ {es : List Event} {control : List ℕ} (x : ExactControl es control) wh
       other t l = getD-set-other after tasks t (countIn after + 1) 0 (λ q. omega arith)
 
   -- an event that changes no phase
-  same-phases : (e : Event) → ((t : ℕ) (p : Phase) → phaseAfter e t p ≡ p) → ExactControl (es ++ (e ∷ [])) (counted control)
+  same-phases : (e : Event) → ((t : ℕ) (p : Phase) → nextPhase e t p ≡ p) → ExactControl (es ++ (e ∷ [])) (counted control)
   same-phases e k = noted e control refl refl (λ t h. rw (k t (phase es t)) (held t h))
 
   -- an event after which task n is in phase q, which the table has as v
   new-phase : (e : Event) (n v : ℕ) (q : Phase) → n < tasks → eqb v 1 ≡ isLive q → eqb v 0 ≡ isUnseen q →
-      ((t : ℕ) (p : Phase) → phaseAfter e t p ≡ cond (eqb n t) q p) → ExactControl (es ++ (e ∷ [])) (counted (set control n v))
+      ((t : ℕ) (p : Phase) → nextPhase e t p ≡ cond (eqb n t) q p) → ExactControl (es ++ (e ∷ [])) (counted (set control n v))
   new-phase e n v q fits l u k =
       noted e (set control n v) (length-set control n v) (getD-set-other control n tasks v 0 (λ w. omega arith))
       (λ t h. rw (k t (phase es t)) (decided t h (equal n t)))
@@ -126,7 +126,7 @@ any-same (suc n) p q e = ap₂ _||_ (any-same n p q (λ k h. e k (omega arith)))
 module _ (s s′ : Standing) (r : Record) (same-count : s .count ≡ s′ .count) (same-live : (t : ℕ) → t < tasks → s .live t ≡ s′ .live t)
     (same-unseen : (t : ℕ) → t < tasks → s .unseen t ≡ s′ .unseen t) where
   -- a test of `on` counts only where `on` is a task
-  on-task : (o : Op) (p q : ℕ → Bool) → seriesOf (kind o) ≡ tasks → ((t : ℕ) → t < tasks → p t ≡ q t) → r .on < seriesOf (r .kind) →
+  on-task : (o : Op) (p q : ℕ → Bool) → kindSeries (kind o) ≡ tasks → ((t : ℕ) → t < tasks → p t ≡ q t) → r .on < kindSeries (r .kind) →
       (hasKind r o && not (p (r .on))) ≡ (hasKind r o && not (q (r .on)))
   on-task o p q e f h = decided (equal (r .kind) (kind o))
     where
@@ -136,14 +136,14 @@ module _ (s s′ : Standing) (r : Record) (same-count : s .count ≡ s′ .count
 
   -- rows 2 and 3 come before the tests of an act's numbers
   act-same : firstRow (actRows s r) ≡ firstRow (actRows s′ r)
-  act-same = decided (at-most tasks (r .task)) (at-most (seriesOf (r .kind)) (r .on))
+  act-same = decided (at-most tasks (r .task)) (at-most (kindSeries (r .kind)) (r .on))
     where
-      decided : {a b : Bool} → Reflects (tasks ≤ r .task) a → Reflects (seriesOf (r .kind) ≤ r .on) b →
+      decided : {a b : Bool} → Reflects (tasks ≤ r .task) a → Reflects (kindSeries (r .kind) ≤ r .on) b →
           firstRow ((2 when a) ∷ (3 when b) ∷ drop 2 (actRows s r)) ≡ firstRow ((2 when a) ∷ (3 when b) ∷ drop 2 (actRows s′ r))
       decided (right _) _ = refl
       decided (wrong f) (right _) = refl
       decided (wrong f) (wrong g) =
-          let h : r .on < seriesOf (r .kind) = omega arith in
+          let h : r .on < kindSeries (r .kind) = omega arith in
           rw (same-count, same-live (r .task) (omega arith), on-task Op.start (s .unseen) (s′ .unseen) refl same-unseen h, on-task Op.join (s .live) (s′ .live) refl same-live h)
 
   mark-same : firstRow (markRows s r) ≡ firstRow (markRows s′ r)
@@ -155,13 +155,13 @@ module _ (s s′ : Standing) (r : Record) (same-count : s .count ≡ s′ .count
       )
 
   -- standings that agree on the tasks refuse the same records
-  refusal-same : tableRow s r ≡ tableRow s′ r
+  refusal-same : standingRefusal s r ≡ standingRefusal s′ r
   refusal-same = decided (equal (r .kind) lossMark) (at-most (length kinds) (r .kind))
     where
-      unknown : (s : Standing) → length kinds ≤ r .kind → tableRow s r ≡ 1
-      unknown s h = unfold tableRow in rw (le-leb (length kinds) (r .kind) h)
+      unknown : (s : Standing) → length kinds ≤ r .kind → standingRefusal s r ≡ 1
+      unknown s h = unfold standingRefusal in rw (le-leb (length kinds) (r .kind) h)
 
-      decided : {a b : Bool} → Reflects (r .kind ≡ lossMark) a → Reflects (length kinds ≤ r .kind) b → tableRow s r ≡ tableRow s′ r
+      decided : {a b : Bool} → Reflects (r .kind ≡ lossMark) a → Reflects (length kinds ≤ r .kind) b → standingRefusal s r ≡ standingRefusal s′ r
       decided (right e) _ = mark-rows s r e ∙ (mark-same ∙ sym (mark-rows s′ r e))
       decided (wrong f) (right h) = unknown s h ∙ sym (unknown s′ h)
       decided (wrong f) (wrong g) =

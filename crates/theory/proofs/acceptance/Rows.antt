@@ -12,9 +12,9 @@ use borrow.Author.Tests.{le-leb, lt-leb, ltb-true, leb-true, leb-false, ne-eqb, 
 use Rattle.theory.specs.declared.record.Record.{Record}
 use Rattle.theory.specs.order.Limits.{tasks, records}
 use Rattle.theory.specs.tables.Turns.{turns}
-use Rattle.theory.specs.order.Recording.{start, join, kind, kinds, lossMark, seriesOf}
+use Rattle.theory.specs.order.Recording.{start, join, kind, kinds, lossMark, kindSeries}
 use Rattle.theory.specs.fillings.Completion.{bit, names}
-use Rattle.theory.specs.acceptance.Table.{hasKind, anyBelow, Standing, Row, _when_, rows, lastRow, firstRow, tableRow, Fitting}
+use Rattle.theory.specs.acceptance.Table.{hasKind, anyBelow, Standing, Row, _when_, rows, lastRow, firstRow, standingRefusal, Fitting}
 use Rattle.theory.proofs.basics.Reflects.{Reflects, right, wrong, equal}
 
 -- The series of the kinds
@@ -69,8 +69,8 @@ row-bound n (x ∷ xs) h = decided (x .applies) (row-bound n xs (rows-after n x 
     decided false l = l
 
 -- a refusal's number is that of a row
-pub refusal-bound : (s : Standing) (r : Record) → tableRow s r ≤ lastRow
-unfolding tableRow
+pub refusal-bound : (s : Standing) (r : Record) → standingRefusal s r ≤ lastRow
+unfolding standingRefusal
 refusal-bound s r = row-bound lastRow (rows s r) refl
 
 -- The rows of acts and of marks
@@ -85,7 +85,7 @@ module _ (s : Standing) (r : Record) where
   abbrev pub actRows : List Row
   actRows =
       (2 when leb tasks (r .task))
-      ∷ (3 when leb (seriesOf (r .kind)) (r .on))
+      ∷ (3 when leb (kindSeries (r .kind)) (r .on))
       ∷ (4 when false)
       ∷ (5 when leb records (s .count))
       ∷ (6 when not (s .live (r .task)))
@@ -105,12 +105,12 @@ module _ (s : Standing) (r : Record) where
       ∷ (9 when anyBelow tasks (λ t. names (r .on) t && not (s .live t)))
       ∷ []
 
-  pub act-rows : OfAct r → tableRow s r ≡ firstRow actRows
-  unfolding tableRow
+  pub act-rows : OfAct r → standingRefusal s r ≡ firstRow actRows
+  unfolding standingRefusal
   act-rows a = simp (lt-leb (length kinds) (r .kind) (a .known), ne-eqb (r .kind) lossMark (a .no-mark), or-false)
 
-  pub mark-rows : r .kind ≡ lossMark → tableRow s r ≡ firstRow markRows
-  unfolding tableRow
+  pub mark-rows : r .kind ≡ lossMark → standingRefusal s r ≡ firstRow markRows
+  unfolding standingRefusal
   mark-rows e = rw e
 
 -- What is known of a record that no row refuses
@@ -133,9 +133,9 @@ pub record Allowed (s : Standing) (r : Record) : Type 0 where
   pub act : r .kind ≢ lossMark → ActAllowed s (r .kind) (r .task) (r .on)
   pub mark : r .kind ≡ lossMark → MarkAllowed s (r .on)
 
-module _ (s : Standing) (r : Record) (e : tableRow s r ≡ 0) where
+module _ (s : Standing) (r : Record) (e : standingRefusal s r ≡ 0) where
   all-fail : Fail (rows s r)
-  unfolding tableRow
+  unfolding standingRefusal
   all-fail = none-applies lastRow (rows s r) refl e
 
   known : r .kind < length kinds
@@ -147,7 +147,7 @@ module _ (s : Standing) (r : Record) (e : tableRow s r ≡ 0) where
       by-rows : Fail (actRows s r) → ActAllowed s (r .kind) (r .task) (r .on)
       by-rows (t, (o, (_, (_, (a, (u, (j, (d, _)))))))) =
           record {
-            fits = record { task-fits = leb-false tasks (r .task) t; on-fits = leb-false (seriesOf (r .kind)) (r .on) o };
+            fits = record { task-fits = leb-false tasks (r .task) t; on-fits = leb-false (kindSeries (r .kind)) (r .on) o };
             live = not-false (s .live (r .task)) a;
             starts-unseen = λ q. not-false (s .unseen (r .on)) (rw q at u);
             joins-other = λ q. eqb-false (r .on) (r .task) (rw q at j);

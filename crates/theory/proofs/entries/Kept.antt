@@ -13,7 +13,7 @@ use Rattle.theory.specs.acceptance.Table.{Proper}
 use Rattle.theory.specs.acceptance.Control.{controlRefusal, controlAfter}
 use Rattle.theory.specs.verdicts.Verdict.{Verdict, Race, Clear, Doubt}
 use Rattle.theory.specs.feeding.Meaning.{Meaning, refuses, takes, judges, meaning}
-use Rattle.theory.specs.feeding.Step.{clockAnswer, stepBy, stepOf}
+use Rattle.theory.specs.feeding.Step.{clockAnswer, stepUnless, stepOf}
 use Rattle.theory.specs.totals.Totals.{racesAt, totalAt, entriesAt, withVerdict, totalled}
 use Rattle.theory.specs.entries.Table.{takenIn, pairedWith, excuseOf, excuseBy, excuse}
 use Rattle.theory.proofs.acceptance.Accepted.{accepts, names-task}
@@ -48,7 +48,7 @@ cell-kept s r i h = decided (controlRefusal (s .control) r) refl
         totals-kept (meaning (clockAnswer s r)) (r .on) i _ (of-access (p .act-fits no-mark) e .variable-fits) h
     counted p false e = rw e
 
-    decided : (n : ℕ) → controlRefusal (s .control) r ≡ n → getD ((stepBy n s r) .state .control) i 0 ≡ getD (s .control) i 0
+    decided : (n : ℕ) → controlRefusal (s .control) r ≡ n → getD ((stepUnless n s r) .state .control) i 0 ≡ getD (s .control) i 0
     decided zero e = let a = accepts (s .control) r zero (sym e) refl in counted (a .proper) (accesses (r .kind)) refl ∙ noted (a .proper)
     decided (suc n) e = refl
 

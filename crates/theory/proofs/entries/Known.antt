@@ -17,9 +17,9 @@ use Rattle.theory.specs.order.Path.{Conflict, conflict, Empties, empties
 use Rattle.theory.specs.fillings.Completion.{bit, full, filling, fillWith}
 use Rattle.theory.specs.history.History.{latestNumber}
 use Rattle.theory.specs.tables.Rows.{cell, actedRow}
-use Rattle.theory.specs.tables.Reckonings.{clockOwn, clocksBy, clockApart, maskOf, lowestTask}
-use Rattle.theory.specs.acceptance.Table.{refusal, recordedAfter, recording, standing}
-use Rattle.theory.specs.feeding.Step.{nextNumber, freshControl, freshState, stepBy, stepOf}
+use Rattle.theory.specs.tables.Reckonings.{clockOwn, nextClocks, clockApart, maskOf, lowestTask}
+use Rattle.theory.specs.acceptance.Table.{refusal, appendUnless, recording, standing}
+use Rattle.theory.specs.feeding.Step.{nextNumber, freshControl, freshState, stepUnless, stepOf}
 use Rattle.theory.specs.feeding.Feeding.{byClocks, afterAll}
 use Rattle.theory.specs.totals.Totals.{entriesAt}
 use Rattle.theory.specs.entries.Table.{pairedAt, takenIn, pairedWith, openTasks, excuseOf, excuseBy, excuse}
@@ -106,12 +106,12 @@ module _ {es : List Event} (b : List ℕ) {last last′ : List ℕ} (p : Op) {t 
       by zero e = none (latestNumber last′ (kind p) v u) refl e ∙ sym e
       by (suc i) e = final-number h′ isa hv hu n (final-old (act p t v) (stays n) (number-final h isa hv hu n e)) ∙ sym e
 
-  same-cell : (u : ℕ) → u < tasks → u ≢ t → cell tasks (clocksBy full (kind p) t v number b) t u ≡ cell tasks b t u
+  same-cell : (u : ℕ) → u < tasks → u ≢ t → cell tasks (nextClocks full (kind p) t v number b) t u ≡ cell tasks b t u
   same-cell u hu n =
       rw (no-mark p, ← access-onward same-max tasks true (kind p) t v (clockOwn t number b) (access-tests p isa) ht)
       (getD-set-other (set b (t * tasks + t) number) (actedRow * tasks + t) (t * tasks + u) 1 0 (λ e. omega arith) ∙ getD-set-other b (t * tasks + t) (t * tasks + u) number 0 (λ e. n (omega arith)))
 
-  pub same-apart : (u : ℕ) → u < tasks → u ≢ t → clockApart (clocksBy full (kind p) t v number b) last′ (kind p) t v u ≡ clockApart b last (kind p) t v u
+  pub same-apart : (u : ℕ) → u < tasks → u ≢ t → clockApart (nextClocks full (kind p) t v number b) last′ (kind p) t v u ≡ clockApart b last (kind p) t v u
   same-apart u hu n = rw (same-cell u hu n, same-number u hu n)
 
 -- The tasks that are open
@@ -167,12 +167,12 @@ module _ (fs : List Fault) (fit : AllFit fs) (some : 0 < length fs) (few : lengt
     represents-after : Represents (recording rs ++ (act o t v ∷ [])) after
     represents-after =
         subst (λ (x : Event). Represents (recording rs ++ (x ∷ [])) after) (event-act o t v)
-        (subst (λ (n : ℕ). Represents (recordedAfter (recording rs) r n) after) e (clocks-simulate .steps (recording rs) s r represents .1))
+        (subst (λ (n : ℕ). Represents (appendUnless (recording rs) r n) after) e (clocks-simulate .steps (recording rs) s r represents .1))
 
     -- the fullest clocks and the history after it
-    same-clocks : after .fullclocks ≡ clocksBy full (kind o) t v (nextNumber (s .control)) (s .fullclocks)
+    same-clocks : after .fullclocks ≡ nextClocks full (kind o) t v (nextNumber (s .control)) (s .fullclocks)
     unfolding stepOf
-    same-clocks = ap (λ (n : ℕ). (stepBy n s r) .state .fullclocks) (same-refusal (represents .base .control-exact) r ∙ e)
+    same-clocks = ap (λ (n : ℕ). (stepUnless n s r) .state .fullclocks) (same-refusal (represents .base .control-exact) r ∙ e)
 
     abbrev Paired : ℕ → Bool
     Paired = paired fs v t

@@ -16,7 +16,7 @@ use Rattle.theory.specs.fillings.Completion.{bit}
 use Rattle.theory.specs.acceptance.Table.{refusal, recording}
 use Rattle.theory.specs.tables.Reckonings.{maskOf, masksBy}
 use Rattle.theory.specs.feeding.Step.{freshState, freshSets}
-use Rattle.theory.specs.feeding.Paths.{Reckoning, clocks, sets, leftBy, Kept, FullestPath, KeptApart, ExactAt, acquiring, ExactPaths, ExactMasks, TellsPaths}
+use Rattle.theory.specs.feeding.Paths.{Reckoning, clocks, sets, leftBy, Retained, FullestPath, RetainedApart, ExactBetween, acquiring, ExactPaths, ExactMasks, TellsPaths}
 use Rattle.theory.proofs.basics.Reflects.{Reflects, right, wrong, by-test, is-true, fails, passed, passes}
 use Rattle.theory.proofs.order.Ops.{each-op, no-mark, opOf-kind, other-tests, on-series, access-on}
 use Rattle.theory.proofs.acceptance.ControlTable.{same-refusal}
@@ -97,18 +97,18 @@ module _ {S : Type 0} {x : Reckoning S} (exact : ExactPaths x) (rs : List Record
             (of-op FullestPath u (apart-where (x .number (leftBy x rs) (kind o) n u) (kept u hu) (λ z. exact rs .keeps-none (kind o) t n u z .1) (λ i k. said u i k .in-fullest)));
       }
     where
-      kept : (u : ℕ) → u < tasks → (i : ℕ) → (x .number (leftBy x rs) (kind o) n u ≡ suc i) ↔ Kept (recording rs) o n u i
+      kept : (u : ℕ) → u < tasks → (i : ℕ) → (x .number (leftBy x rs) (kind o) n u ≡ suc i) ↔ Retained (recording rs) o n u i
       kept u hu i = exact rs .keeps o n u i a hn hu
 
-      said : (u i : ℕ) → Kept (recording rs) o n u i →
-          ExactAt (recording rs ++ (eventOf (record { kind = kind o; task = t; on = n }) ∷ [])) i (length (recording rs)) (x .apart (leftBy x rs) (kind o) t n u) (x .apartInFull (leftBy x rs) (kind o) t n u)
+      said : (u i : ℕ) → Retained (recording rs) o n u i →
+          ExactBetween (recording rs ++ (eventOf (record { kind = kind o; task = t; on = n }) ∷ [])) i (length (recording rs)) (x .apart (leftBy x rs) (kind o) t n u) (x .apartInFull (leftBy x rs) (kind o) t n u)
       said u i k = exact rs .before (record { kind = kind o; task = t; on = n }) e (rw (no-mark o)) (rw (opOf-kind o) (access-alone o a)) o n u i k
 
       of-op : (Ordered : List Event → ℕ → ℕ → Type 0) (u : ℕ) {Q : Type 0} →
-          Q ↔ KeptApart Ordered (recording rs) (eventOf (record { kind = kind o; task = t; on = n })) o n u →
-          Q ↔ KeptApart Ordered (recording rs) (eventOf (record { kind = kind o; task = t; on = n })) (opOf (kind o)) n u
+          Q ↔ RetainedApart Ordered (recording rs) (eventOf (record { kind = kind o; task = t; on = n })) o n u →
+          Q ↔ RetainedApart Ordered (recording rs) (eventOf (record { kind = kind o; task = t; on = n })) (opOf (kind o)) n u
       of-op Ordered u {Q} z =
-          subst (λ (p : Op). Q ↔ KeptApart Ordered (recording rs) (eventOf (record { kind = kind o; task = t; on = n })) p n u) (sym (opOf-kind o)) z
+          subst (λ (p : Op). Q ↔ RetainedApart Ordered (recording rs) (eventOf (record { kind = kind o; task = t; on = n })) p n u) (sym (opOf-kind o)) z
 
 pub clocks-tell : TellsPaths clocks
 clocks-tell rs r e q = masks-exact clock-paths rs (access-shape (recording rs) r e q) e (clocks-tested rs r e q)

@@ -10,7 +10,7 @@ use lib.ListN.{length}
 use Rattle.theory.specs.declared.record.Record.{Record}
 use Rattle.theory.specs.declared.answer.Answer.{Answer}
 use Rattle.theory.specs.order.Recording.{Event, act, eventOf, Unmarked, accesses, isAccess}
-use Rattle.theory.specs.acceptance.Table.{lastRow, tableRow, refusal, recordedAfter, extended, recording}
+use Rattle.theory.specs.acceptance.Table.{lastRow, standingRefusal, refusal, appendUnless, extended, recording}
 use Rattle.theory.specs.verdicts.Verdict.{Verdict, Race, Clear, AccessAt, Unordered, With}
 use Rattle.theory.specs.verdicts.Demands.{Firm}
 use Rattle.theory.specs.verdicts.Search.{judge, isAccessEvent}
@@ -22,7 +22,7 @@ use Rattle.theory.specs.order.Path.{rule}
 use Rattle.theory.specs.fillings.Completion.{rounds, round, part, onEach}
 use Rattle.theory.specs.verdicts.Examples.{Example, table}
 use Rattle.theory.specs.feeding.Meaning.{Meaning, refuses, takes, judges, meaning, isRefusal, refusalNumber}
-use Rattle.theory.specs.feeding.Feeding.{recordOf, verdictsOf, takenIn, Got, got-now, got-later, got-refused, EachAccess, FedDemand2, FedDemand3, FedPartner, FedAcceptance, refusalsAfter, acceptedAnswer, answerBy, answersFrom, AnswersByTable, Checker, byClocks, bySets, runs, fed, setFed, Demanded, rowFor, numberFor, Judged, GetsVerdict, Demand1, Handled, refused, access-taken, other-taken}
+use Rattle.theory.specs.feeding.Feeding.{eventRecord, verdictsOf, takenIn, Got, got-now, got-later, got-refused, EachAccess, FedDemand2, FedDemand3, FedPartner, FedAcceptance, refusalsAfter, acceptedAnswer, answerUnless, answersFrom, AnswersByTable, Checker, byClocks, bySets, runs, fed, setFed, Demanded, checkerRefusal, numberFor, Judged, GetsVerdict, Demand1, Handled, refused, access-taken, other-taken}
 use Rattle.theory.proofs.basics.Reflects.{by-test, is-true}
 use Rattle.theory.proofs.order.Places.{Ends, ends, onward, at-ends}
 use Rattle.theory.proofs.verdicts.Demands.{Ruling, judge-ruling, ruling-firm, ruling-with, firm-unmarked}
@@ -45,13 +45,13 @@ accepted-number es e = chosen (λ a. refusalNumber a ≡ 0) (isAccessEvent e) re
 
 -- Acceptance
 
-number-to : (es : List Event) (r : Record) (n : ℕ) → refusalNumber (answerBy es r n) ≡ n
+number-to : (es : List Event) (r : Record) (n : ℕ) → refusalNumber (answerUnless es r n) ≡ n
 number-to es r zero = accepted-number es (eventOf r)
 number-to es r (suc n) = refl
 
 numbers-from : (es : List Event) (rs : List Record) → map refusalNumber (answersFrom es rs) ≡ refusalsAfter es rs
 numbers-from es [] = refl
-numbers-from es (r ∷ rs) = rw (number-to es r (refusal es r), numbers-from (recordedAfter es r (refusal es r)) rs)
+numbers-from es (r ∷ rs) = rw (number-to es r (refusal es r), numbers-from (appendUnless es r (refusal es r)) rs)
 
 accepted-from : (es : List Event) (rs : List Record) → es ++ takenIn rs (answersFrom es rs) ≡ extended es rs
 accepted-from es [] = append-nil es
@@ -59,7 +59,7 @@ accepted-from es (r ∷ rs) = decided (refusal es r) (accepted-from es rs) (acce
   where
     decided : (n : ℕ) → es ++ takenIn rs (answersFrom es rs) ≡ extended es rs →
         (es ++ (eventOf r ∷ [])) ++ takenIn rs (answersFrom (es ++ (eventOf r ∷ [])) rs) ≡ extended (es ++ (eventOf r ∷ [])) rs →
-        es ++ takenIn (r ∷ rs) (answerBy es r n ∷ answersFrom (recordedAfter es r n) rs) ≡ extended (recordedAfter es r n) rs
+        es ++ takenIn (r ∷ rs) (answerUnless es r n ∷ answersFrom (appendUnless es r n) rs) ≡ extended (appendUnless es r n) rs
     decided zero e q = rw (accepted-taken es (eventOf r)) (sym (append-assoc es (eventOf r ∷ []) (takenIn rs (answersFrom (es ++ (eventOf r ∷ [])) rs))) ∙ q)
     decided (suc n) e q = e
 
@@ -76,8 +76,8 @@ got-from es (r ∷ rs) {k} {before} {f} d =
         (k : ℕ) (before : List Event) (f : Event) → Ends (takenIn rs answers) k before f → Got answers k (acceptedAnswer (es ++ before) f)
 
     decided : (n : ℕ) → Gets es (answersFrom es rs) → Gets (es ++ (eventOf r ∷ [])) (answersFrom (es ++ (eventOf r ∷ [])) rs) →
-        Ends (takenIn (r ∷ rs) (answerBy es r n ∷ answersFrom (recordedAfter es r n) rs)) k before f →
-        Got (answerBy es r n ∷ answersFrom (recordedAfter es r n) rs) k (acceptedAnswer (es ++ before) f)
+        Ends (takenIn (r ∷ rs) (answerUnless es r n ∷ answersFrom (appendUnless es r n) rs)) k before f →
+        Got (answerUnless es r n ∷ answersFrom (appendUnless es r n) rs) k (acceptedAnswer (es ++ before) f)
     decided zero same more d = taken (rw (accepted-taken es (eventOf r)) at d)
       where
         taken : {k : ℕ} {before : List Event} {f : Event} → Ends (eventOf r ∷ takenIn rs (answersFrom (es ++ (eventOf r ∷ [])) rs)) k before f →
@@ -133,17 +133,17 @@ accepted-verdict : (last : List ℕ) (k on number : ℕ) (m : Masks) → accesse
 accepted-verdict last k on number m q = rw q (judged-by last k on number (m .full) (m .arrived))
 
 -- from what a checker does with a record that a row refuses, and with one that none does
-module _ {S : Type 0} (c : Checker S) (s : S) (r : Record) (refuse : (n : ℕ) → rowFor c s r ≡ suc n → (meaning (c .answer s r) ≡ refuses (suc n)) × (c .next s r ≡ s))
-    (judge : rowFor c s r ≡ 0 → accesses (r .kind) ≡ true → Judged (c .answer s r) (numberFor c s))
-    (take : rowFor c s r ≡ 0 → accesses (r .kind) ≡ false → meaning (c .answer s r) ≡ takes (numberFor c s)) where
+module _ {S : Type 0} (c : Checker S) (s : S) (r : Record) (refuse : (n : ℕ) → checkerRefusal c s r ≡ suc n → (meaning (c .answer s r) ≡ refuses (suc n)) × (c .next s r ≡ s))
+    (judge : checkerRefusal c s r ≡ 0 → accesses (r .kind) ≡ true → Judged (c .answer s r) (numberFor c s))
+    (take : checkerRefusal c s r ≡ 0 → accesses (r .kind) ≡ false → meaning (c .answer s r) ≡ takes (numberFor c s)) where
   handled : Handled c s r
-  handled = decided (rowFor c s r) (refusal-bound _ r) refl
+  handled = decided (checkerRefusal c s r) (refusal-bound _ r) refl
     where
-      taken : (b : Bool) → accesses (r .kind) ≡ b → rowFor c s r ≡ 0 → Handled c s r
+      taken : (b : Bool) → accesses (r .kind) ≡ b → checkerRefusal c s r ≡ 0 → Handled c s r
       taken true q e = access-taken e q (judge e q)
       taken false q e = other-taken e q (take e q)
 
-      decided : (n : ℕ) → rowFor c s r ≤ lastRow → rowFor c s r ≡ n → Handled c s r
+      decided : (n : ℕ) → checkerRefusal c s r ≤ lastRow → checkerRefusal c s r ≡ n → Handled c s r
       decided (suc n) h e = let (a, b) = refuse n e in refused (suc n) e (omega arith) (omega arith) a b
       decided zero h e = taken (accesses (r .kind)) refl e
 
@@ -174,13 +174,13 @@ gets-verdict {c = c} d s r a z = by-cases (d s r)
 -- K1 to K12 come out of feeding as they come out of the definitions
 
 same-rows : (answers : List Record → List Answer) → AnswersByTable answers → (xs : List Example) →
-    map (λ (x : Example). verdictsOf (map meaning (answers (map recordOf (x .events))))) xs ≡ map (λ (x : Example). verdictsOf (answersFrom [] (map recordOf (x .events)))) xs
+    map (λ (x : Example). verdictsOf (map meaning (answers (map eventRecord (x .events))))) xs ≡ map (λ (x : Example). verdictsOf (answersFrom [] (map eventRecord (x .events)))) xs
 same-rows answers right [] = refl
-same-rows answers right (x ∷ xs) = rw (right (map recordOf (x .events)), same-rows answers right xs)
+same-rows answers right (x ∷ xs) = rw (right (map eventRecord (x .events)), same-rows answers right xs)
 
 -- the table by computation, from the table of refusals and the search
-table-fed : map (λ (x : Example). verdictsOf (answersFrom [] (map recordOf (x .events)))) table ≡ map (λ (x : Example). x .answered) table
-unfolding turns tableRow judge rule rounds round part onEach
+table-fed : map (λ (x : Example). verdictsOf (answersFrom [] (map eventRecord (x .events)))) table ≡ map (λ (x : Example). x .answered) table
+unfolding turns standingRefusal judge rule rounds round part onEach
 table-fed = refl
 
 -- All of it, of whatever simulates

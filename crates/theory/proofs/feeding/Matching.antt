@@ -18,7 +18,7 @@ use Rattle.theory.specs.history.History.{lastAfter}
 use Rattle.theory.specs.tables.Reckonings.{masksBy, clockMasks, setMasks}
 use Rattle.theory.specs.feeding.Meaning.{meaning}
 use Rattle.theory.specs.totals.Totals.{totalled}
-use Rattle.theory.specs.feeding.Step.{nextNumber, answeredBy, masksUnless, apartByClocks, apartBySets, stepBy, stepOf, setStepBy, setStepOf, freshState, freshSets, clockAnswer, setAnswer}
+use Rattle.theory.specs.feeding.Step.{nextNumber, answeredBy, masksUnless, apartByClocks, apartBySets, stepUnless, stepOf, setStepUnless, setStepOf, freshState, freshSets, clockAnswer, setAnswer}
 use Rattle.theory.specs.feeding.Feeding.{Checker, replies, afterAll, byClocks, bySets}
 use Rattle.theory.specs.feeding.Paths.{clocks, sets, leftBy, ExactPaths, ReckoningsMatch}
 use Rattle.theory.proofs.order.Ops.{no-mark, opOf-kind}
@@ -100,7 +100,7 @@ beside-step s s′ r x m = rw (ap (λ (c : List ℕ). controlRefusal c r) (x .co
     decided : (n : ℕ) →
         masksUnless n (clockMasks (s .clocks) (s .fullclocks) (s .last) (r .kind) (r .task) (r .on))
         ≡ masksUnless n (setMasks (s′ .sets) (s′ .fullsets) (s′ .last) (r .kind) (r .task) (r .on)) →
-        ((stepBy n s r) .answer ≡ (setStepBy n s′ r) .answer) × Beside ((stepBy n s r) .state) ((setStepBy n s′ r) .state)
+        ((stepUnless n s r) .answer ≡ (setStepUnless n s′ r) .answer) × Beside ((stepUnless n s r) .state) ((setStepUnless n s′ r) .state)
     decided zero m =
         let a : clockAnswer s r ≡ setAnswer s′ r = λ i. answeredBy (x .last i) (r .kind) (r .on) (nextNumber (x .control i)) (m i) in (
           a,

@@ -17,10 +17,10 @@ use Rattle.theory.specs.order.Limits.{tasks, variables}
 use Rattle.theory.specs.order.Recording.{Op, fresh, Event, act, lost, Every, _is_, At, here, there, kind, opOf, eventOf, isAccess, acts}
 use Rattle.theory.specs.order.Path.{HappensBefore, rule, clashes}
 use Rattle.theory.specs.fillings.Completion.{Filling, arrived, full, filling, fillWith, fullest, rounds, nothing}
-use Rattle.theory.specs.acceptance.Table.{isAct, hasKind, refusal, recording, recordedAfter}
+use Rattle.theory.specs.acceptance.Table.{isAct, hasKind, refusal, recording, appendUnless}
 use Rattle.theory.specs.tables.Rows.{cell}
 use Rattle.theory.specs.history.History.{asker, askAt, latestSlot, latestNumber}
-use Rattle.theory.specs.feeding.Paths.{Reckoning, clocks, sets, leftBy, Kept, inFullest, ExactAt, SaysPaths, acquiring, ExactPaths}
+use Rattle.theory.specs.feeding.Paths.{Reckoning, clocks, sets, leftBy, Retained, inFullest, ExactBetween, SaysPaths, acquiring, ExactPaths}
 use Rattle.theory.proofs.basics.Reflects.{Reflects, right, wrong, by-test, equal, at-most, both, passed}
 use Rattle.theory.proofs.order.Leads.{Leads, leads-survives, leads-as-arrived, filled-with}
 use Rattle.theory.proofs.order.Tests.{none-every, every-none}
@@ -97,7 +97,7 @@ module _ (p : Op) {v u : ℕ} (a : T (isAccess p)) (hv : v < variables) (hu : u 
         h .held (latestSlot (kind p) v u) j (latest-below p hv hu) .1
         (record { j = j; e = act o u v; after = after; recent = le-refl j; occurs = q; inside = clash-slot o c; since = since-freed q f })
 
-    number-kept : {i : ℕ} → latestNumber last (kind p) v u ≡ suc i → Kept es p v u i
+    number-kept : {i : ℕ} → latestNumber last (kind p) v u ≡ suc i → Retained es p v u i
     number-kept {i} n =
         let d = h .held (latestSlot (kind p) v u) i (latest-below p hv hu) .0 (omega arith) in
         let (o, e, c) = slot-clash (d .inside) in
@@ -119,7 +119,7 @@ module _ (p : Op) {v u : ℕ} (a : T (isAccess p)) (hv : v < variables) (hu : u 
         decided j o y c g (right l) = l
         decided j o y c g (wrong m) = let l = below-number y c (λ k t z. (let r = g k t z in omega arith)) in absurd (omega arith)
 
-    kept-number : {i : ℕ} → Kept es p v u i → latestNumber last (kind p) v u ≡ suc i
+    kept-number : {i : ℕ} → Retained es p v u i → latestNumber last (kind p) v u ≡ suc i
     kept-number {i} k = decided (at-most (suc (suc i)) (latestNumber last (kind p) v u)) (below-number (k .at) (k .clash) (k .since))
       where
         decided : {b : Bool} → Reflects (suc i < latestNumber last (kind p) v u) b → i < latestNumber last (kind p) v u → latestNumber last (kind p) v u ≡ suc i
@@ -168,17 +168,17 @@ op-fresh (act o t n) = o is fresh
 op-fresh (lost mask) = false
 
 -- what stands after the kept access
-abbrev later : {es : List Event} {p : Op} {v u i : ℕ} → Kept es p v u i → List Event
+abbrev later : {es : List Event} {p : Op} {v u i : ℕ} → Retained es p v u i → List Event
 later k = at-occurs-after (k .at) .0
 
-stands-at : {es : List Event} {p : Op} {v u i : ℕ} (k : Kept es p v u i) → Occurs es i (act (k .op) u v) (later k)
+stands-at : {es : List Event} {p : Op} {v u i : ℕ} (k : Retained es p v u i) → Occurs es i (act (k .op) u v) (later k)
 stands-at k = at-occurs-after (k .at) .1
 
-asks : {es : List Event} {p : Op} {v u i : ℕ} → Kept es p v u i → T (isAccess p)
+asks : {es : List Event} {p : Op} {v u i : ℕ} → Retained es p v u i → T (isAccess p)
 asks {p = p} k = clash-asker (k .op) p (k .clash)
 
 module _ (w : Filling) {es : List Event} {last : List ℕ} (p q : Op) (t n : ℕ) {v u i : ℕ} (h : ExactHistory es last) (hv : v < variables) (hu : u < tasks)
-    (k : Kept es p v u i) where
+    (k : Retained es p v u i) where
   abbrev Path : Type 0
   Path = Leads (act (k .op) u v) (fillWith (filling w) (later k)) (act q t n)
 
@@ -293,15 +293,15 @@ sets-exactly {s = s} x =
     }
 
 -- the numbers of a kept access are in their ranges
-kept-ranged : {es : List Event} {p : Op} {v u i : ℕ} → Ranged es → Kept es p v u i → (u < tasks) × (v < variables)
+kept-ranged : {es : List Event} {p : Op} {v u i : ℕ} → Ranged es → Retained es p v u i → (u < tasks) × (v < variables)
 kept-ranged {p = p} r k =
     let (hu, hv) = r .in-range _ (k .op) _ _ _ (stands-at k) in
     (hu, access-on (k .op) (clash-access (k .op) p (k .clash)) hv)
 
 -- so it says paths of an act that comes next, before that is fed and after
 module _ {S : Type 0} {x : Reckoning S} {es : List Event} {s : S} (y : Exactly x es s) (q : Op) (t n : ℕ) (ht : t < tasks) where
-  paths-before : acquiring q ≡ false → (p : Op) (v u i : ℕ) → Kept es p v u i →
-      ExactAt (es ++ (act q t n ∷ [])) i (length es) (x .apart s (kind p) t v u) (x .apartInFull s (kind p) t v u)
+  paths-before : acquiring q ≡ false → (p : Op) (v u i : ℕ) → Retained es p v u i →
+      ExactBetween (es ++ (act q t n ∷ [])) i (length es) (x .apart s (kind p) t v u) (x .apartInFull s (kind p) t v u)
   paths-before f p v u i k =
       let (hu, hv) = kept-ranged (y .ranged) k in
       record {
@@ -309,8 +309,8 @@ module _ {S : Type 0} {x : Reckoning S} {es : List Event} {s : S} (y : Exactly x
         in-fullest = through (said-before full p q t n (y .history) hv hu k (y .in-full p t v u (asks k) ht hv hu) f) (path-fullest (stands-at k));
       }
 
-  paths-after : {s′ : S} → (q is fresh) ≡ false → Exactly x (es ++ (act q t n ∷ [])) s′ → (p : Op) (v u i : ℕ) → Kept es p v u i →
-      ExactAt (es ++ (act q t n ∷ [])) i (length es) (x .apart s′ (kind p) t v u) (x .apartInFull s′ (kind p) t v u)
+  paths-after : {s′ : S} → (q is fresh) ≡ false → Exactly x (es ++ (act q t n ∷ [])) s′ → (p : Op) (v u i : ℕ) → Retained es p v u i →
+      ExactBetween (es ++ (act q t n ∷ [])) i (length es) (x .apart s′ (kind p) t v u) (x .apartInFull s′ (kind p) t v u)
   paths-after f z p v u i k =
       let (hu, hv) = kept-ranged (y .ranged) k in
       record {
@@ -326,7 +326,7 @@ module _ {S : Type 0} {x : Reckoning S} {R : List Event → S → Type 0} (simul
 
   next-exactly : (rs : List Record) (r : Record) → refusal (recording rs) r ≡ 0 → Exactly x (recording rs ++ (eventOf r ∷ [])) (x .checker .next (leftBy x rs) r)
   next-exactly rs r e =
-      exactly _ _ (subst (λ (n : ℕ). R (recordedAfter (recording rs) r n) (x .checker .next (leftBy x rs) r)) e (simulates .steps (recording rs) (leftBy x rs) r (represents rs) .1))
+      exactly _ _ (subst (λ (n : ℕ). R (appendUnless (recording rs) r n) (x .checker .next (leftBy x rs) r)) e (simulates .steps (recording rs) (leftBy x rs) r (represents rs) .1))
 
   exact-paths : ExactPaths x
   exact-paths rs =

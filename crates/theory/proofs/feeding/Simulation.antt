@@ -14,20 +14,20 @@ use Rattle.theory.specs.declared.state.State.{State}
 use Rattle.theory.specs.declared.state.SetState.{SetState}
 use Rattle.theory.specs.order.Recording.{Op, Event, act, lost, kind, lossMark, eventOf, isAccess}
 use Rattle.theory.specs.fillings.Completion.{names, Named, arrived, full, Filling}
-use Rattle.theory.specs.acceptance.Table.{isLive, phase, Standing, standing, refusal, recordedAfter, extended}
+use Rattle.theory.specs.acceptance.Table.{isLive, phase, Standing, standing, refusal, appendUnless, extended}
 use Rattle.theory.specs.acceptance.Control.{controlAfter}
 use Rattle.theory.specs.history.History.{slots, lastAfter}
-use Rattle.theory.specs.tables.Reckonings.{clocksBy, setsBy, clockMask, setMask, clockMasks, setMasks}
+use Rattle.theory.specs.tables.Reckonings.{nextClocks, nextSets, clockMask, setMask, clockMasks, setMasks}
 use Rattle.theory.specs.feeding.Meaning.{Meaning, meaning}
 use Rattle.theory.specs.totals.Totals.{totalled}
-use Rattle.theory.specs.feeding.Step.{nextNumber, answeredBy, clockAnswer, setAnswer, stepOf, stepBy, setStepOf, setStepBy, freshControl, freshState, freshSets}
+use Rattle.theory.specs.feeding.Step.{nextNumber, answeredBy, clockAnswer, setAnswer, stepOf, stepUnless, setStepOf, setStepUnless, freshControl, freshState, freshSets}
 use Rattle.theory.specs.verdicts.Search.{partner}
-use Rattle.theory.specs.feeding.Feeding.{Checker, replies, afterAll, byClocks, bySets, acceptedAnswer, answerBy, answerTo, answersFrom}
+use Rattle.theory.specs.feeding.Feeding.{Checker, replies, afterAll, byClocks, bySets, acceptedAnswer, answerUnless, answerTo, answersFrom}
 use Rattle.theory.proofs.basics.Reflects.{Reflects, right, wrong, by-test, equal, is-true}
 use Rattle.theory.proofs.acceptance.Rows.{ActAllowed, MarkAllowed, Allowed, allowed}
 use Rattle.theory.proofs.order.Ops.{op-of, no-mark, event-act, on-series, access-on, access-tests, other-tests}
 use Rattle.theory.proofs.tables.NamedRows.{bit-named}
-use Rattle.theory.proofs.tables.Exact.{Filled-in, nobody, somebody}
+use Rattle.theory.proofs.tables.Exact.{ProperMask, nobody, somebody}
 use Rattle.theory.proofs.fillings.Reach.{arrived-nothing}
 use Rattle.theory.proofs.acceptance.ControlTable.{ExactControl, fresh-control, control-act, control-mark, same-refusal}
 use Rattle.theory.proofs.totals.Raised.{exact-totalled}
@@ -59,10 +59,10 @@ some-bit (suc k) n h l = decided (n % 2) refl (some-bit k (n / 2))
     decided (suc d) e below = (0, omega arith, omega arith)
 
 -- whose lost records of an accepted mark a filling fills in
-mark-filled : {w : Filling} → Restricts w → {s : Standing} {n : ℕ} → MarkAllowed s n → Filled-in (w n)
+mark-filled : {w : Filling} → Restricts w → {s : Standing} {n : ℕ} → MarkAllowed s n → ProperMask (w n)
 mark-filled {w} r {n = n} m = decided (equal (w n) 0)
   where
-    decided : {b : Bool} → Reflects (w n ≡ 0) b → Filled-in (w n)
+    decided : {b : Bool} → Reflects (w n ≡ 0) b → ProperMask (w n)
     decided (right e) = nobody e
     decided (wrong f) = let (t, l, d) = some-bit 16 (w n) f (r .bounded n (m .fits)) in somebody f (t, bit-named (w n) t l (subst T (sym (eq-eqb _ _ d)) tt))
 
@@ -124,7 +124,7 @@ base-next {control = control} b (a-mark t n m) =
     }
 
 clocks-next : {es : List Event} {control last clocks fullclocks : List ℕ} {r : Record} → Base es control last → Clocks es clocks fullclocks → Shape es r →
-    Clocks (Then es r) (clocksBy arrived (r .kind) (r .task) (r .on) (nextNumber control) clocks) (clocksBy full (r .kind) (r .task) (r .on) (nextNumber control) fullclocks)
+    Clocks (Then es r) (nextClocks arrived (r .kind) (r .task) (r .on) (nextNumber control) clocks) (nextClocks full (r .kind) (r .task) (r .on) (nextNumber control) fullclocks)
 clocks-next {es} {control} {last} {clocks} {fullclocks} b x (an-act o t n a) =
     rw (event-act o t n, no-mark o)
     (record {
@@ -135,7 +135,7 @@ clocks-next b x (a-mark t n m) =
     record { as-arrived = clocks-mark n (arrived-restricts .asked n) (mark-filled arrived-restricts m) (x .as-arrived); in-full = clocks-mark n (full-restricts .asked n) (mark-filled full-restricts m) (x .in-full) }
 
 sets-next : {es : List Event} {sets fullsets : List ℕ} {r : Record} → Seen es → Sets es sets fullsets → Shape es r →
-    Sets (Then es r) (setsBy arrived (r .kind) (r .task) (r .on) sets) (setsBy full (r .kind) (r .task) (r .on) fullsets)
+    Sets (Then es r) (nextSets arrived (r .kind) (r .task) (r .on) sets) (nextSets full (r .kind) (r .task) (r .on) fullsets)
 sets-next s x (an-act o t n a) =
     rw (event-act o t n, no-mark o)
     (record {
@@ -206,17 +206,17 @@ pub record RepresentsSets (es : List Event) (s : SetState) : Type 0 where
 -- represents the recording with the record, if that was accepted
 pub record Simulates {S : Type 0} (c : Checker S) (R : List Event → S → Type 0) : Type 0 where
   pub begins : R [] (c .fresh)
-  pub steps : (es : List Event) (s : S) (r : Record) → R es s → (meaning (c .answer s r) ≡ answerTo es r) × R (recordedAfter es r (refusal es r)) (c .next s r)
+  pub steps : (es : List Event) (s : S) (r : Record) → R es s → (meaning (c .answer s r) ≡ answerTo es r) × R (appendUnless es r (refusal es r)) (c .next s r)
 
 pub fed-to : {S : Type 0} {c : Checker S} {R : List Event → S → Type 0} → Simulates c R → (es : List Event) (s : S) (rs : List Record) → R es s → map meaning (replies c s rs) ≡ answersFrom es rs
 fed-to x es s [] h = refl
 fed-to {c = c} x es s (r ∷ rs) h =
     let (e, y) = x .steps es s r h in
-    rw (e, fed-to x (recordedAfter es r (refusal es r)) (c .next s r) rs y)
+    rw (e, fed-to x (appendUnless es r (refusal es r)) (c .next s r) rs y)
 
 pub after-all : {S : Type 0} {c : Checker S} {R : List Event → S → Type 0} → Simulates c R → (es : List Event) (s : S) (rs : List Record) → R es s → R (extended es rs) (afterAll c s rs)
 after-all x es s [] h = h
-after-all {c = c} x es s (r ∷ rs) h = after-all x (recordedAfter es r (refusal es r)) (c .next s r) rs (x .steps es s r h .1)
+after-all {c = c} x es s (r ∷ rs) h = after-all x (appendUnless es r (refusal es r)) (c .next s r) rs (x .steps es s r h .1)
 
 -- Clocks and sets are such
 
@@ -227,10 +227,10 @@ pub clocks-simulate : Simulates byClocks Represents
 unfolding stepOf freshState
 clocks-simulate = record { begins = record { base = fresh-base; clocks = record { as-arrived = fresh-clocks; in-full = fresh-clocks } }; steps = steps }
   where
-    steps : (es : List Event) (s : State) (r : Record) → Represents es s → (meaning (byClocks .answer s r) ≡ answerTo es r) × Represents (recordedAfter es r (refusal es r)) (byClocks .next s r)
+    steps : (es : List Event) (s : State) (r : Record) → Represents es s → (meaning (byClocks .answer s r) ≡ answerTo es r) × Represents (appendUnless es r (refusal es r)) (byClocks .next s r)
     steps es s r x = rw (same-refusal (x .base .control-exact) r) (decided (refusal es r) refl)
       where
-        decided : (n : ℕ) → refusal es r ≡ n → (meaning ((stepBy n s r) .answer) ≡ answerBy es r n) × Represents (recordedAfter es r n) ((stepBy n s r) .state)
+        decided : (n : ℕ) → refusal es r ≡ n → (meaning ((stepUnless n s r) .answer) ≡ answerUnless es r n) × Represents (appendUnless es r n) ((stepUnless n s r) .state)
         decided zero e =
             let h = shape-of es r e in
             (clock-answer (x .base) (x .clocks) h, record { base = base-totalled (meaning (clockAnswer s r)) (r .on) (base-next (x .base) h); clocks = clocks-next (x .base) (x .clocks) h })
@@ -240,10 +240,10 @@ pub sets-simulate : Simulates bySets RepresentsSets
 unfolding setStepOf freshSets
 sets-simulate = record { begins = record { base = fresh-base; sets = record { as-arrived = fresh-sets; in-full = fresh-sets } }; steps = steps }
   where
-    steps : (es : List Event) (s : SetState) (r : Record) → RepresentsSets es s → (meaning (bySets .answer s r) ≡ answerTo es r) × RepresentsSets (recordedAfter es r (refusal es r)) (bySets .next s r)
+    steps : (es : List Event) (s : SetState) (r : Record) → RepresentsSets es s → (meaning (bySets .answer s r) ≡ answerTo es r) × RepresentsSets (appendUnless es r (refusal es r)) (bySets .next s r)
     steps es s r x = rw (same-refusal (x .base .control-exact) r) (decided (refusal es r) refl)
       where
-        decided : (n : ℕ) → refusal es r ≡ n → (meaning ((setStepBy n s r) .answer) ≡ answerBy es r n) × RepresentsSets (recordedAfter es r n) ((setStepBy n s r) .state)
+        decided : (n : ℕ) → refusal es r ≡ n → (meaning ((setStepUnless n s r) .answer) ≡ answerUnless es r n) × RepresentsSets (appendUnless es r n) ((setStepUnless n s r) .state)
         decided zero e =
             let h = shape-of es r e in
             (set-answer (x .base) (x .sets) h, record { base = base-totalled (meaning (setAnswer s r)) (r .on) (base-next (x .base) h); sets = sets-next (x .base .seen) (x .sets) h })

@@ -12,11 +12,11 @@ use Rattle.theory.specs.declared.state.Stepped.{Stepped}
 use Rattle.theory.specs.declared.state.SetState.{SetState}
 use Rattle.theory.specs.declared.state.SetStepped.{SetStepped}
 use Rattle.theory.specs.order.Recording.{kinds, lossMark}
-use Rattle.theory.specs.acceptance.Table.{Standing, tableRow}
+use Rattle.theory.specs.acceptance.Table.{Standing, standingRefusal}
 use Rattle.theory.specs.acceptance.Control.{controlStanding, controlRefusal}
 use Rattle.theory.specs.tables.Turns.{turns}
 use Rattle.theory.specs.history.History.{underEach}
-use Rattle.theory.specs.feeding.Step.{recordOf, stepBy, stepOf, setStepBy, setStepOf}
+use Rattle.theory.specs.feeding.Step.{recordOf, stepUnless, stepOf, setStepUnless, setStepOf}
 use Rattle.theory.specs.feeding.Feeding.{byClocks, bySets, SameUse, Overlooks}
 use Rattle.theory.proofs.basics.Reflects.{Reflects, right, wrong, equal, at-most}
 use Rattle.theory.proofs.acceptance.Rows.{mark-rows}
@@ -43,11 +43,11 @@ alike {r} {r′} x = decided (at-most (suc (r .kind)) (length kinds))
 
 -- The refusal
 
-unknown-refused : (s : Standing) (r : Record) → length kinds ≤ r .kind → tableRow s r ≡ 1
-unfolding tableRow
+unknown-refused : (s : Standing) (r : Record) → length kinds ≤ r .kind → standingRefusal s r ≡ 1
+unfolding standingRefusal
 unknown-refused s r h = rw (le-leb (length kinds) (r .kind) h)
 
-mark-refused : (s : Standing) (t u mask : ℕ) → tableRow s (recordOf lossMark t mask) ≡ tableRow s (recordOf lossMark u mask)
+mark-refused : (s : Standing) (t u mask : ℕ) → standingRefusal s (recordOf lossMark t mask) ≡ standingRefusal s (recordOf lossMark u mask)
 mark-refused s t u mask = mark-rows s (recordOf lossMark t mask) refl ∙ sym (mark-rows s (recordOf lossMark u mask) refl)
 
 -- The steps
@@ -68,11 +68,11 @@ module _ {S X : Type 0} (control : S → List ℕ) (by : ℕ → S → Record �
 pub clocks-overlook : Overlooks byClocks
 unfolding stepOf underEach turns
 clocks-overlook s r r′ x =
-    let e = step-alike (λ (y : State). y .control) stepBy (λ n y a b. refl) (λ y t u mask. refl) s (alike x) in
+    let e = step-alike (λ (y : State). y .control) stepUnless (λ n y a b. refl) (λ y t u mask. refl) s (alike x) in
     (ap (λ (y : Stepped). y .answer) e, ap (λ (y : Stepped). y .state) e)
 
 pub sets-overlook : Overlooks bySets
 unfolding setStepOf underEach turns
 sets-overlook s r r′ x =
-    let e = step-alike (λ (y : SetState). y .control) setStepBy (λ n y a b. refl) (λ y t u mask. refl) s (alike x) in
+    let e = step-alike (λ (y : SetState). y .control) setStepUnless (λ n y a b. refl) (λ y t u mask. refl) s (alike x) in
     (ap (λ (y : SetStepped). y .answer) e, ap (λ (y : SetStepped). y .state) e)

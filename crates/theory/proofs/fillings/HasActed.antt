@@ -10,7 +10,7 @@ use lib.Dec.{T, eqb}
 use Rattle.theory.specs.order.Recording.{Op, start, Effect, keeps, begins, ends, about, kind, Event, act, lost}
 use Rattle.theory.specs.order.Limits.{tasks}
 use Rattle.theory.specs.fillings.Completion.{Named, Filling, arrived, full, fills}
-use Rattle.theory.specs.acceptance.Table.{Phase, isLive, isUnseen, phaseBy, phaseAfter, phase}
+use Rattle.theory.specs.acceptance.Table.{Phase, isLive, isUnseen, applyEffect, nextPhase, phase}
 use Rattle.theory.proofs.acceptance.ControlTable.{phase-snoc}
 use Rattle.theory.proofs.order.Carry.{Node, due, acted, Releases, own, own-next, own-acted, by-start}
 use Rattle.theory.proofs.fillings.Reach.{acquired-some, nobody-named, acquired-due, released-due, released-acted}
@@ -155,15 +155,15 @@ live-seen Phase.live e = refl
 live-seen Phase.ended e = refl
 
 -- no event makes a task unseen
-still-seen : (e : Event) (u : ℕ) (p : Phase) → isUnseen p ≡ false → isUnseen (phaseAfter e u p) ≡ false
+still-seen : (e : Event) (u : ℕ) (p : Phase) → isUnseen p ≡ false → isUnseen (nextPhase e u p) ≡ false
 still-seen (act o t n) u p h = of (eqb n u)
   where
-    by : (e : Effect) → isUnseen (phaseBy e p) ≡ false
+    by : (e : Effect) → isUnseen (applyEffect e p) ≡ false
     by keeps = h
     by begins = refl
     by ends = refl
 
-    of : (b : Bool) → isUnseen (cond b (phaseBy ((about o) .effect) p) p) ≡ false
+    of : (b : Bool) → isUnseen (cond b (applyEffect ((about o) .effect) p) p) ≡ false
     of true = by ((about o) .effect)
     of false = h
 still-seen (lost mask) u p h = h

@@ -7,7 +7,7 @@ use lib.Dec.{eqb}
 use lib.ListN.{length, set}
 use Rattle.theory.specs.order.Limits.{tasks, variables}
 use Rattle.theory.specs.tables.Turns.{turns}
-use Rattle.theory.specs.order.Recording.{fresh, kind, kindAt, accesses, seriesOf}
+use Rattle.theory.specs.order.Recording.{fresh, kind, numberedKind, accesses, kindSeries}
 use Rattle.theory.specs.acceptance.Table.{Fitting}
 use Rattle.theory.specs.history.History.{askers, asker, kindClashes, slot, underEach, emptied, withAccess, lastAfter}
 use Rattle.theory.proofs.basics.Reflects.{Reflects, right, wrong, equal}
@@ -26,13 +26,13 @@ of-access f e = record { is-access = e; task-fits = f .task-fits; variable-fits 
 
 -- a fresh names one too
 pub fresh-fits : {k t n : ℕ} → Fitting k t n → k ≡ kind fresh → n < variables
-fresh-fits {n = n} f e = subst (λ (j : ℕ). n < seriesOf j) e (f .on-fits)
+fresh-fits {n = n} f e = subst (λ (j : ℕ). n < kindSeries j) e (f .on-fits)
 
 pub kept-nowhere : {A : Type 0} (f : ℕ → A → A) (k v u : ℕ) (b : A) → accesses k ≡ false → underEach f k v u b ≡ b
 unfolding underEach turns
 kept-nowhere f k v u b e = none (length askers)
   where
-    none : (n : ℕ) → turns n (λ a b. cond (kindClashes (kindAt k) (asker a)) (f (slot a v u) b) b) b ≡ b
+    none : (n : ℕ) → turns n (λ a b. cond (kindClashes (numberedKind k) (asker a)) (f (slot a v u) b) b) b ≡ b
     none zero = refl
     none (suc n) = rw (sym (no-clash k (asker n) e)) (none n)
 

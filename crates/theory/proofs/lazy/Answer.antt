@@ -12,15 +12,15 @@ use lib.ListN.{length, length-append, getD, take}
 use Rattle.theory.specs.declared.record.Record.{Record}
 use Rattle.theory.specs.declared.masks.Masks.{Masks}
 use Rattle.theory.specs.order.Limits.{tasks, variables}
-use Rattle.theory.specs.order.Recording.{Op, read, Event, act, ActsIn, acts, kind, kinds, lossMark, eventOf, isAccess, accessBy, accesses}
+use Rattle.theory.specs.order.Recording.{Op, read, Event, act, ActsIn, acts, kind, kinds, lossMark, eventOf, isAccess, kindAccesses, accesses}
 use Rattle.theory.specs.order.Path.{HappensBefore, Conflict, conflict}
 use Rattle.theory.specs.fillings.Completion.{bit}
-use Rattle.theory.specs.acceptance.Table.{refusal, recordedAfter, extended, recording}
+use Rattle.theory.specs.acceptance.Table.{refusal, appendUnless, extended, recording}
 use Rattle.theory.specs.acceptance.Control.{controlRefusal}
 use Rattle.theory.specs.verdicts.Verdict.{Latest}
 use Rattle.theory.specs.feeding.Step.{freshControl, freshSets}
 use Rattle.theory.specs.feeding.Feeding.{refusalsAfter}
-use Rattle.theory.specs.feeding.Paths.{sets, leftBy, Kept, KeptApart}
+use Rattle.theory.specs.feeding.Paths.{sets, leftBy, Retained, RetainedApart}
 use Rattle.theory.specs.lazy.Walk.{Walks, Counted, WalkOf, no-pair, no-walk, walk, Between, pair}
 use Rattle.theory.specs.lazy.Fold.{Lazy, wordAt, byEnd, column, pairsOf, walkBy, told, question, answeredAt, lazyEnd, Run, followed, freshLazy, lazily}
 use Rattle.theory.specs.lazy.Answer.{firstRefused, fedRefusal, Told, AnswersLazily}
@@ -116,7 +116,7 @@ module _ (p : Op) (t v : ℕ) (isa : T (isAccess p)) (ht : t < tasks) (es : List
 
 module _ (rs : List Record) (p : Op) (t v : ℕ) (isa : T (isAccess p)) (hv : v < variables) where
   -- what the sets keep for the access is the task's pair with it
-  kept-final : {u i : ℕ} → u < tasks → u ≢ t → Kept (recording rs) p v u i ↔ Final u (act p t v) (recording rs) i
+  kept-final : {u i : ℕ} → u < tasks → u ≢ t → Retained (recording rs) p v u i ↔ Final u (act p t v) (recording rs) i
   kept-final {u} {i} hu n = (
     λ k. number-final (history .base .history) isa hv hu n (set-paths rs .keeps p v u i isa hv hu .1 k),
     λ a. set-paths rs .keeps p v u i isa hv hu .0 (final-number (history .base .history) isa hv hu n a),
@@ -135,7 +135,7 @@ module _ (rs : List Record) (p : Op) (t v : ℕ) (isa : T (isAccess p)) (hv : v 
   -- where a path leads from the pair the sets do not say that it is apart, and where none does they do
   eager-told : (eager u : ℕ) → u < tasks → {i : ℕ} → Final u (act p t v) (recording rs) i → {own : Bool} →
       T own ↔ HappensBefore (recording rs ++ (act p t v ∷ [])) i (length (recording rs)) →
-      T (bit eager u) ↔ KeptApart HappensBefore (recording rs) (act p t v) p v u → own ≡ not (bit eager u)
+      T (bit eager u) ↔ RetainedApart HappensBefore (recording rs) (act p t v) p v u → own ≡ not (bit eager u)
   eager-told eager u hu {i} a {own} path apart = decided (by-test own) (by-test (bit eager u))
     where
       decided : {b c : Bool} → Reflects (T own) b → Reflects (T (bit eager u)) c → b ≡ not c
@@ -150,7 +150,7 @@ module _ (rs : List Record) (p : Op) (t v : ℕ) (isa : T (isAccess p)) (hv : v 
 
 told-of : (rs : List Record) (p : Op) (t v : ℕ) (isa : T (isAccess p)) (ht : t < tasks) (hv : v < variables) (s : Lazy) (eager : Masks) →
     Lazily p t v isa ht (recording rs) s →
-    ((u : ℕ) → u < tasks → T (bit (eager .arrived) u) ↔ KeptApart HappensBefore (recording rs) (act p t v) p v u) →
+    ((u : ℕ) → u < tasks → T (bit (eager .arrived) u) ↔ RetainedApart HappensBefore (recording rs) (act p t v) p v u) →
     Told (recording rs ++ (act p t v ∷ [])) t v (length (recording rs)) eager (told (asked-for p t v isa ht) s)
 told-of rs p t v isa ht hv s eager y apart =
     record {
@@ -188,7 +188,7 @@ access-of : (k : ℕ) → accesses k ≡ true → (o : Op) × (k ≡ kind o) × 
 access-of k e = decided (at-most (length kinds) k) (equal k lossMark)
   where
     decided : {a b : Bool} → Reflects (length kinds ≤ k) a → Reflects (k ≡ lossMark) b → (o : Op) × (k ≡ kind o) × T (isAccess o)
-    decided (right h) m = absurd (true≢false (sym e ∙ ap accessBy (kind-above k h)))
+    decided (right h) m = absurd (true≢false (sym e ∙ ap kindAccesses (kind-above k h)))
     decided (wrong h) (right m) = absurd (true≢false (sym e ∙ ap accesses m))
     decided (wrong h) (wrong m) = let (o, q) = op-of k (omega arith) m in (o, q, access-op o (sym (ap accesses q) ∙ e))
 
@@ -238,11 +238,11 @@ with-last (r ∷ rs) es q = of (refusal es r) (λ es. with-last rs es q)
   where
     of : (n : ℕ) →
         ((es : List Event) → firstRefused (refusalsAfter es (rs ++ (q ∷ []))) ≡ orElse (firstRefused (refusalsAfter es rs)) (refusal (extended es rs) q)) →
-        firstRefused (n ∷ refusalsAfter (recordedAfter es r n) (rs ++ (q ∷ [])))
-        ≡ orElse (firstRefused (n ∷ refusalsAfter (recordedAfter es r n) rs)) (refusal (extended (recordedAfter es r n) rs) q)
-    of zero rest = rest (recordedAfter es r zero)
+        firstRefused (n ∷ refusalsAfter (appendUnless es r n) (rs ++ (q ∷ [])))
+        ≡ orElse (firstRefused (n ∷ refusalsAfter (appendUnless es r n) rs)) (refusal (extended (appendUnless es r n) rs) q)
+    of zero rest = rest (appendUnless es r zero)
     of (suc n) rest =
-        rw (first-after (suc n) (refusalsAfter (recordedAfter es r (suc n)) (rs ++ (q ∷ []))) (λ e. omega arith), first-after (suc n) (refusalsAfter (recordedAfter es r (suc n)) rs) (λ e. omega arith))
+        rw (first-after (suc n) (refusalsAfter (appendUnless es r (suc n)) (rs ++ (q ∷ []))) (λ e. omega arith), first-after (suc n) (refusalsAfter (appendUnless es r (suc n)) rs) (λ e. omega arith))
 
 -- what is answered for it is asked of its last record
 lazily-last : (rs : List Record) (q : Record) → lazily (rs ++ (q ∷ [])) ≡ lazyEnd rs q
@@ -344,10 +344,10 @@ access-told rs (an-act o t n a) e h z = rw (event-act o t n) (told-of rs o t n i
     x-refused : (run rs r) .refused ≡ 0 → (run rs r) .refused ≡ 0
     x-refused z = z
 
-    apart : (u : ℕ) → u < tasks → T (bit ((sets .masks (leftBy sets rs) r) .arrived) u) ↔ KeptApart HappensBefore (recording rs) (act o t n) o n u
+    apart : (u : ℕ) → u < tasks → T (bit ((sets .masks (leftBy sets rs) r) .arrived) u) ↔ RetainedApart HappensBefore (recording rs) (act o t n) o n u
     apart u hu =
-        subst (λ (f : Event). T (bit ((sets .masks (leftBy sets rs) r) .arrived) u) ↔ KeptApart HappensBefore (recording rs) f o n u) (event-act o t n)
-        (subst (λ (p : Op). T (bit ((sets .masks (leftBy sets rs) r) .arrived) u) ↔ KeptApart HappensBefore (recording rs) (eventOf r) p n u) (opOf-kind o)
+        subst (λ (f : Event). T (bit ((sets .masks (leftBy sets rs) r) .arrived) u) ↔ RetainedApart HappensBefore (recording rs) f o n u) (event-act o t n)
+        (subst (λ (p : Op). T (bit ((sets .masks (leftBy sets rs) r) .arrived) u) ↔ RetainedApart HappensBefore (recording rs) (eventOf r) p n u) (opOf-kind o)
         (sets-tell rs r h e .as-arrived u hu))
 
 pub answers-lazily : AnswersLazily lazily

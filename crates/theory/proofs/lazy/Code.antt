@@ -15,9 +15,9 @@ use Rattle.theory.specs.declared.record.Record.{Record}
 use Rattle.theory.specs.declared.walk.Pairs.{Pairs}
 use Rattle.theory.specs.tables.Turns.{turns}
 use Rattle.theory.specs.order.Limits.{tasks}
-use Rattle.theory.specs.order.Recording.{Op, read, write, join, fresh, kind, kinds, kindAt, accessBy, accesses, lossMark}
+use Rattle.theory.specs.order.Recording.{Op, read, write, join, fresh, kind, kinds, numberedKind, kindAccesses, accesses, lossMark}
 use Rattle.theory.specs.fillings.Completion.{bit}
-use Rattle.theory.specs.acceptance.Table.{NamesTask, Standing, tableRow}
+use Rattle.theory.specs.acceptance.Table.{NamesTask, Standing, standingRefusal}
 use Rattle.theory.specs.acceptance.Control.{countAt, countIn, counted, controlStanding, controlRefusal, controlAfter}
 use Rattle.theory.specs.history.History.{asker, kindClashes}
 use Rattle.theory.specs.tables.Reckonings.{wordBits}
@@ -62,8 +62,8 @@ clipped r = record { kind = clippedKind (r .kind); task = r .task; on = r .on }
 clipped-known : (r : Record) → r .kind < length kinds → clipped r ≡ r
 clipped-known r h = rw (lt-ltb (r .kind) (length kinds) h)
 
-unknown : (s : Standing) (r : Record) → length kinds ≤ r .kind → tableRow s r ≡ 1
-unfolding tableRow
+unknown : (s : Standing) (r : Record) → length kinds ≤ r .kind → standingRefusal s r ≡ 1
+unfolding standingRefusal
 unknown s r h = rw (le-leb (length kinds) (r .kind) h)
 
 -- a record and the clipped one get the same refusal
@@ -92,7 +92,7 @@ either-way false h l = l
 module _ (q : Record) (k t on n : ℕ) where
   keep-walked : (side : ℕ) {s : Lazy} → AtMost n s → AtMost n (keepOn q k t side s)
   unfolding keepOn
-  keep-walked side {s} h = either-way (kindClashes (kindAt k) (asker (askerOn q side))) (record { at-most = h .at-most }) h
+  keep-walked side {s} h = either-way (kindClashes (numberedKind k) (asker (askerOn q side))) (record { at-most = h .at-most }) h
 
   access-walked : {s : Lazy} → AtMost n s → AtMost n (accessed q k t s)
   unfolding accessed
@@ -220,7 +220,7 @@ question-clipped q = decided (at-most (length kinds) (q .kind))
     decided : {b : Bool} → Reflects (length kinds ≤ q .kind) b → question (clipped q) ≡ question q
     decided (right h) =
         let none : clippedKind (q .kind) ≡ length kinds = rw (le-ltb (q .kind) (length kinds) h) in
-        no-question (clipped q) (ap accesses none) ∙ sym (no-question q (ap accessBy (kind-above (q .kind) h)))
+        no-question (clipped q) (ap accesses none) ∙ sym (no-question q (ap kindAccesses (kind-above (q .kind) h)))
     decided (wrong n) = ap question (clipped-known q (omega arith))
 
 ending-clipped : (q : Record) (x : Run) → ending (clipped q) x ≡ ending q x

@@ -9,7 +9,7 @@ use lib.ListN.{replicate, length-replicate}
 use Rattle.theory.specs.declared.record.Record.{Record}
 use Rattle.theory.specs.order.Limits.{tasks}
 use Rattle.theory.specs.order.Recording.{Op, Event, kind, eventOf, isAccess}
-use Rattle.theory.specs.acceptance.Table.{refusal, recordedAfter, extended}
+use Rattle.theory.specs.acceptance.Table.{refusal, appendUnless, extended}
 use Rattle.theory.specs.acceptance.Control.{controlAfter}
 use Rattle.theory.specs.history.History.{slots}
 use Rattle.theory.specs.tables.Rows.{hub}
@@ -62,7 +62,7 @@ module _ (p : Op) (t v : ℕ) (isa : T (isAccess p)) (ht : t < tasks) where
       Over es (r ∷ rs) (Then n control s r rs)
   over-next zero es control s r rs e h rest = let x = rest (holds-next h r e) in record { refused = rw e (x .refused); holds = λ z. rw e (x .holds z) }
   over-next (suc m) es control s r rs e h rest =
-      record { refused = rw e (sym (first-after (suc m) (refusalsAfter (recordedAfter es r (suc m)) rs) (λ z. omega arith))); holds = λ z. absurd (omega arith) }
+      record { refused = rw e (sym (first-after (suc m) (refusalsAfter (appendUnless es r (suc m)) rs) (λ z. omega arith))); holds = λ z. absurd (omega arith) }
 
   pub follows-list : (rs : List Record) (es : List Event) (control : List ℕ) (s : Lazy) → Holds es control s → Over es rs (followed (asked-for p t v isa ht) control s rs)
   follows-list [] es control s h = record { refused = refl; holds = λ _. h }

@@ -10,7 +10,7 @@ use lib.ListN.{length, getD, length-set}
 use lib.Seq.{getD-set-same, getD-set-other}
 use Rattle.theory.specs.declared.record.Record.{Record}
 use Rattle.theory.specs.order.Limits.{tasks}
-use Rattle.theory.specs.order.Recording.{kindAt}
+use Rattle.theory.specs.order.Recording.{numberedKind}
 use Rattle.theory.specs.fillings.Completion.{bit}
 use Rattle.theory.specs.history.History.{asker, kindClashes}
 use Rattle.theory.specs.tables.Rows.{hub}
@@ -120,12 +120,12 @@ module _ {s : Lazy} (w : Whole s) (c u : ℕ) (hc : c < wordBits) (hu : u < task
 module _ (q : Record) (k u : ℕ) (hu : u < tasks) where
   -- it clashes with what asks on the side
   abbrev pub Clash : ℕ → Type 0
-  Clash side = T (kindClashes (kindAt k) (asker (askerOn q side)))
+  Clash side = T (kindClashes (numberedKind k) (asker (askerOn q side)))
 
   module _ {s : Lazy} (w : Whole s) (side : ℕ) (hs : side < 2) where
     on-whole : Whole (keepOn q k u side s)
     unfolding keepOn
-    on-whole = decided (kindClashes (kindAt k) (asker (askerOn q side)))
+    on-whole = decided (kindClashes (numberedKind k) (asker (askerOn q side)))
       where
         decided : (b : Bool) → Whole (cond b (beginColumn (column side u) u s) s)
         decided true = begin-whole w (column side u) u (omega arith) hu
@@ -133,11 +133,11 @@ module _ (q : Record) (k u : ℕ) (hu : u < tasks) where
 
     on-own : Clash side → Begun (column side u) u (keepOn q k u side s)
     unfolding keepOn
-    on-own t = rw (is-true (by-test (kindClashes (kindAt k) (asker (askerOn q side)))) t) (begin-own w (column side u) u (omega arith) hu)
+    on-own t = rw (is-true (by-test (kindClashes (numberedKind k) (asker (askerOn q side)))) t) (begin-own w (column side u) u (omega arith) hu)
 
     on-other : (d : ℕ) → d < wordBits → d ≢ column side u → Alike d s (keepOn q k u side s)
     unfolding keepOn
-    on-other d hd n = decided (kindClashes (kindAt k) (asker (askerOn q side)))
+    on-other d hd n = decided (kindClashes (numberedKind k) (asker (askerOn q side)))
       where
         decided : (b : Bool) → Alike d s (cond b (beginColumn (column side u) u s) s)
         decided true = begin-other w (column side u) u (omega arith) hu d hd n
@@ -145,7 +145,7 @@ module _ (q : Record) (k u : ℕ) (hu : u < tasks) where
 
     on-none : ¬ Clash side → (d : ℕ) → Alike d s (keepOn q k u side s)
     unfolding keepOn
-    on-none n d = decided (by-test (kindClashes (kindAt k) (asker (askerOn q side))))
+    on-none n d = decided (by-test (kindClashes (numberedKind k) (asker (askerOn q side))))
       where
         decided : {b : Bool} → Reflects (Clash side) b → Alike d s (cond b (beginColumn (column side u) u s) s)
         decided (right t) = absurd (n t)
@@ -192,7 +192,7 @@ unfolding keepOn
 keep-acted q k u s = on-acted byWrite (keepOn q k u byEnd s) ∙ on-acted byEnd s
   where
     on-acted : (side : ℕ) (s : Lazy) → (keepOn q k u side s) .walk .acted ≡ s .walk .acted
-    on-acted side s = decided (kindClashes (kindAt k) (asker (askerOn q side)))
+    on-acted side s = decided (kindClashes (numberedKind k) (asker (askerOn q side)))
       where
         decided : (b : Bool) → (cond b (beginColumn (column side u) u s) s) .walk .acted ≡ s .walk .acted
         decided true = refl

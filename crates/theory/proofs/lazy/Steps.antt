@@ -11,7 +11,7 @@ use lib.Dec.{T, eqb}
 use lib.ListN.{length, getD}
 use Rattle.theory.specs.declared.record.Record.{Record}
 use Rattle.theory.specs.order.Limits.{tasks}
-use Rattle.theory.specs.order.Recording.{Op, write, join, fresh, Event, act, lost, series, kind, kindAt, isAccess, accesses, ActsIn, acts, _is_}
+use Rattle.theory.specs.order.Recording.{Op, write, join, fresh, Event, act, lost, series, kind, numberedKind, isAccess, accesses, ActsIn, acts, _is_}
 use Rattle.theory.specs.order.Path.{HappensBefore, clashes, conflict, Empties, empties}
 use Rattle.theory.specs.fillings.Completion.{bit, arrived, Named}
 use Rattle.theory.specs.acceptance.Table.{standing}
@@ -22,7 +22,7 @@ use Rattle.theory.specs.lazy.Walk.{HandsOver, ShortCircuit}
 use Rattle.theory.specs.lazy.Fold.{Lazy, wordAt, byEnd, byWrite, column, askerOn, noted, shortened, accessed, emptied, flowed, stepped, walkedOver, ofVariable, acted, keepAnew, arrivedNow}
 use Rattle.theory.proofs.basics.Reflects.{Reflects, right, wrong, by-test, equal, either}
 use Rattle.theory.proofs.acceptance.Rows.{ActAllowed}
-use Rattle.theory.proofs.order.Ops.{Plain, kindAt-kind, same-op, access-kind}
+use Rattle.theory.proofs.order.Ops.{Plain, numberedKind-kind, same-op, access-kind}
 use Rattle.theory.proofs.order.Places.{Occurs}
 use Rattle.theory.proofs.order.Tests.{some-snoc, snoc-some, snoc-last}
 use Rattle.theory.proofs.fillings.Reach.{nobody-named}
@@ -78,8 +78,8 @@ module _ (p : Op) (t v : ℕ) (isa : T (isAccess p)) (ht : t < tasks) where
       decided true = asker-op p isa
       decided false = asker-op write tt
 
-  clash-side : (o : Op) (side : ℕ) → kindClashes (kindAt (kind o)) (asker (askerOn asked-for side)) ≡ clashes o (askedBy side)
-  clash-side o side = rw (kindAt-kind o, asker-side side)
+  clash-side : (o : Op) (side : ℕ) → kindClashes (numberedKind (kind o)) (asker (askerOn asked-for side)) ≡ clashes o (askedBy side)
+  clash-side o side = rw (numberedKind-kind o, asker-side side)
 
   -- which acts are asked for, and which empty
 

@@ -10,7 +10,7 @@ use lib.Dec.{eqb}
 use lib.ListN.{length, drop, List·getD-eq-default}
 use Rattle.theory.specs.order.Limits.{variables}
 use Rattle.theory.specs.tables.Turns.{turns}
-use Rattle.theory.specs.order.Recording.{Op, take, give, look, set, start, join, miss, kind, Kind, of-op, of-mark, kinds, kindAt, accessBy, accesses, seriesOf}
+use Rattle.theory.specs.order.Recording.{Op, take, give, look, set, start, join, miss, kind, Kind, of-op, of-mark, kinds, numberedKind, kindAccesses, accesses, kindSeries}
 use Rattle.theory.specs.order.Path.{clashes}
 use Rattle.theory.specs.acceptance.Table.{anyBelow}
 use Rattle.theory.specs.history.History.{askers, asker, askAt, kindClashes}
@@ -18,7 +18,7 @@ use Rattle.theory.proofs.basics.Reflects.{Reflects, right, wrong, at-mo
 use Rattle.theory.proofs.acceptance.Rows.{none-below}
 
 -- beyond the kinds there is none
-pub kind-above : (k : ℕ) → length kinds ≤ k → kindAt k ≡ of-mark
+pub kind-above : (k : ℕ) → length kinds ≤ k → numberedKind k ≡ of-mark
 kind-above k h = List·getD-eq-default kinds of-mark h
 
 -- a test that holds of the kinds, and beyond them, holds of every number
@@ -61,13 +61,13 @@ pub no-access-else : (k : ℕ) → NoneOf askers k → accesses k ≡ false
 no-access-else k n = negated (accesses k) (rw (none-is askers k n) at (each-number (λ k. isOneOf askers k || not (accesses k)) accesses-tried beyond k))
   where
     beyond : (k : ℕ) → length kinds ≤ k → (isOneOf askers k || not (accesses k)) ≡ true
-    beyond k h = rw (ap accessBy (kind-above k h)) (or-true (isOneOf askers k))
+    beyond k h = rw (ap kindAccesses (kind-above k h)) (or-true (isOneOf askers k))
 
 -- what is no access clashes with nothing
-pub no-clash : (k : ℕ) (p : Op) → accesses k ≡ false → false ≡ kindClashes (kindAt k) p
-no-clash k p e = of (kindAt k) e
+pub no-clash : (k : ℕ) (p : Op) → accesses k ≡ false → false ≡ kindClashes (numberedKind k) p
+no-clash k p e = of (numberedKind k) e
   where
-    of : (x : Kind) → accessBy x ≡ false → false ≡ kindClashes x p
+    of : (x : Kind) → kindAccesses x ≡ false → false ≡ kindClashes x p
     of (of-op o) e = rw e
     of of-mark e = refl
 
@@ -106,14 +106,14 @@ each-asker o f tried a h = same-true (f a) (clashes o (asker a)) (not-false _ (n
 abbrev pub objectOps : List Op
 objectOps = take ∷ give ∷ miss ∷ look ∷ set ∷ start ∷ join ∷ []
 
-series-tried : anyBelow (length kinds) (λ k. not (isOneOf objectOps k || eqb (seriesOf k) variables)) ≡ false
+series-tried : anyBelow (length kinds) (λ k. not (isOneOf objectOps k || eqb (kindSeries k) variables)) ≡ false
 unfolding turns
 series-tried = refl
 
 -- any other kind is over the variables
-pub series-else : (k : ℕ) → NoneOf objectOps k → seriesOf k ≡ variables
+pub series-else : (k : ℕ) → NoneOf objectOps k → kindSeries k ≡ variables
 series-else k n =
-    eqb-true (seriesOf k) variables (rw (none-is objectOps k n) at (each-number (λ k. isOneOf objectOps k || eqb (seriesOf k) variables) series-tried beyond k))
+    eqb-true (kindSeries k) variables (rw (none-is objectOps k n) at (each-number (λ k. isOneOf objectOps k || eqb (kindSeries k) variables) series-tried beyond k))
   where
-    beyond : (k : ℕ) → length kinds ≤ k → (isOneOf objectOps k || eqb (seriesOf k) variables) ≡ true
+    beyond : (k : ℕ) → length kinds ≤ k → (isOneOf objectOps k || eqb (kindSeries k) variables) ≡ true
     beyond k h = rw (kind-above k h) (or-true (isOneOf objectOps k))

@@ -10,7 +10,7 @@ use borrow.Author.Tests.{ne-eqb, eqb-true, not-false}
 use lib.Dec.{T, eqb}
 use lib.ListN.{length, getD}
 use Rattle.theory.specs.order.Limits.{variables}
-use Rattle.theory.specs.order.Recording.{Op, read, write, take, give, look, set, start, join, fresh, miss, bump, Effect, keeps, begins, ends, about, kind, series, isAccess, lossMark, Kind, of-op, of-mark, kinds, kindAt, opBy, opOf, accessBy, accesses, seriesOf, eventOf, act, _is_}
+use Rattle.theory.specs.order.Recording.{Op, read, write, take, give, look, set, start, join, fresh, miss, bump, Effect, keeps, begins, ends, about, kind, series, isAccess, lossMark, Kind, of-op, of-mark, kinds, numberedKind, kindOp, opOf, kindAccesses, accesses, kindSeries, eventOf, act, _is_}
 use Rattle.theory.specs.acceptance.Table.{Fitting, anyBelow}
 use Rattle.theory.specs.tables.Turns.{turns}
 use Rattle.theory.proofs.acceptance.Rows.{none-below}
@@ -18,21 +18,21 @@ use Rattle.theory.proofs.basics.Reflects.{Reflects, right, wrong, equal
 
 -- The list of kinds has each op at its number
 
-pub kindAt-kind : (o : Op) → kindAt (kind o) ≡ of-op o
-kindAt-kind read = refl
-kindAt-kind write = refl
-kindAt-kind take = refl
-kindAt-kind give = refl
-kindAt-kind look = refl
-kindAt-kind set = refl
-kindAt-kind start = refl
-kindAt-kind join = refl
-kindAt-kind fresh = refl
-kindAt-kind miss = refl
-kindAt-kind bump = refl
+pub numberedKind-kind : (o : Op) → numberedKind (kind o) ≡ of-op o
+numberedKind-kind read = refl
+numberedKind-kind write = refl
+numberedKind-kind take = refl
+numberedKind-kind give = refl
+numberedKind-kind look = refl
+numberedKind-kind set = refl
+numberedKind-kind start = refl
+numberedKind-kind join = refl
+numberedKind-kind fresh = refl
+numberedKind-kind miss = refl
+numberedKind-kind bump = refl
 
 pub opOf-kind : (o : Op) → opOf (kind o) ≡ o
-opOf-kind o = ap opBy (kindAt-kind o)
+opOf-kind o = ap kindOp (numberedKind-kind o)
 
 not-true : (b : Bool) → not b ≡ true → b ≡ false
 not-true true e = sym e
@@ -62,12 +62,12 @@ all-at p (k ∷ ks) e m zero = and-elim-left (p k) (all p ks) e
 all-at p (k ∷ ks) e m (suc n) = all-at p ks (and-elim-right (p k) (all p ks) e) m n
 
 -- of every kind number
-pub each-kind : (p : Kind → Bool) → all p kinds ≡ true → p of-mark ≡ true → (k : ℕ) → p (kindAt k) ≡ true
+pub each-kind : (p : Kind → Bool) → all p kinds ≡ true → p of-mark ≡ true → (k : ℕ) → p (numberedKind k) ≡ true
 each-kind p e m k = all-at p kinds e m k
 
 -- of every op
 pub each-op : (p : Kind → Bool) → all p kinds ≡ true → p of-mark ≡ true → (o : Op) → p (of-op o) ≡ true
-each-op p e m o = subst (λ (k : Kind). p k ≡ true) (kindAt-kind o) (each-kind p e m (kind o))
+each-op p e m o = subst (λ (k : Kind). p k ≡ true) (numberedKind-kind o) (each-kind p e m (kind o))
 
 -- Kinds
 
@@ -92,7 +92,7 @@ op-of k h n = (opOf k, sym (eqb-true (kind (opOf k)) k (rw (ne-eqb k lossMark n)
 pub event-act : (o : Op) (t n : ℕ) → eventOf (record { kind = kind o; task = t; on = n }) ≡ act o t n
 event-act o t n = rw (no-mark o, opOf-kind o)
 
-pub series-op : (o : Op) → seriesOf (kind o) ≡ series o
+pub series-op : (o : Op) → kindSeries (kind o) ≡ series o
 series-op o = ap series (opOf-kind o)
 
 pub on-series : (o : Op) {t n : ℕ} → Fitting (kind o) t n → n < series o
@@ -101,7 +101,7 @@ on-series o {n = n} f = subst (λ (s : ℕ). n < s) (series-op o) (f .on-fits)
 -- Accesses
 
 pub access-kind : (o : Op) → accesses (kind o) ≡ isAccess o
-access-kind o = ap accessBy (kindAt-kind o)
+access-kind o = ap kindAccesses (numberedKind-kind o)
 
 pub access-tests : (o : Op) → T (isAccess o) → accesses (kind o) ≡ true
 access-tests o a = access-kind o ∙ is-true (by-test (isAccess o)) a

@@ -11,7 +11,7 @@ use lib.Dec.{eqb}
 use lib.Pow.{pow-mono, pow-lt, shr-shr}
 use Rattle.theory.specs.fillings.Completion.{bit}
 use Rattle.theory.specs.tables.Turns.{turns}
-use Rattle.theory.specs.tables.Reckonings.{bitOf, maskOf, lowestTask}
+use Rattle.theory.specs.tables.Reckonings.{indicator, maskOf, lowestTask}
 use Rattle.theory.specs.order.Limits.{tasks}
 
 -- a mask of i bits with one more
@@ -32,16 +32,16 @@ trailing-lt (suc k) n h l = decided (n % 2) refl (trailing-lt k (n / 2))
 
 -- the highest n of the 16 tasks that pass the test, as a mask: bit k is that of task 16 - n + k
 abbrev upper : (ℕ → Bool) → ℕ → ℕ
-upper p n = turns n (λ i m. bitOf (p (tasks - 1 - i)) + 2 * m) 0
+upper p n = turns n (λ i m. indicator (p (tasks - 1 - i)) + 2 * m) 0
 
-bit-le : (b : Bool) → bitOf b ≤ 1
+bit-le : (b : Bool) → indicator b ≤ 1
 bit-le true = omega arith
 bit-le false = omega arith
 
 upper-lt : (p : ℕ → Bool) (n : ℕ) → upper p n < 2 ^ n
 unfolding turns
 upper-lt p zero = omega arith
-upper-lt p (suc n) = rw (add-one n) at (mask-next n (upper p n) (bitOf (p (tasks - 1 - n))) (upper-lt p n) (bit-le (p (tasks - 1 - n))))
+upper-lt p (suc n) = rw (add-one n) at (mask-next n (upper p n) (indicator (p (tasks - 1 - n))) (upper-lt p n) (bit-le (p (tasks - 1 - n))))
 
 -- one more bit below a mask
 trailing-next : (n b m : ℕ) → b ≤ 1 → trailingZeros (suc n) (b + 2 * m) ≡ under b (trailingZeros n m)
@@ -56,7 +56,7 @@ record Lowest (p : ℕ → Bool) (n z : ℕ) : Type 0 where
   below : (k : ℕ) → k < z → p (tasks - n + k) ≡ false
   here : z < n → p (tasks - n + z) ≡ true
 
-lowest-next : (p : ℕ → Bool) (n z : ℕ) (b : Bool) → n < tasks → p (tasks - 1 - n) ≡ b → Lowest p n z → Lowest p (suc n) (under (bitOf b) z)
+lowest-next : (p : ℕ → Bool) (n z : ℕ) (b : Bool) → n < tasks → p (tasks - 1 - n) ≡ b → Lowest p n z → Lowest p (suc n) (under (indicator b) z)
 lowest-next p n z true h e l =
     record { below = λ k i. absurd (omega arith); here = λ i. let q : tasks - suc n + 0 ≡ tasks - 1 - n = omega arith in rw q e }
 lowest-next p n z false h e l = record { below = below; here = λ i. let q : tasks - suc n + suc z ≡ tasks - n + z = omega arith in rw q (l .here (omega arith)) }
@@ -72,7 +72,7 @@ lowest p zero h = record { below = λ k i. absurd (none i); here = λ i. absurd 
     none : {k : ℕ} → k < trailingZeros zero 0 → ⊥
     none i = omega (arith, trailing-of-zero 0)
 lowest p (suc n) h =
-    rw (trailing-next n (bitOf (p (tasks - 1 - n))) (upper p n) (bit-le (p (tasks - 1 - n))))
+    rw (trailing-next n (indicator (p (tasks - 1 - n))) (upper p n) (bit-le (p (tasks - 1 - n))))
     (lowest-next p n (trailingZeros n (upper p n)) (p (tasks - 1 - n)) (omega arith) refl (lowest p n (omega arith)))
 
 mask-lt : (p : ℕ → Bool) → maskOf p < 2 ^ tasks
@@ -116,18 +116,18 @@ mask-ext p q e = upper-ext p q e tasks
 -- A mask without the bits of a word
 
 -- with one bit more below both
-lower-without : (b : Bool) (m x : ℕ) {y o : ℕ} → x / 2 ≡ y → m - bitAnd m y ≡ o → bitOf b + 2 * m - bitAnd (bitOf b + 2 * m) x ≡ bitOf (b && not (eqb (x % 2) 1)) + 2 * o
-lower-without b m x {y} e q = rw (and-step (bitOf b + 2 * m) x, half b, odd b, e, ← q) (of b (x % 2) (bitAnd m y) (and-le-l m y) (omega arith))
+lower-without : (b : Bool) (m x : ℕ) {y o : ℕ} → x / 2 ≡ y → m - bitAnd m y ≡ o → indicator b + 2 * m - bitAnd (indicator b + 2 * m) x ≡ indicator (b && not (eqb (x % 2) 1)) + 2 * o
+lower-without b m x {y} e q = rw (and-step (indicator b + 2 * m) x, half b, odd b, e, ← q) (of b (x % 2) (bitAnd m y) (and-le-l m y) (omega arith))
   where
-    half : (b : Bool) → (bitOf b + 2 * m) / 2 ≡ m
+    half : (b : Bool) → (indicator b + 2 * m) / 2 ≡ m
     half true = omega arith
     half false = omega arith
 
-    odd : (b : Bool) → (bitOf b + 2 * m) % 2 ≡ bitOf b
+    odd : (b : Bool) → (indicator b + 2 * m) % 2 ≡ indicator b
     odd true = omega arith
     odd false = omega arith
 
-    of : (b : Bool) (d a : ℕ) → a ≤ m → d < 2 → bitOf b + 2 * m - (a * 2 + min (bitOf b) d) ≡ bitOf (b && not (eqb d 1)) + 2 * (m - a)
+    of : (b : Bool) (d a : ℕ) → a ≤ m → d < 2 → indicator b + 2 * m - (a * 2 + min (indicator b) d) ≡ indicator (b && not (eqb d 1)) + 2 * (m - a)
     of true zero a l h = omega arith
     of true (suc zero) a l h = omega arith
     of true (suc (suc d)) a l h = absurd (omega arith)
@@ -160,13 +160,13 @@ mask-without p x =
 
 -- what the tasks below u that pass the test add up to
 abbrev sums : (ℕ → Bool) → ℕ → ℕ
-sums p u = turns u (λ v m. m + bitOf (p v) * 2 ^ v) 0
+sums p u = turns u (λ v m. m + indicator (p v) * 2 ^ v) 0
 
 pub record Summed (p : ℕ → Bool) (u m : ℕ) : Type 0 where
   pub room : m < 2 ^ u
   pub is : m ≡ sums p u
 
-sum-lt : (u m : ℕ) (b : Bool) → m < 2 ^ u → m + bitOf b * 2 ^ u < 2 ^ (u + 1)
+sum-lt : (u m : ℕ) (b : Bool) → m < 2 ^ u → m + indicator b * 2 ^ u < 2 ^ (u + 1)
 sum-lt u m true h = rw (add-one u) (omega (arith, pow-suc 2 u))
 sum-lt u m false h = rw (add-one u) (omega (arith, pow-suc 2 u))
 
@@ -175,7 +175,7 @@ module _ {p : ℕ → Bool} where
   unfolding turns
   no-sum = record { room = omega arith; is = refl }
 
-  pub one-sum : {u m r : ℕ} {b : Bool} → Summed p u m → r ≡ bitOf b * 2 ^ u → b ≡ p u → Summed p (u + 1) (m + r)
+  pub one-sum : {u m r : ℕ} {b : Bool} → Summed p u m → r ≡ indicator b * 2 ^ u → b ≡ p u → Summed p (u + 1) (m + r)
   unfolding turns
   one-sum {u} {m} {b = b} s e t = record { room = rw e (sum-lt u m b (s .room)); is = rw (add-one u) (rw (e, t, s .is)) }
 
@@ -188,7 +188,7 @@ unfolding turns
 sums-upper p zero n e = let q : n ≡ tasks = omega arith in rw q (omega arith)
 sums-upper p (suc k) n e =
     let q : tasks - 1 - n ≡ k = omega arith in
-    shifted (upper p n) (2 ^ k) (bitOf (p k)) (sums p k) (pow-suc 2 k)
+    shifted (upper p n) (2 ^ k) (indicator (p k)) (sums p k) (pow-suc 2 k)
     ∙ (rw q at (sums-upper p k (suc n) (omega arith)))
   where
     shifted : (x y b t : ℕ) {z : ℕ} → z ≡ y * 2 → x * z + (t + b * y) ≡ (b + 2 * x) * y + t
@@ -217,8 +217,8 @@ module _ {p : ℕ → Bool} where
   pub no-weights : Gathered p 0 0
   no-weights = record { m = 0; summed = no-sum; twice = refl }
 
-  pub one-weight : {u x r : ℕ} {b : Bool} → u < tasks → Gathered p u x → r ≡ bitOf b * (2 ^ u * 2 ^ tasks + 2 ^ u) → b ≡ p u → Gathered p (u + 1) (bitOr x r)
-  one-weight {u} {x} {r} {b} h g e t = record { m = g .m + bitOf b * 2 ^ u; summed = one-sum (g .summed) refl t; twice = rw (g .twice, e) (of b) }
+  pub one-weight : {u x r : ℕ} {b : Bool} → u < tasks → Gathered p u x → r ≡ indicator b * (2 ^ u * 2 ^ tasks + 2 ^ u) → b ≡ p u → Gathered p (u + 1) (bitOr x r)
+  one-weight {u} {x} {r} {b} h g e t = record { m = g .m + indicator b * 2 ^ u; summed = one-sum (g .summed) refl t; twice = rw (g .twice, e) (of b) }
     where
       room : g .m < 2 ^ tasks
       room = sum-fits (g .summed) (omega arith)
@@ -226,7 +226,7 @@ module _ {p : ℕ → Bool} where
       weight : 2 ^ u < 2 ^ tasks
       weight = pow-lt h
 
-      of : (b : Bool) → bitOr (g .m * 2 ^ tasks + g .m) (bitOf b * (2 ^ u * 2 ^ tasks + 2 ^ u)) ≡ (g .m + bitOf b * 2 ^ u) * 2 ^ tasks + (g .m + bitOf b * 2 ^ u)
+      of : (b : Bool) → bitOr (g .m * 2 ^ tasks + g .m) (indicator b * (2 ^ u * 2 ^ tasks + 2 ^ u)) ≡ (g .m + indicator b * 2 ^ u) * 2 ^ tasks + (g .m + indicator b * 2 ^ u)
       of true =
           let one : 1 * (2 ^ u * 2 ^ tasks + 2 ^ u) ≡ 2 ^ u * 2 ^ tasks + 2 ^ u = omega arith in
           let joined : bitOr (g .m) (2 ^ u) ≡ g .m + 1 * 2 ^ u = single in

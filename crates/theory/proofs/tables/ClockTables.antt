@@ -21,7 +21,7 @@ use Rattle.theory.proofs.tables.Marks.{sized-mark}
 use Rattle.theory.proofs.tables.Nodes.{row, InRange, due-in, row-below, row-one, released-row, released-in}
 use Rattle.theory.proofs.fillings.HasActed.{Acted}
 use Rattle.theory.proofs.fillings.Came.{Came, Newly, occurs-short}
-use Rattle.theory.proofs.tables.Exact.{Filled-in, Exact, Owned, ExactActed, exact-act, exact-mark, fresh-exact, acted-same, acted-act, acted-mark, fresh-acted}
+use Rattle.theory.proofs.tables.Exact.{ProperMask, Exact, Owned, ExactActed, exact-act, exact-mark, fresh-exact, acted-same, acted-act, acted-mark, fresh-acted}
 use Rattle.theory.proofs.tables.Follows.{ToObject}
 
 -- Definition
@@ -104,7 +104,7 @@ module _ {w : Filling} {es : List Event} {b : List ℕ} {t n number : ℕ} (o : 
 
 -- Marks
 
-pub clocks-mark : {w : Filling} {es : List Event} {b : List ℕ} (mask : ℕ) → (¬ (w mask ≡ 0) → T (fills w)) → Filled-in (w mask) → ExactClocks w es b → ExactClocks w (es ++ (lost mask ∷ [])) (mark max tasks (w mask) b)
+pub clocks-mark : {w : Filling} {es : List Event} {b : List ℕ} (mask : ℕ) → (¬ (w mask ≡ 0) → T (fills w)) → ProperMask (w mask) → ExactClocks w es b → ExactClocks w (es ++ (lost mask ∷ [])) (mark max tasks (w mask) b)
 clocks-mark {w} mask asked f x =
     record {
       sized = sized-mark (x .sized) max (w mask);

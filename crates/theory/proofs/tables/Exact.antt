@@ -71,9 +71,9 @@ released-acquired (semaphore s) y d = (semaphore s, acquired-semaphore .1 (relea
 released-acquired (flag f) y d = (flag f, acquired-flag .1 (released-flag .0 y), d)
 
 -- whose lost records are filled in: nobody's, or those of some task
-pub data Filled-in (m : ℕ) : Type 0 where
-  nobody : m ≡ 0 → Filled-in m
-  somebody : ¬ (m ≡ 0) → (t : ℕ) × Named m t → Filled-in m
+pub data ProperMask (m : ℕ) : Type 0 where
+  nobody : m ≡ 0 → ProperMask m
+  somebody : ¬ (m ≡ 0) → (t : ℕ) × Named m t → ProperMask m
 
 -- a mark that names a task acquires every object
 acquired-object : {mask : ℕ} → (t : ℕ) × Named mask t → {m : Node} → Object m → Acquired mask m
@@ -143,7 +143,7 @@ module _ {P : ℕ → Type 0} {w : Filling} {Chosen : Event → List Event → T
     exact-mix : Exact P w Chosen (es ++ (lost mask ∷ [])) width (mix j width (w mask) b) i c
     exact-mix = record { cells = mixed; hub = λ _. hub-mixed; ended = ended-mark mask keeps stays (x .ended) }
 
-  pub exact-mark : {j : ℕ → ℕ → ℕ} → Joins j P → Sized width b → tasks ≤ width → c < width → (¬ (w mask ≡ 0) → T (fills w)) → Filled-in (w mask) → Exact P w Chosen es width b i c →
+  pub exact-mark : {j : ℕ → ℕ → ℕ} → Joins j P → Sized width b → tasks ≤ width → c < width → (¬ (w mask ≡ 0) → T (fills w)) → ProperMask (w mask) → Exact P w Chosen es width b i c →
       Exact P w Chosen (es ++ (lost mask ∷ [])) width (mark j width (w mask) b) i c
   exact-mark {j} joins sized wide hc asked (nobody e) x = subst (λ (k : ℕ). Exact P w Chosen (es ++ (lost mask ∷ [])) width (mark j width k b) i c) (sym e) (exact-none e x)
   exact-mark joins sized wide hc asked (somebody n some) x = rw (ne-eqb (w mask) 0 n) (exact-mix joins sized wide hc some (asked n) x)
@@ -172,7 +172,7 @@ module _ {w : Filling} {es : List Event} {width : ℕ} {b b′ : List ℕ} where
       ExactActed w (es ++ (act o u n ∷ [])) width b′
   acted-act o u n e x = acted-next (act o u n) (λ t. eqb t u) (λ t h. equal t u) e x
 
-pub acted-mark : {w : Filling} {es : List Event} {width : ℕ} {b : List ℕ} (j : ℕ → ℕ → ℕ) (mask : ℕ) → Sized width b → tasks ≤ width → Filled-in (w mask) → ExactActed w es width b →
+pub acted-mark : {w : Filling} {es : List Event} {width : ℕ} {b : List ℕ} (j : ℕ → ℕ → ℕ) (mask : ℕ) → Sized width b → tasks ≤ width → ProperMask (w mask) → ExactActed w es width b →
     ExactActed w (es ++ (lost mask ∷ [])) width (mark j width (w mask) b)
 acted-mark {w} {es} {width} {b} j mask sized wide (nobody e) x =
     subst (λ (k : ℕ). ExactActed w (es ++ (lost mask ∷ [])) width (mark j width k b)) (sym e)

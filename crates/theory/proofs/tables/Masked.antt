@@ -17,8 +17,8 @@ use Rattle.theory.proofs.tables.Bits.{mask-none, mask-lowest}
 use Rattle.theory.proofs.verdicts.Search.{Candidate, Outcome, nobody, somebody, partner-outcome}
 
 -- what a mask finds: the lowest of its tasks, with the number that `number` has for it
-abbrev pub foundBy : (ℕ → ℕ) → ℕ → Option Found
-foundBy number mask = cond (eqb mask 0) none (some (record { task = lowestTask mask; number = number (lowestTask mask) }))
+abbrev pub lowestFound : (ℕ → ℕ) → ℕ → Option Found
+lowestFound number mask = cond (eqb mask 0) none (some (record { task = lowestTask mask; number = number (lowestTask mask) }))
 
 not-both : {b : Bool} → b ≡ true → b ≡ false → ⊥
 not-both p q = true≢false (sym p ∙ q)
@@ -56,7 +56,7 @@ module _ {g : ℕ → List Event} {f : Event} {es : List Event} (test : ℕ → 
   passing : {u : ℕ} → test u ≡ true → T (test u)
   passing e = subst T (sym e) tt
 
-  mask-outcome : Outcome g f 1 es (foundBy number (maskOf test))
+  mask-outcome : Outcome g f 1 es (lowestFound number (maskOf test))
   mask-outcome = decided (equal (maskOf test) 0)
     where
       decided : {b : Bool} → Reflects (maskOf test ≡ 0) b →
@@ -75,5 +75,5 @@ module _ {g : ℕ → List Event} {f : Event} {es : List Event} (test : ℕ → 
               at-least t j d (wrong h) = let (l, q) = complete t j d in absurd (not-both (is-true (by-test (test t)) q) (below t (omega arith)))
 
   -- it is what the search finds
-  pub mask-partner : foundBy number (maskOf test) ≡ partner g f 1 es
+  pub mask-partner : lowestFound number (maskOf test) ≡ partner g f 1 es
   mask-partner = outcome-one mask-outcome (partner-outcome 1 es)

@@ -9,7 +9,7 @@ use native.Mathlib.Omega.{arith}
 use lib.Dec.{T, ltb, eqb}
 use lib.ListN.{length}
 use Rattle.theory.specs.order.Limits.{tasks, variables}
-use Rattle.theory.specs.order.Recording.{Op, take, give, look, set, start, join, kind, isAccess, lossMark, Kind, of-op, of-mark, kinds, kindAt, accessBy, accesses, seriesOf}
+use Rattle.theory.specs.order.Recording.{Op, take, give, look, set, start, join, kind, isAccess, lossMark, Kind, of-op, of-mark, kinds, numberedKind, kindAccesses, accesses, kindSeries}
 use Rattle.theory.specs.order.Path.{rule}
 use Rattle.theory.specs.history.History.{kindClashes}
 use Rattle.theory.specs.acceptance.Table.{Fitting, Proper}
@@ -34,8 +34,8 @@ of-kind k j x y h l = decided (equal k j)
     decided (wrong n) = l
 
 -- `on` of an act whose kind is known
-on-below : {k t n : ℕ} (j : ℕ) → Fitting k t n → k ≡ j → n < seriesOf j
-on-below {n = n} j f e = subst (λ (i : ℕ). n < seriesOf i) e (f .on-fits)
+on-below : {k t n : ℕ} (j : ℕ) → Fitting k t n → k ≡ j → n < kindSeries j
+on-below {n = n} j f e = subst (λ (i : ℕ). n < kindSeries i) e (f .on-fits)
 
 -- the rows that an act acquires and releases to are of tasks and objects
 pub acquired-fits : {k t n : ℕ} {joins : Bool} → Fitting k t n → (joins ≡ true → k ≡ kind join) → acquiredRow k t n joins < hub
@@ -70,7 +70,7 @@ access-of k e = let (o, q) = op-of k known no-mark in (o, q, subst T (sym (sym (
     known = decided (at-most (length kinds) k)
       where
         decided : {b : Bool} → Reflects (length kinds ≤ k) b → k < length kinds
-        decided (right h) = absurd (true≢false (sym e ∙ ap accessBy (kind-above k h)))
+        decided (right h) = absurd (true≢false (sym e ∙ ap kindAccesses (kind-above k h)))
         decided (wrong n) = omega arith
 
     no-mark : k ≢ lossMark
@@ -103,16 +103,16 @@ access-onward s w asked k t n b h l = let a = access-alone w b k t n h in rw (a 
 pub access-fits : {k t n : ℕ} → Fitting k t n → accesses k ≡ true → n < variables
 access-fits {k} {n = n} f e =
     let (o, q, a) = access-of k e in
-    access-on o a (subst (λ (i : ℕ). n < i) (ap seriesOf q ∙ series-op o) (f .on-fits))
+    access-on o a (subst (λ (i : ℕ). n < i) (ap kindSeries q ∙ series-op o) (f .on-fits))
 
 -- the ranges of a proper access
 pub access-proper : {k t n : ℕ} → Proper k t n → accesses k ≡ true → (t < tasks) × (n < variables)
 access-proper {k} p e = let f = p .act-fits (access-acts k e) in (f .task-fits, access-fits f e)
 
 -- what clashes with something is an access
-pub clash-access : (k : ℕ) (p : Op) → true ≡ kindClashes (kindAt k) p → accesses k ≡ true
-clash-access k p e = of (kindAt k) e
+pub clash-access : (k : ℕ) (p : Op) → true ≡ kindClashes (numberedKind k) p → accesses k ≡ true
+clash-access k p e = of (numberedKind k) e
   where
-    of : (y : Kind) → true ≡ kindClashes y p → accessBy y ≡ true
+    of : (y : Kind) → true ≡ kindClashes y p → kindAccesses y ≡ true
     of (of-op o) e = and-elim-left (isAccess o) (isAccess p && rule o p) (sym e)
     of of-mark e = absurd (true≢false e)

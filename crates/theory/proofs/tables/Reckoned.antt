@@ -27,7 +27,7 @@ use Rattle.theory.proofs.verdicts.Search.{Candidate}
 use Rattle.theory.proofs.tables.Nodes.{due-in, acquiredNode, acquires-cases, plain-acquired}
 use Rattle.theory.proofs.fillings.Came.{Came}
 use Rattle.theory.proofs.tables.ClockTables.{ExactClocks, OfTask}
-use Rattle.theory.proofs.tables.SetTables.{ExactSets, KeptIn}
+use Rattle.theory.proofs.tables.SetTables.{ExactSets, LastInSlot}
 use Rattle.theory.proofs.history.Slots.{InSlot, in-slot, Frees, ExactHistory, slot-one}
 use Rattle.theory.proofs.history.Numbers.{latest-below, occurs-same, number-final, final-number}
 use Rattle.theory.proofs.order.Ops.{Role, a-take, a-give, a-look, a-set, a-start, a-join, plain, role}
@@ -123,7 +123,7 @@ module _ {es : List Event} {last : List ℕ} (p : Op) {v u i : ℕ} (h : ExactHi
       (d .e, d .after, occurs-there q (d .occurs), (d .inside, d .since))
 
   -- it is the one that the slot keeps
-  kept-at : {e : Event} {after : List Event} → Occurs es i e after → KeptIn (latestSlot (kind p) v u) e after
+  kept-at : {e : Event} {after : List Event} → Occurs es i e after → LastInSlot (latestSlot (kind p) v u) e after
   kept-at {e = here} {after = rest} o = let x = same in (x .0, λ s. later (x .1) (some-occurs s))
     where
       same : InSlot (latestSlot (kind p) v u) here × Every (λ d. ¬ Frees (latestSlot (kind p) v u) d) rest
@@ -140,7 +140,7 @@ module _ {es : List Event} {last : List ℕ} (p : Op) {v u i : ℕ} (h : ExactHi
           omega arith
 
 -- a slot keeps one access
-one-kept : {es : List Event} {s i j : ℕ} {e f : Event} {after after′ : List Event} → Occurs es i e after → KeptIn s e after → Occurs es j f after′ → KeptIn s f after′ → i ≡ j
+one-kept : {es : List Event} {s i j : ℕ} {e f : Event} {after after′ : List Event} → Occurs es i e after → LastInSlot s e after → Occurs es j f after′ → LastInSlot s f after′ → i ≡ j
 one-kept {i = i} {j = j} o k o′ k′ = decided (equal i j) (at-most (suc i) j)
   where
     decided : {c d : Bool} → Reflects (i ≡ j) c → Reflects (i < j) d → i ≡ j
@@ -217,7 +217,7 @@ module _ {w : Filling} {es : List Event} {b last : List ℕ} (p : Op) {t v u : �
   pub set-tells : ExactSets w es b → Tells w es last p t v u (setApart b last (kind p) t v u)
   set-tells x = record { none = λ e. rw e; tells = tells }
     where
-      column : T (hasSlot b t (latestSlot (kind p) v u)) ↔ Came w (KeptIn (latestSlot (kind p) v u)) es 0 (due t)
+      column : T (hasSlot b t (latestSlot (kind p) v u)) ↔ Came w (LastInSlot (latestSlot (kind p) v u)) es 0 (due t)
       column =
           let l = latest-below p hv hu in
           (λ k. x .column (latestSlot (kind p) v u) l .cells (due t) (due-in ht) .0 (record { knows = k }), λ c. x .column (latestSlot (kind p) v u) l .cells (due t) (due-in ht) .1 c .knows)
@@ -229,7 +229,7 @@ module _ {w : Filling} {es : List Event} {b last : List ℕ} (p : Op) {t v u : �
           T (not (setApart b last (kind p) t v u)) ↔ Reach w e after (due t)
       tells {i} {e} {after} q a n = (λ y. came (column .0 (known (passed test y))), λ r. passes test (λ y. y .1 (column .1 (record { j = i; e = e; after = after; recent = zero-le; occurs = q; chosen = kept; reach = r }))))
         where
-          kept : KeptIn (latestSlot (kind p) v u) e after
+          kept : LastInSlot (latestSlot (kind p) v u) e after
           kept = kept-at p h hv hu n q
 
           known : ¬ ((0 < latestNumber last (kind p) v u) × (¬ T (hasSlot b t (latestSlot (kind p) v u)))) → T (hasSlot b t (latestSlot (kind p) v u))
@@ -239,7 +239,7 @@ module _ {w : Filling} {es : List Event} {b last : List ℕ} (p : Op) {t v u : �
               decided (right y) = y
               decided (wrong m) = absurd (f (omega arith, m))
 
-          came : Came w (KeptIn (latestSlot (kind p) v u)) es 0 (due t) → Reach w e after (due t)
+          came : Came w (LastInSlot (latestSlot (kind p) v u)) es 0 (due t) → Reach w e after (due t)
           came d = occurs-same (λ e after. Reach w e after (due t)) q (occurs-there (one-kept q kept (d .occurs) (d .chosen)) (d .occurs)) (d .reach)
 
 -- By rows

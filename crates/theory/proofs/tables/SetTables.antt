@@ -8,7 +8,7 @@ use native.Mathlib.Omega.{arith}
 use lib.Bits.{bitOr}
 use lib.Dec.{T, eqb}
 use lib.ListN.{length, replicate}
-use Rattle.theory.specs.order.Recording.{Op, Event, act, lost, series, kind, kindAt}
+use Rattle.theory.specs.order.Recording.{Op, Event, act, lost, series, kind, numberedKind}
 use Rattle.theory.specs.fillings.Completion.{bit, Filling, fills}
 use Rattle.theory.specs.tables.Rows.{cellCount, cell, noteActed, mark, hub, rowCount, actedRow}
 use Rattle.theory.specs.history.History.{askers, asker, kindClashes, slot, slots, underEach}
@@ -24,14 +24,14 @@ use Rattle.theory.proofs.tables.Nodes.{row, InRange, due-in, row-below,
 use Rattle.theory.proofs.order.Tests.{Some, some-snoc, snoc-some, snoc-last}
 use Rattle.theory.proofs.fillings.Came.{Came, Newly}
 use Rattle.theory.proofs.fillings.HasActed.{Acted}
-use Rattle.theory.proofs.tables.Exact.{Filled-in, Exact, Owned, ExactActed, exact-act, exact-mark, fresh-exact, acted-same, acted-act, acted-mark, fresh-acted}
+use Rattle.theory.proofs.tables.Exact.{ProperMask, Exact, Owned, ExactActed, exact-act, exact-mark, fresh-exact, acted-same, acted-act, acted-mark, fresh-acted}
 use Rattle.theory.proofs.history.Slots.{InSlot, slot-below, kept-on, Under, WroteTo, under-each, in-under, under-in, no-slot-mark}
 
 -- Definition
 
 -- a set's column follows the access that its slot keeps: the latest in the slot
-abbrev pub KeptIn : ℕ → Event → List Event → Type 0
-KeptIn s e after = InSlot s e × (¬ Some (InSlot s) after)
+abbrev pub LastInSlot : ℕ → Event → List Event → Type 0
+LastInSlot s e after = InSlot s e × (¬ Some (InSlot s) after)
 
 -- a word knows of a slot where it has the slot's bit
 abbrev pub HasBit : ℕ → ℕ → Type 0
@@ -39,7 +39,7 @@ HasBit s x = T (bit x (slotPlace s))
 
 pub record ExactSets (w : Filling) (es : List Event) (b : List ℕ) : Type 0 where
   pub sized : Sized slotWords b
-  pub column : (s : ℕ) → s < slots → Exact (HasBit s) w (KeptIn s) es slotWords b 0 (slotWord s)
+  pub column : (s : ℕ) → s < slots → Exact (HasBit s) w (LastInSlot s) es slotWords b 0 (slotWord s)
   pub acting : ExactActed w es slotWords b
 
 word-below : {s : ℕ} → s < slots → slotWord s < slotWords
@@ -48,7 +48,7 @@ word-below h = omega arith
 -- Acts
 
 -- a later record displaces the access only where it is in the slot itself
-keeps : (s : ℕ) (x e : Event) (after : List Event) → KeptIn s e (after ++ (x ∷ [])) ↔ ((¬ InSlot s x) × KeptIn s e after)
+keeps : (s : ℕ) (x e : Event) (after : List Event) → LastInSlot s e (after ++ (x ∷ [])) ↔ ((¬ InSlot s x) × LastInSlot s e after)
 keeps s x e after = (λ k. (λ q. k .1 (snoc-last after x q), (k .0, λ q. k .1 (snoc-some x q))), λ k. (k .1 .0, λ q. apart (k .0) (k .1 .1) (some-snoc after q)))
   where
     apart : ¬ InSlot s x → ¬ Some (InSlot s) after → Some (InSlot s) after ⊎ InSlot s x → ⊥
@@ -58,7 +58,7 @@ keeps s x e after = (λ k. (λ q. k .1 (snoc-last after x q), (k .0, λ q. k .1 
 module _ {w : Filling} {es : List Event} {b : List ℕ} {t n : ℕ} (o : Op) (x : ExactSets w es b) (ht : t < tasks) (hn : n < series o) where
   -- a slot that the act is not in
   unowned : {b′ : List ℕ} (s : ℕ) → s < slots → ¬ InSlot s (act o t n) → ((r : ℕ) → r < rowCount → hasSlot b′ r s ≡ hasSlot b r s) →
-      Owned (HasBit s) w (KeptIn s) (¬ InSlot s (act o t n)) es (act o t n) t slotWords b′ 0 (slotWord s)
+      Owned (HasBit s) w (LastInSlot s) (¬ InSlot s (act o t n)) es (act o t n) t slotWords b′ 0 (slotWord s)
   unowned {b′} s l out same =
       record {
         cells = λ m r. (λ a. inl (out, x .column s l .cells m r .0 (known (row m) (near r) .0 a)), λ y. known (row m) (near r) .1 (before m r y));
@@ -71,28 +71,28 @@ module _ {w : Filling} {es : List Event} {b : List ℕ} {t n : ℕ} (o : Op) (x 
       known : (r : ℕ) → r < rowCount → Knows (HasBit s) slotWords b′ r (slotWord s) ↔ Knows (HasBit s) slotWords b r (slotWord s)
       known r h = (λ a. record { knows = subst T (same r h) (a .knows) }, λ a. record { knows = subst T (sym (same r h)) (a .knows) })
 
-      before : (m : Node) → InRange m → ((¬ InSlot s (act o t n)) × Came w (KeptIn s) es 0 m) ⊎ (Newly (KeptIn s) es (act o t n) 0 × (m ≡ due t)) → Knows (HasBit s) slotWords b (row m) (slotWord s)
+      before : (m : Node) → InRange m → ((¬ InSlot s (act o t n)) × Came w (LastInSlot s) es 0 m) ⊎ (Newly (LastInSlot s) es (act o t n) 0 × (m ≡ due t)) → Knows (HasBit s) slotWords b (row m) (slotWord s)
       before m r (inl (_, d)) = x .column s l .cells m r .1 d
       before m r (inr ((_, (q, _)), e)) = absurd (out q)
 
   -- a slot that the act is in starts anew: its own row has it, and no other
   own-slot : {b′ : List ℕ} (s : ℕ) → s < slots → InSlot s (act o t n) → hasSlot b′ t s ≡ true → ((r : ℕ) → r < rowCount → r ≢ t → hasSlot b′ r s ≡ false) →
-      Owned (HasBit s) w (KeptIn s) (¬ InSlot s (act o t n)) es (act o t n) t slotWords b′ 0 (slotWord s)
+      Owned (HasBit s) w (LastInSlot s) (¬ InSlot s (act o t n)) es (act o t n) t slotWords b′ 0 (slotWord s)
   own-slot {b′} s l inside here elsewhere =
       record { cells = λ m r. decided m r (equal (row m) t); hub = λ _. (λ y. absurd (cleared hub (omega arith) (λ e. omega arith) y), λ y. absurd (y .0 inside)) }
     where
-      newly : Newly (KeptIn s) es (act o t n) 0
+      newly : Newly (LastInSlot s) es (act o t n) 0
       newly = (zero-le, (inside, λ q. elim q [ ]))
 
       cleared : (r : ℕ) → r < rowCount → ¬ (r ≡ t) → ¬ Knows (HasBit s) slotWords b′ r (slotWord s)
       cleared r h apart y = subst T (elsewhere r h apart) (y .knows)
 
       decided : {c : Bool} (m : Node) → InRange m → Reflects (row m ≡ t) c →
-          Knows (HasBit s) slotWords b′ (row m) (slotWord s) ↔ (((¬ InSlot s (act o t n)) × Came w (KeptIn s) es 0 m) ⊎ (Newly (KeptIn s) es (act o t n) 0 × (m ≡ due t)))
+          Knows (HasBit s) slotWords b′ (row m) (slotWord s) ↔ (((¬ InSlot s (act o t n)) × Came w (LastInSlot s) es 0 m) ⊎ (Newly (LastInSlot s) es (act o t n) 0 × (m ≡ due t)))
       decided m r (right q) = (λ y. inr (newly, row-one r (due-in ht) q), λ y. record { knows = rw q (subst T (sym here) tt) })
       decided m r (wrong apart) = (λ y. let h = row-below r in absurd (cleared (row m) (omega arith) apart y), λ y. absurd (none y))
         where
-          none : ((¬ InSlot s (act o t n)) × Came w (KeptIn s) es 0 m) ⊎ (Newly (KeptIn s) es (act o t n) 0 × (m ≡ due t)) → ⊥
+          none : ((¬ InSlot s (act o t n)) × Came w (LastInSlot s) es 0 m) ⊎ (Newly (LastInSlot s) es (act o t n) 0 × (m ≡ due t)) → ⊥
           none (inl (out, _)) = out inside
           none (inr (_, q)) = apart (ap row q)
 
@@ -133,12 +133,12 @@ module _ {w : Filling} {es : List Event} {b : List ℕ} {t n : ℕ} (o : Op) (x 
       (record { sized = x .sized; acted = λ u h. refl })
       (record { same = λ r h. refl })
     where
-      below : (a : ℕ) → a < length askers → T (kindClashes (kindAt (kind o)) (asker a)) → slot a n t < slots
+      below : (a : ℕ) → a < length askers → T (kindClashes (numberedKind (kind o)) (asker a)) → slot a n t < slots
       below a ha c = slot-below ha (kept-on o a hn c) ht
 
   record Own (b′ : List ℕ) : Type 0 where
     sized : Sized slotWords b′
-    column : (s : ℕ) → s < slots → Owned (HasBit s) w (KeptIn s) (¬ InSlot s (act o t n)) es (act o t n) t slotWords b′ 0 (slotWord s)
+    column : (s : ℕ) → s < slots → Owned (HasBit s) w (LastInSlot s) (¬ InSlot s (act o t n)) es (act o t n) t slotWords b′ 0 (slotWord s)
     acted : (u : ℕ) → u < tasks → cell slotWords b′ actedRow u ≡ cell slotWords b actedRow u
 
   own-part : Own own-table
@@ -146,12 +146,12 @@ module _ {w : Filling} {es : List Event} {b : List ℕ} {t n : ℕ} (o : Op) (x 
     where
       of : (s : ℕ) → s < slots →
           (Under afresh (kind o) n t (length askers) s × Begun s own-table) ⊎ ((¬ Under afresh (kind o) n t (length askers) s) × Kept s own-table) →
-          Owned (HasBit s) w (KeptIn s) (¬ InSlot s (act o t n)) es (act o t n) t slotWords own-table 0 (slotWord s)
+          Owned (HasBit s) w (LastInSlot s) (¬ InSlot s (act o t n)) es (act o t n) t slotWords own-table 0 (slotWord s)
       of s l (inl (y, z)) = own-slot s l (under-in o ht hn y) (z .here) (z .elsewhere)
       of s l (inr (y, z)) = unowned s l (λ q. y (in-under q)) (z .same)
 
   -- noting it changes no other row
-  noted : {b′ : List ℕ} → Own b′ → (s : ℕ) → s < slots → Owned (HasBit s) w (KeptIn s) (¬ InSlot s (act o t n)) es (act o t n) t slotWords (noteActed slotWords t b′) 0 (slotWord s)
+  noted : {b′ : List ℕ} → Own b′ → (s : ℕ) → s < slots → Owned (HasBit s) w (LastInSlot s) (¬ InSlot s (act o t n)) es (act o t n) t slotWords (noteActed slotWords t b′) 0 (slotWord s)
   noted {b′} y s l =
       record {
         cells = λ m r. (λ a. y .column s l .cells m r .0 (same (row m) (near r) .0 a), λ d. same (row m) (near r) .1 (y .column s l .cells m r .1 d));
@@ -180,7 +180,7 @@ module _ {w : Filling} {es : List Event} {b : List ℕ} {t n : ℕ} (o : Op) (x 
 
 -- Marks
 
-pub sets-mark : {w : Filling} {es : List Event} {b : List ℕ} (mask : ℕ) → (¬ (w mask ≡ 0) → T (fills w)) → Filled-in (w mask) → ExactSets w es b → ExactSets w (es ++ (lost mask ∷ [])) (mark bitOr slotWords (w mask) b)
+pub sets-mark : {w : Filling} {es : List Event} {b : List ℕ} (mask : ℕ) → (¬ (w mask ≡ 0) → T (fills w)) → ProperMask (w mask) → ExactSets w es b → ExactSets w (es ++ (lost mask ∷ [])) (mark bitOr slotWords (w mask) b)
 sets-mark {w} mask asked f x =
     record {
       sized = sized-mark (x .sized) bitOr (w mask);

@@ -13,16 +13,16 @@ use lib.Seq.{getD-set-other}
 use Rattle.theory.specs.declared.record.Record.{Record}
 use Rattle.theory.specs.order.Limits.{variables, records}
 use Rattle.theory.specs.order.Recording.{Event, act, lost, kind, eventOf, isAccess}
-use Rattle.theory.specs.acceptance.Table.{standing, refusal, recordedAfter, extended, recording}
+use Rattle.theory.specs.acceptance.Table.{standing, refusal, appendUnless, extended, recording}
 use Rattle.theory.specs.acceptance.Control.{counted, controlAfter}
 use Rattle.theory.specs.verdicts.Verdict.{Verdict, Race, Clear, Doubt}
 use Rattle.theory.specs.verdicts.Search.{judge}
-use Rattle.theory.specs.tables.Reckonings.{bitOf}
+use Rattle.theory.specs.tables.Reckonings.{indicator}
 use Rattle.theory.specs.feeding.Meaning.{Meaning, refuses, takes, judges, meaning}
 use Rattle.theory.specs.feeding.Step.{freshControl, freshState, freshSets, stepOf, setStepOf}
-use Rattle.theory.specs.feeding.Feeding.{Checker, replies, runs, afterAll, byClocks, bySets, rowFor, answerTo, answerBy, acceptedAnswer}
+use Rattle.theory.specs.feeding.Feeding.{Checker, replies, runs, afterAll, byClocks, bySets, checkerRefusal, answerTo, answerUnless, acceptedAnswer}
 use Rattle.theory.specs.totals.Totals.{racesAt, totalAt, verdictPlace, total, races, anyRace, totalled, controlCells}
-use Rattle.theory.specs.totals.Counting.{counts, given, accessesTo, isRace, SomeRace, race-now, race-later, KeepsTotals}
+use Rattle.theory.specs.totals.Counting.{counts, given, accessCount, isRace, SomeRace, race-now, race-later, KeepsTotals}
 use Rattle.theory.proofs.basics.Reflects.{Reflects, right, wrong, by-test, is-true}
 use Rattle.theory.proofs.order.Ops.{event-act}
 use Rattle.theory.proofs.acceptance.Rows.{allowed}
@@ -41,10 +41,10 @@ record Below (es : List Event) (control : List ℕ) : Type 0 where
 -- what feeding a record does to the totals, and to the bound
 record Went (es′ : List Event) (control after : List ℕ) (r : Record) (m : Meaning) : Type 0 where
   totals : (w : Verdict) (v : ℕ) → v < variables → total w v after ≡ total w v control + counts w v r m
-  of-races : races after ≡ races control + bitOf (isRace m)
+  of-races : races after ≡ races control + indicator (isRace m)
   below : Below es′ after
 
-bit-at-most : (b : Bool) → bitOf b ≤ 1
+bit-at-most : (b : Bool) → indicator b ≤ 1
 bit-at-most true = omega arith
 bit-at-most false = omega arith
 
@@ -79,31 +79,31 @@ went-nowhere r n b = record { totals = λ w v hv. omega arith; of-races = omega 
 -- how many of the answers are Races
 abbrev raceCount : List Meaning → ℕ
 raceCount [] = 0
-raceCount (m ∷ answers) = bitOf (isRace m) + raceCount answers
+raceCount (m ∷ answers) = indicator (isRace m) + raceCount answers
 
 -- of a checker that keeps its totals so
 record Keeps {S : Type 0} (c : Checker S) (R : List Event → S → Type 0) : Type 0 where
   simulates : Simulates c R
   exact : (es : List Event) (s : S) → R es s → ExactControl es (c .control s)
-  taken : (s : S) (r : Record) → rowFor c s r ≡ 0 → c .control (c .next s r) ≡ totalled (meaning (c .answer s r)) (r .on) (controlAfter (r .kind) (r .on) (c .control s))
-  refused : (s : S) (r : Record) (n : ℕ) → rowFor c s r ≡ suc n → c .next s r ≡ s
+  taken : (s : S) (r : Record) → checkerRefusal c s r ≡ 0 → c .control (c .next s r) ≡ totalled (meaning (c .answer s r)) (r .on) (controlAfter (r .kind) (r .on) (c .control s))
+  refused : (s : S) (r : Record) (n : ℕ) → checkerRefusal c s r ≡ suc n → c .next s r ≡ s
 
 module _ {S : Type 0} {c : Checker S} {R : List Event → S → Type 0} (k : Keeps c R) where
   went : (es : List Event) (s : S) (r : Record) → R es s → Below es (c .control s) →
-      Went (recordedAfter es r (refusal es r)) (c .control s) (c .control (c .next s r)) r (meaning (c .answer s r))
+      Went (appendUnless es r (refusal es r)) (c .control s) (c .control (c .next s r)) r (meaning (c .answer s r))
   went es s r x b = decided (refusal es r) refl
     where
       answer : meaning (c .answer s r) ≡ answerTo es r
       answer = k .simulates .steps es s r x .0
 
-      row : rowFor c s r ≡ refusal es r
+      row : checkerRefusal c s r ≡ refusal es r
       row = same-refusal (k .exact es s x) r
 
-      decided : (n : ℕ) → refusal es r ≡ n → Went (recordedAfter es r n) (c .control s) (c .control (c .next s r)) r (meaning (c .answer s r))
+      decided : (n : ℕ) → refusal es r ≡ n → Went (appendUnless es r n) (c .control s) (c .control (c .next s r)) r (meaning (c .answer s r))
       decided zero e =
-          let a : meaning (c .answer s r) ≡ acceptedAnswer es (eventOf r) = answer ∙ ap (answerBy es r) e in
+          let a : meaning (c .answer s r) ≡ acceptedAnswer es (eventOf r) = answer ∙ ap (answerUnless es r) e in
           rw (k .taken s r (row ∙ e), a) (went-on (eventOf r) (allowed (standing es) r e .room) b (moved-by (k .exact es s x) (shape-of es r e)))
-      decided (suc n) e = rw (k .refused s r n (row ∙ e), answer ∙ ap (answerBy es r) e) (went-nowhere r (suc n) b)
+      decided (suc n) e = rw (k .refused s r n (row ∙ e), answer ∙ ap (answerUnless es r) e) (went-nowhere r (suc n) b)
 
   -- after a list, from any such state
   totals-from : (es : List Event) (s : S) (rs : List Record) → R es s → Below es (c .control s) → (w : Verdict) (v : ℕ) → v < variables →
@@ -111,7 +111,7 @@ module _ {S : Type 0} {c : Checker S} {R : List Event → S → Type 0} (k : Kee
   totals-from es s [] x b w v hv = omega arith
   totals-from es s (r ∷ rs) x b w v hv =
       let y = went es s r x b in
-      let p = totals-from (recordedAfter es r (refusal es r)) (c .next s r) rs (k .simulates .steps es s r x .1) (y .below) w v hv in
+      let p = totals-from (appendUnless es r (refusal es r)) (c .next s r) rs (k .simulates .steps es s r x .1) (y .below) w v hv in
       let q = y .totals w v hv in
       omega (arith, p, q)
 
@@ -120,17 +120,17 @@ module _ {S : Type 0} {c : Checker S} {R : List Event → S → Type 0} (k : Kee
   races-from es s [] x b = omega arith
   races-from es s (r ∷ rs) x b =
       let y = went es s r x b in
-      let p = races-from (recordedAfter es r (refusal es r)) (c .next s r) rs (k .simulates .steps es s r x .1) (y .below) in
+      let p = races-from (appendUnless es r (refusal es r)) (c .next s r) rs (k .simulates .steps es s r x .1) (y .below) in
       let q = y .of-races in
       omega (arith, p, q)
 
 -- The sum over the verdicts, counted from the recording
 
 abbrev accessBit : ℕ → Event → ℕ
-accessBit v (act o t n) = bitOf (isAccess o && eqb n v)
+accessBit v (act o t n) = indicator (isAccess o && eqb n v)
 accessBit v (lost mask) = 0
 
-accesses-snoc : (v : ℕ) (es : List Event) (e : Event) → accessesTo v (es ++ (e ∷ [])) ≡ accessesTo v es + accessBit v e
+accesses-snoc : (v : ℕ) (es : List Event) (e : Event) → accessCount v (es ++ (e ∷ [])) ≡ accessCount v es + accessBit v e
 accesses-snoc v [] (act o t n) = omega arith
 accesses-snoc v [] (lost mask) = refl
 accesses-snoc v (act o t n ∷ es) e = let p = accesses-snoc v es e in omega (arith, p)
@@ -140,7 +140,7 @@ accesses-snoc v (lost mask ∷ es) e = accesses-snoc v es e
 abbrev threeCounts : ℕ → Record → Meaning → ℕ
 threeCounts v r m = counts Clear v r m + counts Race v r m + counts Doubt v r m
 
-one-of-three : (v : ℕ) (r : Record) (n : ℕ) (x : Verdict) (p : ℕ) → threeCounts v r (judges n x p) ≡ bitOf (eqb (r .on) v)
+one-of-three : (v : ℕ) (r : Record) (n : ℕ) (x : Verdict) (p : ℕ) → threeCounts v r (judges n x p) ≡ indicator (eqb (r .on) v)
 one-of-three v r n Clear p = omega arith
 one-of-three v r n Race p = omega arith
 one-of-three v r n Doubt p = omega arith
@@ -162,20 +162,20 @@ abbrev threeGiven : ℕ → List Record → List Meaning → ℕ
 threeGiven v rs answers = given Clear v rs answers + given Race v rs answers + given Doubt v rs answers
 
 module _ {S : Type 0} {c : Checker S} {R : List Event → S → Type 0} (k : Keeps c R) (v : ℕ) where
-  sum-step : (es : List Event) (s : S) (r : Record) → R es s → accessesTo v (recordedAfter es r (refusal es r)) ≡ accessesTo v es + threeCounts v r (meaning (c .answer s r))
+  sum-step : (es : List Event) (s : S) (r : Record) → R es s → accessCount v (appendUnless es r (refusal es r)) ≡ accessCount v es + threeCounts v r (meaning (c .answer s r))
   sum-step es s r x = decided (refusal es r) refl
     where
       answer : meaning (c .answer s r) ≡ answerTo es r
       answer = k .simulates .steps es s r x .0
 
-      decided : (n : ℕ) → refusal es r ≡ n → accessesTo v (recordedAfter es r n) ≡ accessesTo v es + threeCounts v r (meaning (c .answer s r))
-      decided zero e = rw (answer ∙ ap (answerBy es r) e, counted-as v (shape-of es r e)) (accesses-snoc v es (eventOf r))
-      decided (suc n) e = rw (answer ∙ ap (answerBy es r) e) (let z : accessesTo v es ≡ accessesTo v es + 0 = omega arith in z)
+      decided : (n : ℕ) → refusal es r ≡ n → accessCount v (appendUnless es r n) ≡ accessCount v es + threeCounts v r (meaning (c .answer s r))
+      decided zero e = rw (answer ∙ ap (answerUnless es r) e, counted-as v (shape-of es r e)) (accesses-snoc v es (eventOf r))
+      decided (suc n) e = rw (answer ∙ ap (answerUnless es r) e) (let z : accessCount v es ≡ accessCount v es + 0 = omega arith in z)
 
-  sum-from : (es : List Event) (s : S) (rs : List Record) → R es s → accessesTo v (extended es rs) ≡ accessesTo v es + threeGiven v rs (map meaning (replies c s rs))
+  sum-from : (es : List Event) (s : S) (rs : List Record) → R es s → accessCount v (extended es rs) ≡ accessCount v es + threeGiven v rs (map meaning (replies c s rs))
   sum-from es s [] x = omega arith
   sum-from es s (r ∷ rs) x =
-      let p = sum-from (recordedAfter es r (refusal es r)) (c .next s r) rs (k .simulates .steps es s r x .1) in
+      let p = sum-from (appendUnless es r (refusal es r)) (c .next s r) rs (k .simulates .steps es s r x .1) in
       let q = sum-step es s r x in
       omega (arith, p, q)
 
@@ -185,14 +185,14 @@ some-race : (answers : List Meaning) → (0 < raceCount answers) ↔ SomeRace an
 some-race [] = (λ h. absurd (omega arith), λ x. elim x [ ])
 some-race (m ∷ answers) = (λ h. decided (some-race answers) h (by-test (isRace m)), there (some-race answers))
   where
-    decided : {b : Bool} → (0 < raceCount answers) ↔ SomeRace answers → 0 < bitOf (isRace m) + raceCount answers → Reflects (T (isRace m)) b → SomeRace (m ∷ answers)
+    decided : {b : Bool} → (0 < raceCount answers) ↔ SomeRace answers → 0 < indicator (isRace m) + raceCount answers → Reflects (T (isRace m)) b → SomeRace (m ∷ answers)
     decided rest h (right y) = race-now y
     decided rest h (wrong n) =
         let e : isRace m ≡ false = bool-false n in
-        let l : 0 < bitOf false + raceCount answers = subst (λ (b : Bool). 0 < bitOf b + raceCount answers) e h in
+        let l : 0 < indicator false + raceCount answers = subst (λ (b : Bool). 0 < indicator b + raceCount answers) e h in
         race-later (rest .0 (omega arith))
 
-    there : (0 < raceCount answers) ↔ SomeRace answers → SomeRace (m ∷ answers) → 0 < bitOf (isRace m) + raceCount answers
+    there : (0 < raceCount answers) ↔ SomeRace answers → SomeRace (m ∷ answers) → 0 < indicator (isRace m) + raceCount answers
     there rest (race-now y) = let e : isRace m ≡ true = is-true (by-test (isRace m)) y in rw e (omega arith)
     there rest (race-later y) = let l = rest .1 y in omega arith
 
@@ -223,7 +223,7 @@ module _ {S : Type 0} {c : Checker S} {R : List Event → S → Type 0} (k : Kee
       each : (w : Verdict) (v : ℕ) → v < variables → total w v after ≡ given w v rs answers
       each w v hv = let p = totals-from k [] (c .fresh) rs (k .simulates .begins) below w v hv in omega (arith, p, no-total w v hv)
 
-      sum : (v : ℕ) → v < variables → total Clear v after + total Race v after + total Doubt v after ≡ accessesTo v (recording rs)
+      sum : (v : ℕ) → v < variables → total Clear v after + total Race v after + total Doubt v after ≡ accessCount v (recording rs)
       sum v hv = let p = sum-from k v [] (c .fresh) rs (k .simulates .begins) in omega (arith, p, each Clear v hv, each Race v hv, each Doubt v hv)
 
       counted-races : races after ≡ raceCount answers

@@ -11,11 +11,11 @@ use lib.ListN.{length, getD, set, length-set}
 use lib.Seq.{getD-set-other}
 use Rattle.theory.specs.declared.record.Record.{Record}
 use Rattle.theory.specs.order.Limits.{tasks, variables}
-use Rattle.theory.specs.order.Recording.{start, join, Event, act, kind, lossMark, seriesOf, eventOf, isAccess}
+use Rattle.theory.specs.order.Recording.{start, join, Event, act, kind, lossMark, kindSeries, eventOf, isAccess}
 use Rattle.theory.specs.acceptance.Control.{countAt, counted, controlAfter}
 use Rattle.theory.specs.verdicts.Verdict.{Verdict, Race, Clear, Doubt}
 use Rattle.theory.specs.verdicts.Search.{judge}
-use Rattle.theory.specs.tables.Reckonings.{bitOf}
+use Rattle.theory.specs.tables.Reckonings.{indicator}
 use Rattle.theory.specs.feeding.Meaning.{Meaning, takes, judges}
 use Rattle.theory.specs.feeding.Feeding.{acceptedAnswer}
 use Rattle.theory.specs.totals.Totals.{racesAt, totalAt, verdictPlace, total, races, oneMore, raise, withVerdict, totalled, controlCells}
@@ -42,13 +42,13 @@ place-below Doubt = omega arith
 
 module _ (control : List ℕ) (size : length control ≡ controlCells) where
   total-raised : (w x : Verdict) (v u : ℕ) → v < variables → u < variables → Room (total w v control) →
-      total w v (raise (totalAt x u) control) ≡ total w v control + bitOf (eqb (verdictPlace x) (verdictPlace w) && eqb u v)
+      total w v (raise (totalAt x u) control) ≡ total w v control + indicator (eqb (verdictPlace x) (verdictPlace w) && eqb u v)
   total-raised w x v u hv hu room = decided (both (equal (verdictPlace x) (verdictPlace w)) (equal u v))
     where
       p : verdictPlace w < 3
       p = place-below w
 
-      decided : {b : Bool} → Reflects ((verdictPlace x ≡ verdictPlace w) × (u ≡ v)) b → total w v (raise (totalAt x u) control) ≡ total w v control + bitOf b
+      decided : {b : Bool} → Reflects ((verdictPlace x ≡ verdictPlace w) × (u ≡ v)) b → total w v (raise (totalAt x u) control) ≡ total w v control + indicator b
       decided (right (e, f)) = rw (e, f) (raise-same (totalAt w v) control (omega (arith, p, size)) ∙ one-more (total w v control) room)
       decided (wrong n) =
           let d : totalAt w v ≢ totalAt x u = λ q. n (omega (arith, q, p, place-below x), omega (arith, q, p, place-below x)) in
@@ -61,21 +61,21 @@ module _ (control : List ℕ) (size : length control ≡ controlCells) where
 
 module _ (control : List ℕ) (size : length control ≡ controlCells) (x : Verdict) (u : ℕ) (hu : u < variables) where
   total-verdict : (w : Verdict) (v : ℕ) → v < variables → Room (total w v control) →
-      total w v (withVerdict x u control) ≡ total w v control + bitOf (eqb (verdictPlace x) (verdictPlace w) && eqb u v)
+      total w v (withVerdict x u control) ≡ total w v control + indicator (eqb (verdictPlace x) (verdictPlace w) && eqb u v)
   total-verdict w v hv room = by x
     where
-      by : (x : Verdict) → total w v (withVerdict x u control) ≡ total w v control + bitOf (eqb (verdictPlace x) (verdictPlace w) && eqb u v)
+      by : (x : Verdict) → total w v (withVerdict x u control) ≡ total w v control + indicator (eqb (verdictPlace x) (verdictPlace w) && eqb u v)
       by Clear = total-raised control size w Clear v u hv hu room
       by Doubt = total-raised control size w Doubt v u hv hu room
       by Race = raise-other racesAt (totalAt w v) (raise (totalAt Race u) control) (λ q. omega arith) ∙ total-raised control size w Race v u hv hu room
 
-  races-verdict : Room (races control) → races (withVerdict x u control) ≡ races control + bitOf (eqb (verdictPlace x) (verdictPlace Race))
+  races-verdict : Room (races control) → races (withVerdict x u control) ≡ races control + indicator (eqb (verdictPlace x) (verdictPlace Race))
   races-verdict room = by x
     where
       none : {n m : ℕ} → m ≡ n → m ≡ n + 0
       none e = omega arith
 
-      by : (x : Verdict) → races (withVerdict x u control) ≡ races control + bitOf (eqb (verdictPlace x) (verdictPlace Race))
+      by : (x : Verdict) → races (withVerdict x u control) ≡ races control + indicator (eqb (verdictPlace x) (verdictPlace Race))
       by Clear = none (races-raised control size Clear u)
       by Doubt = none (races-raised control size Doubt u)
       by Race =
@@ -87,7 +87,7 @@ module _ (control : List ℕ) (size : length control ≡ controlCells) (x : Verd
 -- what it was answered moves the totals by what is counted of it
 pub record Moved (control after : List ℕ) (r : Record) (m : Meaning) : Type 0 where
   pub totals : (w : Verdict) (v : ℕ) → v < variables → Room (total w v control) → total w v after ≡ total w v control + counts w v r m
-  pub of-races : Room (races control) → races after ≡ races control + bitOf (isRace m)
+  pub of-races : Room (races control) → races after ≡ races control + indicator (isRace m)
 
 -- phases and count are noted elsewhere
 pub noted-elsewhere : (k on i : ℕ) (control : List ℕ) → countAt < i → (k ≡ kind start → on < tasks) → (k ≡ kind join → on < tasks) →
@@ -114,7 +114,7 @@ moved-access : {control after : List ℕ} → Noted control after → (r : Recor
 moved-access {control} {after} y r h n x p =
     record {
       totals = λ w v hv room. total-verdict after (y .size) x (r .on) h w v hv (subst Room (sym (kept w v)) room) ∙ ap (λ (k : ℕ). k + counts w v r (judges n x p)) (kept w v);
-      of-races = λ room. races-verdict after (y .size) x (r .on) h (subst Room (sym racing) room) ∙ ap (λ (k : ℕ). k + bitOf (isRace (judges n x p))) racing;
+      of-races = λ room. races-verdict after (y .size) x (r .on) h (subst Room (sym racing) room) ∙ ap (λ (k : ℕ). k + indicator (isRace (judges n x p))) racing;
     }
   where
     kept : (w : Verdict) (v : ℕ) → total w v after ≡ total w v control
@@ -159,8 +159,8 @@ module _ {es : List Event} {control : List ℕ} (x : ExactControl es control) wh
     where
       table : Noted control (controlAfter (kind o) n control)
       table =
-          noted-by (kind o) n x (after-length (kind o) n control) (λ e. subst (λ (k : ℕ). n < seriesOf k) e (a .fits .on-fits))
-          (λ e. subst (λ (k : ℕ). n < seriesOf k) e (a .fits .on-fits))
+          noted-by (kind o) n x (after-length (kind o) n control) (λ e. subst (λ (k : ℕ). n < kindSeries k) e (a .fits .on-fits))
+          (λ e. subst (λ (k : ℕ). n < kindSeries k) e (a .fits .on-fits))
 
       r : Record
       r = record { kind = kind o; task = t; on = n }

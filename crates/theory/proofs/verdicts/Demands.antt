@@ -13,7 +13,7 @@ use Rattle.theory.specs.order.Path.{Conflict, conflict}
 use Rattle.theory.specs.fillings.Completion.{Filled, done, keep, Completion, place, nothing, rounds, fullest}
 use Rattle.theory.specs.verdicts.Verdict.{Verdict, Race, Clear, Doubt, AccessAt, Earlier, Latest, Racy, Unordered, Partner, ApartInAll, ApartAsArrived, With, clear, race, doubt}
 use Rattle.theory.specs.verdicts.Demands.{Always, Never, Firm, Demand2, Demand3}
-use Rattle.theory.specs.verdicts.Search.{Found, partner, judged, judge, judgeAt, verdictAt}
+use Rattle.theory.specs.verdicts.Search.{Found, partner, judgement, judge, judgeAt, verdictAt}
 use Rattle.theory.proofs.order.Places.{Ends, ends, onward, at-ends}
 use Rattle.theory.proofs.fillings.Bounds.{arrived-completes, fullest-completes, path-survives, path-most, path-arrived, apart-as-arrived, apart-in-all}
 use Rattle.theory.proofs.verdicts.Latest.{latest-as-arrived, latest-in-completion}
@@ -46,7 +46,7 @@ pub data Ruling (es : List Event) (k : ℕ) : Verdict → ℕ → Type 0 where
 
 module _ {es before : List Event} {k : ℕ} {p : Op} {u m : ℕ} (d : Ends es k before (act p u m)) where
   ruled : {x y : Option Found} → Outcome rounds (act p u m) 1 before x → Outcome nothing (act p u m) 1 before y →
-      Ruling es k (judged x y .verdict) (judged x y .partner)
+      Ruling es k (judgement x y .verdict) (judgement x y .partner)
   ruled {x = some x} full arrived =
       let (i, e, q) = outcome-partner rounds (ApartInAll es k) d (λ i o t n mid s. apart-in-all d s) full in
       rw e (by-fullest q)

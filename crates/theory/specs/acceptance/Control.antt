@@ -8,7 +8,7 @@ use lib.ListN.{getD, set}
 use Rattle.theory.specs.declared.record.Record.{Record}
 use Rattle.theory.specs.order.Limits.{tasks}
 use Rattle.theory.specs.order.Recording.{Op, kind}
-use Rattle.theory.specs.acceptance.Table.{Standing, tableRow}
+use Rattle.theory.specs.acceptance.Table.{Standing, standingRefusal}
 
 abbrev pub liveIn : List ℕ → ℕ → Bool
 liveIn control t = eqb (getD control t 0) 1
@@ -28,7 +28,7 @@ controlStanding control = record { live = liveIn control; unseen = unseenIn cont
 
 -- the refusal of a record
 abbrev pub controlRefusal : List ℕ → Record → ℕ
-controlRefusal control r = tableRow (controlStanding control) r
+controlRefusal control r = standingRefusal (controlStanding control) r
 
 abbrev pub counted : List ℕ → List ℕ
 counted control = set control countAt (countIn control + 1)

@@ -9,7 +9,7 @@ use lib.ListN.{length}
 use Rattle.theory.specs.declared.record.Record.{Record}
 use Rattle.theory.specs.order.Limits.{tasks, records}
 use Rattle.theory.specs.tables.Turns.{turns}
-use Rattle.theory.specs.order.Recording.{Op, start, join, Effect, keeps, begins, ends, about, Event, act, lost, kind, kinds, lossMark, seriesOf, eventOf}
+use Rattle.theory.specs.order.Recording.{Op, start, join, Effect, keeps, begins, ends, about, Event, act, lost, kind, kinds, lossMark, kindSeries, eventOf}
 use Rattle.theory.specs.fillings.Completion.{names}
 
 -- a task is unseen until it is started, then live, then ended by a join
@@ -27,29 +27,29 @@ isUnseen live = false
 isUnseen ended = false
 
 -- the phase that a task comes to by an act that names it, from its phase before
-abbrev pub phaseBy : Effect → Phase → Phase
-phaseBy keeps p = p
-phaseBy begins p = live
-phaseBy ends p = ended
+abbrev pub applyEffect : Effect → Phase → Phase
+applyEffect keeps p = p
+applyEffect begins p = live
+applyEffect ends p = ended
 
 -- task t's phase after an event, from its phase before
-abbrev pub phaseAfter : Event → ℕ → Phase → Phase
-phaseAfter (act o u n) t p = cond (eqb n t) (phaseBy ((about o) .effect) p) p
-phaseAfter (lost mask) t p = p
+abbrev pub nextPhase : Event → ℕ → Phase → Phase
+nextPhase (act o u n) t p = cond (eqb n t) (applyEffect ((about o) .effect) p) p
+nextPhase (lost mask) t p = p
 
 -- task t's phase after a list of events, from its phase p before
-abbrev pub phaseFrom : Phase → List Event → ℕ → Phase
-phaseFrom p [] t = p
-phaseFrom p (e ∷ es) t = phaseFrom (phaseAfter e t p) es t
+abbrev pub laterPhase : Phase → List Event → ℕ → Phase
+laterPhase p [] t = p
+laterPhase p (e ∷ es) t = laterPhase (nextPhase e t p) es t
 
 -- task t's phase after a recording: task 0 is live in a fresh state, the others are unseen
 abbrev pub phase : List Event → ℕ → Phase
-phase es t = phaseFrom (cond (eqb t zero) live unseen) es t
+phase es t = laterPhase (cond (eqb t zero) live unseen) es t
 
 -- the numbers of an act are in their ranges
 pub record Fitting (k task on : ℕ) : Type 0 where
   pub task-fits : task < tasks
-  pub on-fits : on < seriesOf k
+  pub on-fits : on < kindSeries k
 
 -- what the code for an accepted record may rely on: an act's numbers are in their ranges, and a mark names somebody
 pub record Proper (k task on : ℕ) : Type 0 where
@@ -99,7 +99,7 @@ rows s r =
     -- acting task above 15
     ∷ (2 when (isAct r && leb tasks (r .task)))
     -- `on` outside its series
-    ∷ (3 when (isAct r && leb (seriesOf (r .kind)) (r .on)))
+    ∷ (3 when (isAct r && leb (kindSeries (r .kind)) (r .on)))
     -- mask 0 or above 65,535
     ∷ (4 when (isMark r && (eqb (r .on) 0 || leb (2 ^ tasks) (r .on))))
     -- 60,000 records are already accepted
@@ -124,25 +124,25 @@ firstRow [] = zero
 firstRow (x ∷ xs) = cond (x .applies) (x .number) (firstRow xs)
 
 -- the refusal that a record gets by the table; 0 where it is accepted
-unfoldable pub tableRow : Standing → Record → ℕ
-tableRow s r = firstRow (rows s r)
+unfoldable pub standingRefusal : Standing → Record → ℕ
+standingRefusal s r = firstRow (rows s r)
 
 -- after a recording
 abbrev pub standing : List Event → Standing
 standing es = record { live = λ t. isLive (phase es t); unseen = λ t. isUnseen (phase es t); count = length es }
 
 abbrev pub refusal : List Event → Record → ℕ
-refusal es r = tableRow (standing es) r
+refusal es r = standingRefusal (standing es) r
 
 -- the recording after a record was fed that got the refusal n: accepted records join it, refused ones leave it as it was
-abbrev pub recordedAfter : List Event → Record → ℕ → List Event
-recordedAfter es r zero = es ++ (eventOf r ∷ [])
-recordedAfter es r (suc n) = es
+abbrev pub appendUnless : List Event → Record → ℕ → List Event
+appendUnless es r zero = es ++ (eventOf r ∷ [])
+appendUnless es r (suc n) = es
 
 -- the recording after the records of a list were fed one after the other
 abbrev pub extended : List Event → List Record → List Event
 extended es [] = es
-extended es (r ∷ rs) = extended (recordedAfter es r (refusal es r)) rs
+extended es (r ∷ rs) = extended (appendUnless es r (refusal es r)) rs
 
 -- "recording": those records of a list, fed from a fresh state, that were accepted
 abbrev pub recording : List Record → List Event

@@ -11,7 +11,7 @@ use Rattle.theory.specs.declared.answer.Answer.{Answer}
 use Rattle.theory.specs.declared.state.State.{State}
 use Rattle.theory.specs.declared.state.SetState.{SetState}
 use Rattle.theory.specs.order.Recording.{Event, act, lost, kind, kinds, lossMark, Unmarked, eventOf, accesses}
-use Rattle.theory.specs.acceptance.Table.{lastRow, refusal, recordedAfter, recording}
+use Rattle.theory.specs.acceptance.Table.{lastRow, refusal, appendUnless, recording}
 use Rattle.theory.specs.verdicts.Verdict.{Verdict, Race, Clear, AccessAt, Unordered, With}
 use Rattle.theory.specs.verdicts.Demands.{Firm}
 use Rattle.theory.specs.verdicts.Search.{judge, isAccessEvent}
@@ -96,7 +96,7 @@ FedDemand2 answers = EachAccess answers (λ es k v w. Unmarked es → ((v ≡ Ra
 -- acceptance is that of the table: the accepted records are those to which no row applies, and a refused one gets the first row's number
 abbrev pub refusalsAfter : List Event → List Record → List ℕ
 refusalsAfter es [] = []
-refusalsAfter es (r ∷ rs) = refusal es r ∷ refusalsAfter (recordedAfter es r (refusal es r)) rs
+refusalsAfter es (r ∷ rs) = refusal es r ∷ refusalsAfter (appendUnless es r (refusal es r)) rs
 
 abbrev pub FedAcceptance : (List Record → List Answer) → Type 0
 FedAcceptance answers =
@@ -108,17 +108,17 @@ abbrev pub acceptedAnswer : List Event → Event → Meaning
 acceptedAnswer es e =
     cond (isAccessEvent e) (judges (suc (length es)) ((judge es e) .verdict) ((judge es e) .partner)) (takes (suc (length es)))
 
-abbrev pub answerBy : List Event → Record → ℕ → Meaning
-answerBy es r zero = acceptedAnswer es (eventOf r)
-answerBy es r (suc n) = refuses (suc n)
+abbrev pub answerUnless : List Event → Record → ℕ → Meaning
+answerUnless es r zero = acceptedAnswer es (eventOf r)
+answerUnless es r (suc n) = refuses (suc n)
 
 -- the answer to a record after a recording
 abbrev pub answerTo : List Event → Record → Meaning
-answerTo es r = answerBy es r (refusal es r)
+answerTo es r = answerUnless es r (refusal es r)
 
 abbrev pub answersFrom : List Event → List Record → List Meaning
 answersFrom es [] = []
-answersFrom es (r ∷ rs) = answerTo es r ∷ answersFrom (recordedAfter es r (refusal es r)) rs
+answersFrom es (r ∷ rs) = answerTo es r ∷ answersFrom (appendUnless es r (refusal es r)) rs
 
 -- the answers are those of the table and of the verdict's search, over the recording so far
 abbrev pub AnswersByTable : (List Record → List Answer) → Type 0
@@ -128,8 +128,8 @@ AnswersByTable answers = (rs : List Record) → map meaning (answers rs) ≡ ans
 -- otherwise", and the state is as it was; or it is taken in, an access with a verdict and any other with its record number
 
 -- the number of the first row of the table that applies to a record in a state; 0 where none does
-abbrev pub rowFor : {S : Type 0} → Checker S → S → Record → ℕ
-rowFor c s r = controlRefusal (c .control s) r
+abbrev pub checkerRefusal : {S : Type 0} → Checker S → S → Record → ℕ
+checkerRefusal c s r = controlRefusal (c .control s) r
 
 -- the number that an accepted record gets there
 abbrev pub numberFor : {S : Type 0} → Checker S → S → ℕ
@@ -141,18 +141,18 @@ Judged a n = (v : Verdict) × (w : ℕ) × (meaning a ≡ judges n v w)
 
 pub data Handled {S : Type 0} (c : Checker S) (s : S) (r : Record) : Type 0 where
   -- a row applies
-  refused : (n : ℕ) → rowFor c s r ≡ n → 1 ≤ n → n ≤ lastRow → meaning (c .answer s r) ≡ refuses n → c .next s r ≡ s → Handled c s r
+  refused : (n : ℕ) → checkerRefusal c s r ≡ n → 1 ≤ n → n ≤ lastRow → meaning (c .answer s r) ≡ refuses n → c .next s r ≡ s → Handled c s r
   -- none does, and it is an access
-  access-taken : rowFor c s r ≡ 0 → accesses (r .kind) ≡ true → Judged (c .answer s r) (numberFor c s) → Handled c s r
+  access-taken : checkerRefusal c s r ≡ 0 → accesses (r .kind) ≡ true → Judged (c .answer s r) (numberFor c s) → Handled c s r
   -- none does, and it is no access
-  other-taken : rowFor c s r ≡ 0 → accesses (r .kind) ≡ false → meaning (c .answer s r) ≡ takes (numberFor c s) → Handled c s r
+  other-taken : checkerRefusal c s r ≡ 0 → accesses (r .kind) ≡ false → meaning (c .answer s r) ≡ takes (numberFor c s) → Handled c s r
 
 abbrev pub Demand1 : {S : Type 0} → Checker S → Type 0
 Demand1 {S} c = (s : S) (r : Record) → Handled c s r
 
 -- "A user may now count on each access that passes rows 1 to 9 getting a verdict"
 abbrev pub GetsVerdict : {S : Type 0} → Checker S → Type 0
-GetsVerdict {S} c = (s : S) (r : Record) → accesses (r .kind) ≡ true → rowFor c s r ≡ 0 → Judged (c .answer s r) (numberFor c s)
+GetsVerdict {S} c = (s : S) (r : Record) → accesses (r .kind) ≡ true → checkerRefusal c s r ≡ 0 → Judged (c .answer s r) (numberFor c s)
 
 -- "A field that an op does not use is not looked at", by a checker
 
@@ -170,9 +170,9 @@ Overlooks {S} c = (s : S) (r r′ : Record) → SameUse r r′ → (c .answer s 
 -- The short recordings, fed
 
 -- an event as it is fed
-abbrev pub recordOf : Event → Record
-recordOf (act o t n) = record { kind = kind o; task = t; on = n }
-recordOf (lost mask) = record { kind = lossMark; task = 0; on = mask }
+abbrev pub eventRecord : Event → Record
+eventRecord (act o t n) = record { kind = kind o; task = t; on = n }
+eventRecord (lost mask) = record { kind = lossMark; task = 0; on = mask }
 
 -- the verdicts among the answers
 abbrev pub verdictsOf : List Meaning → List Search.Finding
@@ -181,7 +181,7 @@ verdictsOf (a ∷ answers) = verdictIn a ++ verdictsOf answers
 
 -- the recordings of Examples.antt, fed, give the verdicts that stand there
 abbrev pub FedExamples : (List Record → List Answer) → Type 0
-FedExamples answers = map (λ (x : Example). verdictsOf (map meaning (answers (map recordOf (x .events))))) table ≡ map (λ (x : Example). x .answered) table
+FedExamples answers = map (λ (x : Example). verdictsOf (map meaning (answers (map eventRecord (x .events))))) table ≡ map (λ (x : Example). x .answered) table
 
 -- All of these demands together, of whatever answers lists of records
 pub record Demanded (answers : List Record → List Answer) : Type 0 where

@@ -33,12 +33,12 @@ tables control last clocks fullclocks =
 
 -- The sets
 
-abbrev pub setsOf : List ℕ → List ℕ → List ℕ → List ℕ → SetState
-setsOf control last sets fullsets = record { control = control; last = last; sets = sets; fullsets = fullsets }
+abbrev pub setStateOf : List ℕ → List ℕ → List ℕ → List ℕ → SetState
+setStateOf control last sets fullsets = record { control = control; last = last; sets = sets; fullsets = fullsets }
 
 abbrev pub setTables : Lent (List ℕ) → Lent (List ℕ) → Lent (List ℕ) → Lent (List ℕ) → Twice SetState
 setTables control last sets fullsets =
     record {
-      entry = setsOf (now (control .entry)) (now (last .entry)) (now (sets .entry)) (now (fullsets .entry));
-      exit = setsOf (now (control .exit)) (now (last .exit)) (now (sets .exit)) (now (fullsets .exit));
+      entry = setStateOf (now (control .entry)) (now (last .entry)) (now (sets .entry)) (now (fullsets .entry));
+      exit = setStateOf (now (control .exit)) (now (last .exit)) (now (sets .exit)) (now (fullsets .exit));
     }

@@ -60,9 +60,9 @@ leftBy x = afterAll (x .checker) (x .checker .fresh)
 
 -- What Order has
 
--- `Kept es p v u i`: at place i of the recording stands task u's latest access to variable v that clashes with an access of op p, and no fresh of v
+-- `Retained es p v u i`: at place i of the recording stands task u's latest access to variable v that clashes with an access of op p, and no fresh of v
 -- stands after it
-pub record Kept (es : List Event) (p : Op) (v u i : ℕ) : Type 0 where
+pub record Retained (es : List Event) (p : Op) (v u i : ℕ) : Type 0 where
   pub op : Op
   pub at : At es i (act op u v)
   pub clash : T (clashes op p)
@@ -78,7 +78,7 @@ abbrev pub FullestPath : List Event → ℕ → ℕ → Type 0
 FullestPath es i k = HappensBefore (fullest es) (inFullest es i) (inFullest es k)
 
 -- of the records at places i and k "path" is said exactly where there is one, as it arrived and in the fullest filling
-pub record ExactAt (es : List Event) (i k : ℕ) (apart apartInFull : Bool) : Type 0 where
+pub record ExactBetween (es : List Event) (i k : ℕ) (apart apartInFull : Bool) : Type 0 where
   pub as-arrived : T (not apart) ↔ HappensBefore es i k
   pub in-fullest : T (not apartInFull) ↔ FullestPath es i k
 
@@ -88,8 +88,8 @@ pub record ExactAt (es : List Event) (i k : ℕ) (apart apartInFull : Bool) : Ty
 abbrev pub SaysPaths : {S : Type 0} → Reckoning S → S → List Event → Record → Type 0
 SaysPaths x s es r =
     (p : Op) (v u i : ℕ) →
-    Kept es p v u i →
-    ExactAt (es ++ (eventOf r ∷ [])) i (length es) (x .apart s (kind p) (r .task) v u) (x .apartInFull s (kind p) (r .task) v u)
+    Retained es p v u i →
+    ExactBetween (es ++ (eventOf r ∷ [])) i (length es) (x .apart s (kind p) (r .task) v u) (x .apartInFull s (kind p) (r .task) v u)
 
 -- order can come to a take, a look and a join from elsewhere than from their own task (steps 2, 3 and 5)
 abbrev pub acquiring : Op → Bool
@@ -98,7 +98,7 @@ acquiring o = o is take || o is look || o is join
 pub record PathsAfter {S : Type 0} (x : Reckoning S) (rs : List Record) : Type 0 where
   -- it keeps what it should
   pub keeps : (p : Op) (v u i : ℕ) → T (isAccess p) → v < variables → u < tasks →
-      (x .number (leftBy x rs) (kind p) v u ≡ suc i) ↔ Kept (recording rs) p v u i
+      (x .number (leftBy x rs) (kind p) v u ≡ suc i) ↔ Retained (recording rs) p v u i
   -- where it keeps no access, it says of none that it is apart
   pub keeps-none : (k t v u : ℕ) → x .number (leftBy x rs) k v u ≡ 0 →
       (x .apart (leftBy x rs) k t v u ≡ false) × (x .apartInFull (leftBy x rs) k t v u ≡ false)
@@ -117,13 +117,13 @@ ExactPaths x = (rs : List Record) → PathsAfter x rs
 -- What a host is told of an access that comes next
 
 -- task u's access to variable v that is kept for accesses of op p has no path to the record f that comes next
-abbrev pub KeptApart : (List Event → ℕ → ℕ → Type 0) → List Event → Event → Op → ℕ → ℕ → Type 0
-KeptApart Ordered es f p v u = (i : ℕ) × Kept es p v u i × (¬ Ordered (es ++ (f ∷ [])) i (length es))
+abbrev pub RetainedApart : (List Event → ℕ → ℕ → Type 0) → List Event → Event → Op → ℕ → ℕ → Type 0
+RetainedApart Ordered es f p v u = (i : ℕ) × Retained es p v u i × (¬ Ordered (es ++ (f ∷ [])) i (length es))
 
 -- the masks have the bits of the tasks whose access that is kept for the access r has no path to it
 pub record ExactMasks (es : List Event) (r : Record) (masks : Masks) : Type 0 where
-  pub as-arrived : (u : ℕ) → u < tasks → T (bit (masks .arrived) u) ↔ KeptApart HappensBefore es (eventOf r) (opOf (r .kind)) (r .on) u
-  pub in-fullest : (u : ℕ) → u < tasks → T (bit (masks .full) u) ↔ KeptApart FullestPath es (eventOf r) (opOf (r .kind)) (r .on) u
+  pub as-arrived : (u : ℕ) → u < tasks → T (bit (masks .arrived) u) ↔ RetainedApart HappensBefore es (eventOf r) (opOf (r .kind)) (r .on) u
+  pub in-fullest : (u : ℕ) → u < tasks → T (bit (masks .full) u) ↔ RetainedApart FullestPath es (eventOf r) (opOf (r .kind)) (r .on) u
 
 abbrev pub TellsPaths : {S : Type 0} → Reckoning S → Type 0
 TellsPaths x =

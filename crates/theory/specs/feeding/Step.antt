@@ -23,7 +23,7 @@ use Rattle.theory.specs.tables.Rows.{cellCount}
 use Rattle.theory.specs.history.History.{slots, latestNumber, lastAfter}
 use Rattle.theory.specs.verdicts.Verdict.{Verdict}
 use Rattle.theory.specs.feeding.Meaning.{Meaning, refuses, takes, judges, meaning}
-use Rattle.theory.specs.tables.Reckonings.{slotWords, clocksBy, setsBy, masksBy, clockMasks, setMasks, lowestTask}
+use Rattle.theory.specs.tables.Reckonings.{slotWords, nextClocks, nextSets, masksBy, clockMasks, setMasks, lowestTask}
 
 abbrev pub recordNumber : ℕ → RecordNumber
 recordNumber n = record { 0 = n }
@@ -74,19 +74,19 @@ accepted s r =
           record {
             control = totalled (meaning (clockAnswer s r)) (r .on) (controlAfter (r .kind) (r .on) (s .control));
             last = lastAfter (r .kind) (r .task) (r .on) (nextNumber (s .control)) (s .last);
-            clocks = clocksBy arrived (r .kind) (r .task) (r .on) (nextNumber (s .control)) (s .clocks);
-            fullclocks = clocksBy full (r .kind) (r .task) (r .on) (nextNumber (s .control)) (s .fullclocks);
+            clocks = nextClocks arrived (r .kind) (r .task) (r .on) (nextNumber (s .control)) (s .clocks);
+            fullclocks = nextClocks full (r .kind) (r .task) (r .on) (nextNumber (s .control)) (s .fullclocks);
           };
       answer = clockAnswer s r;
     }
 
 -- a refused record leaves the state as it was
-abbrev pub stepBy : ℕ → State → Record → Stepped
-stepBy zero s r = accepted s r
-stepBy (suc n) s r = record { state = s; answer = Refused (suc n) }
+abbrev pub stepUnless : ℕ → State → Record → Stepped
+stepUnless zero s r = accepted s r
+stepUnless (suc n) s r = record { state = s; answer = Refused (suc n) }
 
 unfoldable pub stepOf : State → Record → Stepped
-stepOf s r = stepBy (controlRefusal (s .control) r) s r
+stepOf s r = stepUnless (controlRefusal (s .control) r) s r
 
 -- By the sets
 
@@ -100,18 +100,18 @@ setAccepted s r =
           record {
             control = totalled (meaning (setAnswer s r)) (r .on) (controlAfter (r .kind) (r .on) (s .control));
             last = lastAfter (r .kind) (r .task) (r .on) (nextNumber (s .control)) (s .last);
-            sets = setsBy arrived (r .kind) (r .task) (r .on) (s .sets);
-            fullsets = setsBy full (r .kind) (r .task) (r .on) (s .fullsets);
+            sets = nextSets arrived (r .kind) (r .task) (r .on) (s .sets);
+            fullsets = nextSets full (r .kind) (r .task) (r .on) (s .fullsets);
           };
       answer = setAnswer s r;
     }
 
-abbrev pub setStepBy : ℕ → SetState → Record → SetStepped
-setStepBy zero s r = setAccepted s r
-setStepBy (suc n) s r = record { state = s; answer = Refused (suc n) }
+abbrev pub setStepUnless : ℕ → SetState → Record → SetStepped
+setStepUnless zero s r = setAccepted s r
+setStepUnless (suc n) s r = record { state = s; answer = Refused (suc n) }
 
 unfoldable pub setStepOf : SetState → Record → SetStepped
-setStepOf s r = setStepBy (controlRefusal (s .control) r) s r
+setStepOf s r = setStepUnless (controlRefusal (s .control) r) s r
 
 -- a record as it is fed, from its numbers
 abbrev pub recordOf : ℕ → ℕ → ℕ → Record

@@ -7,7 +7,7 @@ use lib.Dec.{eqb}
 use lib.ListN.{getD, set, length}
 use Rattle.theory.specs.tables.Turns.{turns}
 use Rattle.theory.specs.order.Limits.{tasks, variables}
-use Rattle.theory.specs.order.Recording.{Op, read, write, bump, fresh, kind, about, accessNumber, opOf, Kind, of-op, of-mark, kindAt}
+use Rattle.theory.specs.order.Recording.{Op, read, write, bump, fresh, kind, about, accessNumber, opOf, Kind, of-op, of-mark, numberedKind}
 use Rattle.theory.specs.order.Path.{clashes}
 
 -- the kinds of access by their numbers
@@ -45,7 +45,7 @@ kindClashes of-mark p = false
 
 -- f at each slot that an access of kind k to v by task u is kept in: under each kind that it clashes with. What is no access is kept nowhere
 unfoldable pub underEach : {A : Type 0} → (ℕ → A → A) → ℕ → ℕ → ℕ → A → A
-underEach f k v u b = turns (length askers) (λ a b. cond (kindClashes (kindAt k) (asker a)) (f (slot a v u) b) b) b
+underEach f k v u b = turns (length askers) (λ a b. cond (kindClashes (numberedKind k) (asker a)) (f (slot a v u) b) b) b
 
 -- the history with an access kept; what is no access is kept nowhere
 abbrev pub withAccess : ℕ → ℕ → ℕ → ℕ → List ℕ → List ℕ

@@ -11,7 +11,7 @@ use Rattle.theory.specs.declared.walk.Walk.{Walk}
 use Rattle.theory.specs.declared.walk.Pairs.{Pairs}
 use Rattle.theory.specs.tables.Turns.{turns}
 use Rattle.theory.specs.order.Limits.{tasks, variables}
-use Rattle.theory.specs.order.Recording.{read, write, take, give, look, set as sets, start, join, fresh, kind, lossMark, accesses, kindAt}
+use Rattle.theory.specs.order.Recording.{read, write, take, give, look, set as sets, start, join, fresh, kind, lossMark, accesses, numberedKind}
 use Rattle.theory.specs.fillings.Completion.{bit}
 use Rattle.theory.specs.acceptance.Table.{anyBelow}
 use Rattle.theory.specs.acceptance.Control.{controlRefusal, controlAfter}
@@ -69,7 +69,7 @@ beginColumn c u s =
     (walkOf (withBit c (s .walk .pairs)) (s .walk .acted) (withoutBit c (s .walk .known)) (s .walk .walked))
 
 unfoldable pub keepOn : Record → ℕ → ℕ → ℕ → Lazy → Lazy
-keepOn q k u side s = cond (kindClashes (kindAt k) (asker (askerOn q side))) (beginColumn (column side u) u s) s
+keepOn q k u side s = cond (kindClashes (numberedKind k) (asker (askerOn q side))) (beginColumn (column side u) u s) s
 
 abbrev pub keepAnew : Record → ℕ → ℕ → Lazy → Lazy
 keepAnew q k u s = keepOn q k u byWrite (keepOn q k u byEnd s)

@@ -92,28 +92,28 @@ kinds =
     ∷ of-op fresh ∷ of-op miss ∷ of-op bump
     ∷ []
 
-abbrev pub kindAt : ℕ → Kind
-kindAt k = getD kinds k of-mark
+abbrev pub numberedKind : ℕ → Kind
+numberedKind k = getD kinds k of-mark
 
 -- the op of a kind; a read where it has none, which is never asked
-abbrev pub opBy : Kind → Op
-opBy (of-op o) = o
-opBy of-mark = read
+abbrev pub kindOp : Kind → Op
+kindOp (of-op o) = o
+kindOp of-mark = read
 
 abbrev pub opOf : ℕ → Op
-opOf k = opBy (kindAt k)
+opOf k = kindOp (numberedKind k)
 
 -- the size of a kind's series
-abbrev pub seriesOf : ℕ → ℕ
-seriesOf k = series (opOf k)
+abbrev pub kindSeries : ℕ → ℕ
+kindSeries k = series (opOf k)
 
 -- the kind is an access
-abbrev pub accessBy : Kind → Bool
-accessBy (of-op o) = isAccess o
-accessBy of-mark = false
+abbrev pub kindAccesses : Kind → Bool
+kindAccesses (of-op o) = isAccess o
+kindAccesses of-mark = false
 
 abbrev pub accesses : ℕ → Bool
-accesses k = accessBy (kindAt k)
+accesses k = kindAccesses (numberedKind k)
 
 -- what a record that is fed says, if its kind is one of these
 abbrev pub eventOf : Record → Event

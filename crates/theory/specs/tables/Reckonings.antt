@@ -23,8 +23,8 @@ abbrev pub clockAct : Bool → ℕ → ℕ → ℕ → ℕ → List ℕ → List
 clockAct asked k task on number b = onward max tasks asked k task on (clockOwn task number b)
 
 -- after a record, in a filling
-abbrev pub clocksBy : Filling → ℕ → ℕ → ℕ → ℕ → List ℕ → List ℕ
-clocksBy w k task on number b = cond (eqb k lossMark) (mark max tasks (w on) b) (clockAct (fills w) k task on number b)
+abbrev pub nextClocks : Filling → ℕ → ℕ → ℕ → ℕ → List ℕ → List ℕ
+nextClocks w k task on number b = cond (eqb k lossMark) (mark max tasks (w on) b) (clockAct (fills w) k task on number b)
 
 -- Sets: at row n and slot s whether order from the kept access of slot s has come to node n, as a bit
 
@@ -73,8 +73,8 @@ setOwn k task on b = noteActed slotWords task (underEach (λ s b. addSlot (taskR
 abbrev pub setAct : Bool → ℕ → ℕ → ℕ → List ℕ → List ℕ
 setAct asked k task on b = onward bitOr slotWords asked k task on (setOwn k task on b)
 
-abbrev pub setsBy : Filling → ℕ → ℕ → ℕ → List ℕ → List ℕ
-setsBy w k task on b = cond (eqb k lossMark) (mark bitOr slotWords (w on) b) (setAct (fills w) k task on b)
+abbrev pub nextSets : Filling → ℕ → ℕ → ℕ → List ℕ → List ℕ
+nextSets w k task on b = cond (eqb k lossMark) (mark bitOr slotWords (w on) b) (setAct (fills w) k task on b)
 
 -- Which tasks' latest conflicting access has no path to an access. A task's own never counts: order from it has come to its next act.
 
@@ -84,13 +84,13 @@ clockApart cells last k task on u = ltb (cell tasks cells (taskRow task) u) (lat
 abbrev pub setApart : List ℕ → List ℕ → ℕ → ℕ → ℕ → ℕ → Bool
 setApart cells last k task on u = ltb 0 (latestNumber last k on u) && not (hasSlot cells (taskRow task) (latestSlot k on u))
 
-abbrev pub bitOf : Bool → ℕ
-bitOf true = 1
-bitOf false = 0
+abbrev pub indicator : Bool → ℕ
+indicator true = 1
+indicator false = 0
 
 -- the tasks that pass the test as a mask
 unfoldable pub maskOf : (ℕ → Bool) → ℕ
-maskOf p = turns tasks (λ i m. bitOf (p (tasks - 1 - i)) + 2 * m) 0
+maskOf p = turns tasks (λ i m. indicator (p (tasks - 1 - i)) + 2 * m) 0
 
 abbrev pub clockMask : List ℕ → List ℕ → ℕ → ℕ → ℕ → ℕ
 clockMask cells last k task on = maskOf (clockApart cells last k task on)

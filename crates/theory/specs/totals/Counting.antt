@@ -10,7 +10,7 @@ use Rattle.theory.specs.order.Limits.{variables}
 use Rattle.theory.specs.order.Recording.{Event, act, lost, isAccess}
 use Rattle.theory.specs.acceptance.Table.{recording}
 use Rattle.theory.specs.verdicts.Verdict.{Verdict, Race, Clear, Doubt}
-use Rattle.theory.specs.tables.Reckonings.{bitOf}
+use Rattle.theory.specs.tables.Reckonings.{indicator}
 use Rattle.theory.specs.feeding.Meaning.{Meaning, refuses, takes, judges, meaning}
 use Rattle.theory.specs.feeding.Feeding.{Checker, runs, afterAll}
 use Rattle.theory.specs.totals.Totals.{total, races, anyRace, verdictPlace}
@@ -21,7 +21,7 @@ use Rattle.theory.specs.totals.Totals.{total, races, anyRace, verdictPla
 abbrev pub counts : Verdict → ℕ → Record → Meaning → ℕ
 counts w v r (refuses n) = 0
 counts w v r (takes n) = 0
-counts w v r (judges n x p) = bitOf (eqb (verdictPlace x) (verdictPlace w) && eqb (r .on) v)
+counts w v r (judges n x p) = indicator (eqb (verdictPlace x) (verdictPlace w) && eqb (r .on) v)
 
 abbrev pub given : Verdict → ℕ → List Record → List Meaning → ℕ
 given w v [] answers = 0
@@ -29,10 +29,10 @@ given w v (r ∷ rs) [] = 0
 given w v (r ∷ rs) (m ∷ answers) = counts w v r m + given w v rs answers
 
 -- "accepted accesses of that variable, where the right side is counted from the list"
-abbrev pub accessesTo : ℕ → List Event → ℕ
-accessesTo v [] = 0
-accessesTo v (act o t n ∷ es) = bitOf (isAccess o && eqb n v) + accessesTo v es
-accessesTo v (lost mask ∷ es) = accessesTo v es
+abbrev pub accessCount : ℕ → List Event → ℕ
+accessCount v [] = 0
+accessCount v (act o t n ∷ es) = indicator (isAccess o && eqb n v) + accessCount v es
+accessCount v (lost mask ∷ es) = accessCount v es
 
 -- the answer is a Race
 abbrev pub isRace : Meaning → Bool
@@ -50,7 +50,7 @@ pub record Totalled (control : List ℕ) (rs : List Record) (answers : List Mean
   -- "The totals .. must equal a count over the whole verdict list"
   pub each : (w : Verdict) (v : ℕ) → v < variables → total w v control ≡ given w v rs answers
   -- "clear + race + doubt = accepted accesses of that variable"
-  pub sum : (v : ℕ) → v < variables → total Clear v control + total Race v control + total Doubt v control ≡ accessesTo v (recording rs)
+  pub sum : (v : ℕ) → v < variables → total Clear v control + total Race v control + total Doubt v control ≡ accessCount v (recording rs)
   -- "Whether there is a Race anywhere"
   pub any-race : (anyRace control ≡ true) ↔ SomeRace answers
 

@@ -16,8 +16,8 @@ abbrev pub racesAt : ℕ
 racesAt = countAt + 1
 
 -- where the verdicts w on variable v are
-abbrev pub totalsAt : ℕ
-totalsAt = racesAt + 1
+abbrev pub firstTotal : ℕ
+firstTotal = racesAt + 1
 
 abbrev pub verdictPlace : Verdict → ℕ
 verdictPlace Clear = 0
@@ -25,11 +25,11 @@ verdictPlace Race = 1
 verdictPlace Doubt = 2
 
 abbrev pub totalAt : Verdict → ℕ → ℕ
-totalAt w v = totalsAt + verdictPlace w * variables + v
+totalAt w v = firstTotal + verdictPlace w * variables + v
 
 -- what a planner has accepted lies after them (specs/entries): how many entries were taken in, and a cell for each variable and task
 abbrev pub entriesAt : ℕ
-entriesAt = totalsAt + 3 * variables
+entriesAt = firstTotal + 3 * variables
 
 -- so many cells has the control table
 abbrev pub controlCells : ℕ

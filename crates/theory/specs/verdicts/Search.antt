@@ -92,14 +92,14 @@ pub record Judgement : Type 0 where
   pub verdict : Verdict
   pub partner : ℕ
 
-abbrev pub judged : Option Found → Option Found → Judgement
-judged (some x) y = record { verdict = Race; partner = x .number }
-judged none (some y) = record { verdict = Doubt; partner = y .number }
-judged none none = record { verdict = Clear; partner = zero }
+abbrev pub judgement : Option Found → Option Found → Judgement
+judgement (some x) y = record { verdict = Race; partner = x .number }
+judgement none (some y) = record { verdict = Doubt; partner = y .number }
+judgement none none = record { verdict = Clear; partner = zero }
 
 -- the verdict on an access f, with what stands before it in the recording
 unfoldable pub judge : List Event → Event → Judgement
-judge before f = judged (partner rounds f 1 before) (partner nothing f 1 before)
+judge before f = judgement (partner rounds f 1 before) (partner nothing f 1 before)
 
 -- the verdict on the access at place k of a recording; what comes after it does not matter
 abbrev pub judgeAt : List Event → ℕ → Judgement

@@ -8,7 +8,7 @@ use Rattle.checker.proofs.asking.apart_by_clocks.Statement.{statement}
 use Rattle.checker.proofs.asking.apart_by_clocks.Tie as tie
 
 returns : tie.Need-returns
-returns c = rw (c .no-masks .ensures, ← c .before .before .refusal .ensures) (refused-masks _ _ (c .before .if1 .taken))
+returns c = rw (c .empty-masks .ensures, ← c .before .before .refusal .ensures) (refused-masks _ _ (c .before .if1 .taken))
 
 clock-masks-requires : tie.Need-clock-masks-requires
 clock-masks-requires c κs =
@@ -30,7 +30,7 @@ returns-3 c =
     let at-access = c .before .before in
     let at-if1 = at-access .before in
     let h = sym (at-access .is-access .ensures) ∙ c .before .if2 .left in
-    rw (← at-if1 .before .refusal .ensures, at-if1 .if1 .left) (simp h (c .no-masks2 .ensures))
+    rw (← at-if1 .before .refusal .ensures, at-if1 .if1 .left) (simp h (c .empty-masks2 .ensures))
 
 pub apart-by-clocks-spec : {M : Type 1} → statement M
 apart-by-clocks-spec = tie.close (tie.spec

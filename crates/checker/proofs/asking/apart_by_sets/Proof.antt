@@ -8,7 +8,7 @@ use Rattle.checker.proofs.asking.apart_by_sets.Statement.{statement}
 use Rattle.checker.proofs.asking.apart_by_sets.Tie as tie
 
 returns : tie.Need-returns
-returns c = rw (c .no-masks .ensures, ← c .before .before .refusal .ensures) (refused-masks _ _ (c .before .if1 .taken))
+returns c = rw (c .empty-masks .ensures, ← c .before .before .refusal .ensures) (refused-masks _ _ (c .before .if1 .taken))
 
 set-masks-requires : tie.Need-set-masks-requires
 set-masks-requires c κs =
@@ -30,7 +30,7 @@ returns-3 c =
     let at-access = c .before .before in
     let at-if1 = at-access .before in
     let h = sym (at-access .is-access .ensures) ∙ c .before .if2 .left in
-    rw (← at-if1 .before .refusal .ensures, at-if1 .if1 .left) (simp h (c .no-masks2 .ensures))
+    rw (← at-if1 .before .refusal .ensures, at-if1 .if1 .left) (simp h (c .empty-masks2 .ensures))
 
 pub apart-by-sets-spec : {M : Type 1} → statement M
 apart-by-sets-spec = tie.close (tie.spec

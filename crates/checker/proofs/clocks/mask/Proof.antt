@@ -20,7 +20,7 @@ loop-holds : tie.Need-loop-holds Inv-loop μ-loop
 loop-holds c = (search needs, no-weights)
 
 loop-again : tie.Need-loop-again Inv-loop μ-loop
-loop-again c = (search needs, one-weight (omega arith) (c .before .before .before .before .loop .inv .1) (c .weight-of .ensures) refl)
+loop-again c = (search needs, one-weight (omega arith) (c .before .before .before .before .loop .inv .1) (c .added-weight .ensures) refl)
 
 returns : tie.Need-returns Inv-loop μ-loop
 returns c = all-weights (c .before .loop .inv .1) (omega arith) (omega arith)

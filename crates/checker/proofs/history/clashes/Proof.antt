@@ -6,7 +6,7 @@ use lib.Dec.{eqb}
 use lib.ListN.{length}
 use borrow.Author.Tests.{not-true, not-false}
 use Rattle.theory.specs.tables.Turns.{turns}
-use Rattle.theory.specs.order.Recording.{Op, kind, kinds, kindAt, accesses}
+use Rattle.theory.specs.order.Recording.{Op, kind, kinds, numberedKind, accesses}
 use Rattle.theory.specs.order.Path.{rule}
 use Rattle.theory.specs.acceptance.Table.{anyBelow}
 use Rattle.theory.specs.history.History.{askers, asker, askAt, kindClashes}
@@ -26,7 +26,7 @@ alike false b e = sym (not-true b e)
 
 -- it is the rule of conflict with each asker
 abbrev right : ℕ → Bool
-right k = not (anyBelow (length askers) (λ a. not (same (tested k a) (kindClashes (kindAt k) (asker a)))))
+right k = not (anyBelow (length askers) (λ a. not (same (tested k a) (kindClashes (numberedKind k) (asker a)))))
 
 tried : anyBelow (length kinds) (λ k. not (right k)) ≡ false
 unfolding turns rule
@@ -37,10 +37,10 @@ unfolding turns
 no-kind k h = rw (kind-above k h)
 
 -- of every kind, since it is of the known ones, and no other is an access
-each : (k a : ℕ) → a < length askers → tested k a ≡ kindClashes (kindAt k) (asker a)
+each : (k a : ℕ) → a < length askers → tested k a ≡ kindClashes (numberedKind k) (asker a)
 each k a h =
     let r = not-true (anyBelow (length askers) _) (each-number right tried no-kind k) in
-    alike (tested k a) (kindClashes (kindAt k) (asker a)) (not-false _ (none-below (length askers) (λ a. not (same (tested k a) (kindClashes (kindAt k) (asker a)))) r a h))
+    alike (tested k a) (kindClashes (numberedKind k) (asker a)) (not-false _ (none-below (length askers) (λ a. not (same (tested k a) (kindClashes (numberedKind k) (asker a)))) r a h))
 
 returns : tie.Need-returns
 returns c =

@@ -3,7 +3,7 @@ use mathlib.Core.Bool.{cond}
 use Prim.Native.Nat.{_≤_, _-_}
 use native.Mathlib.Omega.{arith}
 use lib.ListN.{set, length}
-use Rattle.theory.specs.order.Recording.{kindAt}
+use Rattle.theory.specs.order.Recording.{numberedKind}
 use Rattle.theory.specs.history.History.{askers, asker, kindClashes, slot, underEach}
 use Rattle.theory.proofs.basics.Turns.{Turned, no-turn, one-turn, all-turns}
 use borrow.Author.Needs.{needs}
@@ -12,7 +12,7 @@ use Rattle.checker.proofs.history.keep.Tie as tie
 
 abbrev Inv-loop : tie.InvT-loop
 Inv-loop last₀ kind task v number a₀ last a =
-    (a ≤ length askers) × Turned (λ a l. cond (kindClashes (kindAt kind) (asker a)) (set l (slot a (v .0) (task .0)) (number .0)) l) last₀ a last
+    (a ≤ length askers) × Turned (λ a l. cond (kindClashes (numberedKind kind) (asker a)) (set l (slot a (v .0) (task .0)) (number .0)) l) last₀ a last
 
 abbrev μ-loop : tie.MeasureT-loop
 μ-loop last₀ kind task v number a₀ last a = length askers - a

@@ -6,8 +6,8 @@ use native.Mathlib.Omega.{arith}
 use lib.Pow.{pow-lt}
 use Rattle.theory.specs.order.Limits.{tasks}
 use borrow.Author.Needs.{needs}
-use Rattle.checker.proofs.masks.weight_of.Statement.{statement}
-use Rattle.checker.proofs.masks.weight_of.Tie as tie
+use Rattle.checker.proofs.masks.added_weight.Statement.{statement}
+use Rattle.checker.proofs.masks.added_weight.Tie as tie
 
 mul-result : tie.Need-mul-result
 mul-result c = omega (arith, c .weight .ensures .0, pow-lt (c .before .before .pre))
@@ -18,5 +18,5 @@ returns c = rw (c .before .if1 .taken) (omega (arith, c .weight .ensures .0))
 returns-2 : tie.Need-returns-2
 returns-2 c = let w = 2 ^ c .before .args .u .0 in rw (c .if1 .left) (sym (zero-mul (w * 2 ^ tasks + w)))
 
-pub weight-of-spec : {M : Type 1} → statement M
-weight-of-spec = tie.close (tie.spec (λ c κs. search needs) mul-result returns returns-2)
+pub added-weight-spec : {M : Type 1} → statement M
+added-weight-spec = tie.close (tie.spec (λ c κs. search needs) mul-result returns returns-2)

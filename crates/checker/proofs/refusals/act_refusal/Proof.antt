@@ -4,7 +4,7 @@ use Prim.Native.Nat.{ℕ, _<_}
 use lib.ListN.{drop}
 use borrow.Author.Tests.{leb-false, ne-eqb, not-true, not-false}
 use Rattle.theory.specs.order.Limits.{tasks}
-use Rattle.theory.specs.order.Recording.{seriesOf}
+use Rattle.theory.specs.order.Recording.{kindSeries}
 use Rattle.theory.specs.acceptance.Table.{firstRow}
 use Rattle.theory.specs.acceptance.Control.{controlStanding, controlRefusal}
 use Rattle.theory.proofs.acceptance.Rows.{actRows, act-rows}
@@ -37,7 +37,7 @@ past-4 c = past-3 (c .before .before) ∙ rw (sym (c .before .is-live .ensures) 
 acting : (c : tie.Else1) → c .before .before .args .r .task < tasks
 acting c = leb-false _ _ (sym (c .before .no-task .ensures) ∙ c .if1 .left)
 
-inside : (c : tie.Else2) → let r = c .before .before .before .before .args .r in r .on < seriesOf (r .kind)
+inside : (c : tie.Else2) → let r = c .before .before .before .before .args .r in r .on < kindSeries (r .kind)
 inside c = leb-false _ _ (sym (c .before .outside .ensures) ∙ c .if2 .left)
 
 returns : tie.Need-returns

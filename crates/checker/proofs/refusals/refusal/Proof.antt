@@ -2,7 +2,7 @@
 use borrow.Author.Tests.{le-leb}
 use lib.ListN.{length}
 use Rattle.theory.specs.order.Recording.{kinds}
-use Rattle.theory.specs.acceptance.Table.{tableRow}
+use Rattle.theory.specs.acceptance.Table.{standingRefusal}
 use borrow.Author.Needs.{needs}
 use Rattle.checker.proofs.refusals.refusal.Statement.{statement}
 use Rattle.checker.proofs.refusals.refusal.Tie as tie
@@ -11,7 +11,7 @@ act-refusal-requires : tie.Need-act-refusal-requires
 act-refusal-requires c κs = record { known = c .before .if1 .taken; no-mark = c .match .rest .1 }
 
 returns-3 : tie.Need-returns-3
-unfolding tableRow
+unfolding standingRefusal
 returns-3 c = rw (le-leb (length kinds) (c .before .args .r .kind) (c .if1 .left))
 
 pub refusal-spec : {M : Type 1} → statement M

@@ -17,7 +17,7 @@ returns-2 : tie.Need-returns-2
 returns-2 c = rw (c .before .match .keys2) (c .flag-row .ensures)
 
 returns-3 : tie.Need-returns-3
-returns-3 c = rw (c .before .match .keys3) (c .task-row-of .ensures)
+returns-3 c = rw (c .before .match .keys3) (c .either-row .ensures)
 
 returns-4 : tie.Need-returns-4
 returns-4 c =

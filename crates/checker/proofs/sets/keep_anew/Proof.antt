@@ -3,7 +3,7 @@ use mathlib.Core.Bool.{cond}
 use Prim.Native.Nat.{_≤_, _-_}
 use native.Mathlib.Omega.{arith}
 use lib.ListN.{length}
-use Rattle.theory.specs.order.Recording.{kindAt}
+use Rattle.theory.specs.order.Recording.{numberedKind}
 use Rattle.theory.specs.history.History.{askers, asker, kindClashes, slot, underEach}
 use Rattle.theory.specs.tables.Reckonings.{addSlot, clearSlot}
 use Rattle.theory.proofs.basics.Turns.{Turned, no-turn, one-turn, all-turns}
@@ -13,7 +13,7 @@ use Rattle.checker.proofs.sets.keep_anew.Tie as tie
 
 abbrev Inv-loop : tie.InvT-loop
 Inv-loop cells₀ kind task v a₀ cells a =
-    (a ≤ length askers) × Turned (λ a b. cond (kindClashes (kindAt kind) (asker a)) (addSlot (task .0) (slot a (v .0) (task .0)) (clearSlot (slot a (v .0) (task .0)) b)) b) cells₀ a cells
+    (a ≤ length askers) × Turned (λ a b. cond (kindClashes (numberedKind kind) (asker a)) (addSlot (task .0) (slot a (v .0) (task .0)) (clearSlot (slot a (v .0) (task .0)) b)) b) cells₀ a cells
 
 abbrev μ-loop : tie.MeasureT-loop
 μ-loop cells₀ kind task v a₀ cells a = length askers - a

@@ -30,7 +30,7 @@ apart-requires c κs = let p = c .before .before .before .before .before .pre in
 loop-again : tie.Need-loop-again Inv-loop μ-loop
 loop-again c =
     let at-apart = c .before in
-    (search needs, one-weight (omega arith) (at-apart .before .before .loop .inv .1) (c .weight-of .ensures) (at-apart .apart .ensures))
+    (search needs, one-weight (omega arith) (at-apart .before .before .loop .inv .1) (c .added-weight .ensures) (at-apart .apart .ensures))
 
 returns : tie.Need-returns Inv-loop μ-loop
 returns c =

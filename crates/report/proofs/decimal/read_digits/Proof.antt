@@ -6,13 +6,13 @@ use native.Mathlib.Omega.{arith}
 use lib.ListN.{length, getD, drop}
 use borrow.Author.Needs.{needs}
 use borrow.Author.Tests.{not-true, not-false}
-use Rattle.text.specs.LineForm.{digits, isDigit, digitsFrom}
+use Rattle.text.specs.LineForm.{digits, isDigit, readDigits}
 use Rattle.text.proofs.Numerals.{Digit, a-digit, digit-fits, power-fits, read-digit, read-other, read-all}
 use Rattle.report.proofs.decimal.read_digits.Statement.{statement}
 use Rattle.report.proofs.decimal.read_digits.Tie as tie
 
 abbrev Inv-loop : tie.InvT-loop
-Inv-loop s v₀ i₀ v i = (i ≤ length s) × (v < 10 ^ i) × (digitsFrom 0 s ≡ digitsFrom v (drop i s))
+Inv-loop s v₀ i₀ v i = (i ≤ length s) × (v < 10 ^ i) × (readDigits 0 s ≡ readDigits v (drop i s))
 
 abbrev μ-loop : tie.MeasureT-loop
 μ-loop s v₀ i₀ v i = length s - i

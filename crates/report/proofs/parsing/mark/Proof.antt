@@ -1,17 +1,17 @@
 -- `report::parsing::mark`: the record is made of what the field says. Assumes nothing.
 use mathlib.Core.Path.{sym, ap, _∙_}
 use borrow.Author.Needs.{needs}
-use Rattle.text.specs.LineForm.{markBy, markOf}
+use Rattle.text.specs.LineForm.{markRecord, parseMark}
 use Rattle.report.proofs.parsing.mark.Statement.{statement}
 use Rattle.report.proofs.parsing.mark.Tie as tie
 
 returns : tie.Need-returns
-unfolding markOf
-returns c = ap markBy (sym (c .enum-told .given .1) ∙ c .before .before .field .ensures)
+unfolding parseMark
+returns c = ap markRecord (sym (c .enum-told .given .1) ∙ c .before .before .field .ensures)
 
 returns-2 : tie.Need-returns-2
-unfolding markOf
-returns-2 c = ap markBy (sym (c .before .on .given .1) ∙ c .before .before .before .field .ensures)
+unfolding parseMark
+returns-2 c = ap markRecord (sym (c .before .on .given .1) ∙ c .before .before .before .field .ensures)
 
 pub mark-spec : {M : Type 1} → statement M
 mark-spec =

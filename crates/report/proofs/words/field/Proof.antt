@@ -3,7 +3,7 @@ use mathlib.Core.Path.{sym, ap, _∙_}
 use Prim.Native.Nat.{_≤_}
 use lib.ListN.{length}
 use borrow.Author.Needs.{needs}
-use Rattle.text.specs.LineForm.{decimalOf, fieldOf}
+use Rattle.text.specs.LineForm.{readDecimal, fieldOf}
 use Rattle.text.proofs.Bytes.{word-fits}
 use Rattle.text.proofs.LineForm.{named, unnamed, part-from}
 use Rattle.report.proofs.words.field.Statement.{statement}
@@ -23,12 +23,12 @@ returns : tie.Need-returns
 unfolding fieldOf
 returns c =
     let a = c .before .before .before .before .before .before .args in
-    c .decimal .ensures ∙ ap decimalOf (part-from (a .s .now) (length (a .name .now)))
-    ∙ sym (named decimalOf _ _ (sym (c .before .before .before .starts-with .ensures) ∙ c .before .before .if1 .taken))
+    c .decimal .ensures ∙ ap readDecimal (part-from (a .s .now) (length (a .name .now)))
+    ∙ sym (named readDecimal _ _ (sym (c .before .before .before .starts-with .ensures) ∙ c .before .before .if1 .taken))
 
 returns-2 : tie.Need-returns-2
 unfolding fieldOf
-returns-2 c = sym (unnamed decimalOf _ _ (sym (c .before .starts-with .ensures) ∙ c .if1 .left))
+returns-2 c = sym (unnamed readDecimal _ _ (sym (c .before .starts-with .ensures) ∙ c .if1 .left))
 
 pub field-spec : {M : Type 1} → statement M
 field-spec = tie.close (tie.spec (λ c κs. search needs) sub-decimal part-decimal-start (λ c. search needs) (λ c κs. search needs) returns returns-2)

@@ -7,7 +7,7 @@ use lib.ListN.{length, getD}
 use borrow.Author.Needs.{needs}
 use Rattle.text.specs.Bytes.{little}
 use Rattle.text.specs.LineForm.{words}
-use Rattle.text.specs.Places.{opening, openingOf, opBytes}
+use Rattle.text.specs.Places.{opening, kindOpening, opBytes}
 use Rattle.text.proofs.Ops.{opening-at}
 use Rattle.report.specs.declared.words.Opening.{Opening}
 use Rattle.report.proofs.words.guess.Statement.{statement}
@@ -21,7 +21,7 @@ abbrev μ-loop : tie.MeasureT-loop
 
 -- what is made of the entry k
 abbrev Fits : Opening → Type 0
-Fits r = (r .kind < length words) × (r .bytes ≡ little (openingOf (r .kind))) × (r .len ≡ opBytes (openingOf (r .kind)))
+Fits r = (r .kind < length words) × (r .bytes ≡ little (kindOpening (r .kind))) × (r .len ≡ opBytes (kindOpening (r .kind)))
 
 fits : (k : ℕ) → k < length words → (r : Opening)
     → r ≡ record { kind = k; bytes = little (getD (map opening words) k []); len = opBytes (getD (map opening words) k []) } → Fits r

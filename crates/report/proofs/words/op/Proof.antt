@@ -4,7 +4,7 @@ use native.Mathlib.Omega.{arith}
 use lib.Seq.{length-take-le}
 use borrow.Author.Needs.{needs}
 use borrow.Author.Tests.{ltb-true}
-use Rattle.text.specs.LineForm.{kindOf}
+use Rattle.text.specs.LineForm.{namedKind}
 use Rattle.text.proofs.LineForm.{cut-before}
 use Rattle.text.proofs.Ops.{opens-kind}
 use Rattle.report.proofs.words.op.Statement.{statement}
@@ -25,7 +25,7 @@ slice-aggregate-kind c = sym (length-take-le _ _ (c .before .place-of .ensures .
 returns-2 : tie.Need-returns-2
 returns-2 c =
     let w = c .before .before in
-    c .kind .ensures ∙ ap kindOf (cut-before (w .before .before .before .args .line .now) (w .place-of .result) 0 (w .place-of .ensures .0))
+    c .kind .ensures ∙ ap namedKind (cut-before (w .before .before .before .args .line .now) (w .place-of .result) 0 (w .place-of .ensures .0))
 
 pub op-spec : {M : Type 1} → statement M
 op-spec =

@@ -1,7 +1,7 @@
 -- The line of an access: which access it is, then the words and numbers of its verdict. Each has room, since all together have.
 use native.Mathlib.Omega.{arith}
 use borrow.Author.Needs.{needs}
-use Rattle.text.specs.Printing.{digitsOf}
+use Rattle.text.specs.Printing.{lastDigits}
 use Rattle.text.specs.ReportLines.{accessLine}
 use Rattle.text.proofs.Wrote.{_then_}
 use Rattle.text.proofs.Lengths.{length-access-part, length-access-line}
@@ -9,37 +9,37 @@ use Rattle.report.proofs.writing.put_access_line.Statement.{statement}
 use Rattle.report.proofs.writing.put_access_line.Tie as tie
 
 put-access-part-requires : tie.Need-put-access-part-requires
-unfolding digitsOf
+unfolding lastDigits
 put-access-part-requires c κs =
     let at-start = c .before .before .before in
     let a = at-start .args in omega (arith, length-access-part (a .number) (a .r .task) (a .r .on), length-access-line (a .number) (a .r .task) (a .r .on) (a .verdict .now) (a .partner))
 
 put-bytes-requires : tie.Need-put-bytes-requires
-unfolding digitsOf
+unfolding lastDigits
 put-bytes-requires c κs =
     let at-start = c .before .before .before .before .before .before .before .before in
     let a = at-start .args in omega (arith, length-access-part (a .number) (a .r .task) (a .r .on), length-access-line (a .number) (a .r .task) (a .r .on) (a .verdict .now) (a .partner))
 
 put-bytes-requires-2 : tie.Need-put-bytes-requires-2
-unfolding digitsOf
+unfolding lastDigits
 put-bytes-requires-2 c κs =
     let at-start = c .before .before .before .before .before .before .before .before .before .before .before .before in
     let a = at-start .args in omega (arith, length-access-part (a .number) (a .r .task) (a .r .on), length-access-line (a .number) (a .r .task) (a .r .on) (a .verdict .now) (a .partner))
 
 put-bytes-requires-3 : tie.Need-put-bytes-requires-3
-unfolding digitsOf
+unfolding lastDigits
 put-bytes-requires-3 c κs =
     let at-start = c .before .before .before .before .before .before .before .before .before .before .before .before .before .before .before .before .before in
     let a = at-start .args in omega (arith, length-access-part (a .number) (a .r .task) (a .r .on), length-access-line (a .number) (a .r .task) (a .r .on) (a .verdict .now) (a .partner))
 
 put-five-requires : tie.Need-put-five-requires
-unfolding digitsOf
+unfolding lastDigits
 put-five-requires c κs =
     let at-start = c .before .before .before .before .before .before .before .before .before .before .before .before .before .before .before .before .before .before .before .before .before in
     let a = at-start .args in omega (arith, length-access-part (a .number) (a .r .task) (a .r .on), length-access-line (a .number) (a .r .task) (a .r .on) (a .verdict .now) (a .partner))
 
 put-bytes-requires-4 : tie.Need-put-bytes-requires-4
-unfolding digitsOf
+unfolding lastDigits
 put-bytes-requires-4 c κs = let a = c .before .before .before .before .before .before .before .before .before .before .before .before .before .before .before .before .before .before .before .before .before .before .before .before .before .before .args in omega (arith, length-access-part (a .number) (a .r .task) (a .r .on), length-access-line (a .number) (a .r .task) (a .r .on) (a .verdict .now) (a .partner))
 
 returns : tie.Need-returns

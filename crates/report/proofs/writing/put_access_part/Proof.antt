@@ -1,7 +1,7 @@
 -- The words and numbers of an access, one after the other; each has room, since all together have.
 use native.Mathlib.Omega.{arith}
 use borrow.Author.Needs.{needs}
-use Rattle.text.specs.Printing.{digitsOf}
+use Rattle.text.specs.Printing.{lastDigits}
 use Rattle.text.specs.ReportLines.{accessPart}
 use Rattle.text.proofs.Wrote.{_then_}
 use Rattle.text.proofs.Lengths.{length-access-part}
@@ -9,33 +9,33 @@ use Rattle.report.proofs.writing.put_access_part.Statement.{statement}
 use Rattle.report.proofs.writing.put_access_part.Tie as tie
 
 put-bytes-requires : tie.Need-put-bytes-requires
-unfolding digitsOf
+unfolding lastDigits
 put-bytes-requires c κs = let a = c .before .before .before .args in omega (arith, length-access-part (a .number) (a .task) (a .variable))
 
 put-five-requires : tie.Need-put-five-requires
-unfolding digitsOf
+unfolding lastDigits
 put-five-requires c κs = let a = c .before .before .before .before .before .before .before .args in omega (arith, length-access-part (a .number) (a .task) (a .variable))
 
 put-bytes-requires-2 : tie.Need-put-bytes-requires-2
-unfolding digitsOf
+unfolding lastDigits
 put-bytes-requires-2 c κs =
     let at-start = c .before .before .before .before .before .before .before .before .before .before .before .before in
     let a = at-start .args in omega (arith, length-access-part (a .number) (a .task) (a .variable))
 
 put-decimal-requires : tie.Need-put-decimal-requires
-unfolding digitsOf
+unfolding lastDigits
 put-decimal-requires c κs =
     let at-start = c .before .before .before .before .before .before .before .before .before .before .before .before .before .before .before .before in
     let a = at-start .args in omega (arith, length-access-part (a .number) (a .task) (a .variable))
 
 put-bytes-requires-3 : tie.Need-put-bytes-requires-3
-unfolding digitsOf
+unfolding lastDigits
 put-bytes-requires-3 c κs =
     let at-start = c .before .before .before .before .before .before .before .before .before .before .before .before .before .before .before .before .before .before .before .before .before in
     let a = at-start .args in omega (arith, length-access-part (a .number) (a .task) (a .variable))
 
 put-decimal-requires-2 : tie.Need-put-decimal-requires-2
-unfolding digitsOf
+unfolding lastDigits
 put-decimal-requires-2 c κs =
     let at-start = c .before .before .before .before .before .before .before .before .before .before .before .before .before .before .before .before .before .before .before .before .before .before .before .before .before in
     let a = at-start .args in omega (arith, length-access-part (a .number) (a .task) (a .variable))

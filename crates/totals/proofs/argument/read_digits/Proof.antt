@@ -6,14 +6,14 @@ use native.Mathlib.Omega.{arith}
 use lib.ListN.{length, getD, drop}
 use borrow.Author.Needs.{needs}
 use borrow.Author.Tests.{not-true, not-false}
-use Rattle.text.specs.LineForm.{digits, isDigit, digitsFrom}
+use Rattle.text.specs.LineForm.{digits, isDigit, readDigits}
 use Rattle.text.proofs.Numerals.{Digit, a-digit, digit-fits, power-fits, read-digit, read-other, read-all}
 use Rattle.totals.specs.Argument.{numberOr0}
 use Rattle.totals.proofs.argument.read_digits.Statement.{statement}
 use Rattle.totals.proofs.argument.read_digits.Tie as tie
 
 abbrev Inv-loop : tie.InvT-loop
-Inv-loop word n₀ i₀ n i = (i ≤ length word) × (n < 10 ^ i) × (digitsFrom 0 word ≡ digitsFrom n (drop i word))
+Inv-loop word n₀ i₀ n i = (i ≤ length word) × (n < 10 ^ i) × (readDigits 0 word ≡ readDigits n (drop i word))
 
 abbrev μ-loop : tie.MeasureT-loop
 μ-loop word n₀ i₀ n i = length word - i
