@@ -104,7 +104,8 @@ static inline uint32_t order_state_any_race(const struct order_state *s) {
 }
 
 /* The same as order_state_feed by one call that is lent the whole state. It copies the state there and back, 23 kilobytes, so that a record
- * takes twenty to fifty times as long; the two may be mixed. Needs libgateway.a. */
+ * takes 49 to 118 times as long (medians: some 1,600 ns against 32 in a mixed recording of 16 tasks, and against 14 for accesses of one
+ * task); the two may be mixed. Needs libgateway.a. */
 void order_step(struct order_state *s, uint8_t kind, uint32_t task, uint32_t on, uint32_t answer[3]);
 
 /* So many bytes of a line are held at most: no line of more than 64 is a record. */

@@ -26,12 +26,12 @@ use theory::Task;
 use theory::WRITE;
 use theory::Walk;
 ghost use mathlib.Core.Path.{_≡_};
-ghost use mathlib.Core.Bool.{true, cond};
-ghost use mathlib.Core.Logic.{_≢_};
+ghost use mathlib.Core.Bool.{true, cond, _||_};
 ghost use Prim.Native.Nat.{_<_, _≤_, _+_};
+ghost use lib.Dec.{eqb};
 ghost use lib.ListN.{length};
 ghost use Rattle.theory.specs.order.Limits.{tasks, records};
-ghost use Rattle.theory.specs.order.Recording.{accesses, numberedKind, lossMark};
+ghost use Rattle.theory.specs.order.Recording.{Op, kind as number, accesses, numberedKind};
 ghost use Rattle.theory.specs.acceptance.Table.{Fitting, Proper};
 ghost use Rattle.theory.specs.history.History.{askers, asker, kindClashes};
 ghost use Rattle.theory.specs.tables.Reckonings.{withBit};
@@ -142,8 +142,8 @@ fn emptied(walk: Walk) -> Walk
     }
 }
 
-// An access to any variable, or a fresh.
-fn of_variable(
+// An act that no walk counts: an access to the variable and its fresh do something. Most are of another variable.
+fn other_act(
     nodes: &mut Nodes,
     counts: &mut Counts,
     walk: Walk,
@@ -153,7 +153,8 @@ fn of_variable(
     on: u32,
 ) -> Walk
     requires { ⌜ (accesses (q .kind) ≡ true) × (task .0 < tasks) ⌝ }
-    ensures { λ r. let s = lent nodes counts in ⌜ s .exit r ≡ ofVariable q kind (task .0) on (s .entry walk) ⌝ }
+    ensures { λ r. let s = lent nodes counts in ⌜ s .exit r
+        ≡ cond (accesses kind || eqb kind (number Op.fresh)) (ofVariable q kind (task .0) on (s .entry walk)) (s .entry walk) ⌝ }
 {
     if on != q.on {
         return walk;
@@ -161,7 +162,10 @@ fn of_variable(
     if kind == FRESH {
         return emptied(walk);
     }
-    access(nodes, counts, walk, q, kind, task)
+    if is_access(kind) {
+        return access(nodes, counts, walk, q, kind, task);
+    }
+    walk
 }
 
 // One more record that a walk counts.
@@ -245,10 +249,7 @@ fn act(
     if is_walkable(kind) {
         return walk_over(nodes, counts, known, q, kind, task, on);
     }
-    if either(is_access(kind), kind == FRESH) {
-        return of_variable(nodes, counts, known, q, kind, task, on);
-    }
-    known
+    other_act(nodes, counts, known, q, kind, task, on)
 }
 
 // Any record. A mark does nothing.

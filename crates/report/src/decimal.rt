@@ -7,7 +7,7 @@ ghost use Rattle.text.specs.EntryForm.{digitsIn};
 ghost use Rattle.text.specs.LineForm.{isDigit, isPlain, digits, readDigits, readDecimal};
 ghost use Rattle.text.specs.Printing.{recordDigits};
 
-const DIGITS: usize = 5;
+pub const DIGITS: usize = 5;
 
 // So many digits has a record number, leading zeros included.
 const RECORD_DIGITS: usize = 5;
@@ -75,7 +75,7 @@ pub(crate) fn read_short(s: &[u8]) -> Number
 }
 
 // What a part of a line says as a decimal.
-pub(crate) fn decimal(s: &[u8]) -> Number
+pub fn read_decimal(s: &[u8]) -> Number
     ensures { λ r. ⌜ r ≡ readDecimal (now (s .entry)) ⌝ }
 {
     if is_plain(s) {

@@ -12,6 +12,8 @@ mod streaming;
 mod words;
 mod writing;
 
+pub use decimal::DIGITS;
+pub use decimal::read_decimal;
 pub use entry::order_report;
 pub use parsing::parse_line;
 pub use reader::LineReader;
@@ -22,3 +24,4 @@ pub use sizes::HELD_MOST;
 pub use sizes::LINE_ROOM;
 pub use streaming::REFUSED;
 pub use streaming::report_piece;
+pub use writing::put_digit;

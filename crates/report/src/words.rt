@@ -1,5 +1,5 @@
 // The words of a line: the op that its first one names, and the fields after it.
-use crate::decimal::decimal;
+use crate::decimal::read_decimal;
 use crate::scan::place_of;
 use text::Number;
 use theory::KINDS;
@@ -213,7 +213,7 @@ pub(crate) fn field(name: &[u8], s: &[u8]) -> Number
 {
     if starts_with(name, s) {
         let n = name.len();
-        return decimal(&s[n..]);
+        return read_decimal(&s[n..]);
     }
     Number::Nothing
 }

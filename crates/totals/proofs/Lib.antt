@@ -1,4 +1,3 @@
 -- What the functions' proofs share
-pub mod Plain
 pub mod Cells
 pub mod Lines

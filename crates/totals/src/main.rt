@@ -1,26 +1,33 @@
 // The program `totals`: a recording on standard input, a table of the verdicts on each variable on standard output, at its end and, if a number is
 // given, after every so many accepted records.
 mod argument;
-mod input;
+mod showing;
 mod sums;
 mod table;
 
-use argument::DIGITS;
 use argument::every_of;
 use checker::begin;
-use input::REPORT;
-use input::feed_input;
-use input::feed_rest;
-use input::show;
+use input::PIECE;
+use input::next_piece;
+use input::no_piece;
 use libc::STDERR_FILENO;
+use report::DIGITS;
 use report::HELD_MOST;
+use report::LINE_ROOM;
 use report::REFUSED;
+use report::report_piece;
+use showing::show;
+use showing::show_due;
 use text::Progress;
 use theory::CLOCK_CELLS;
 use theory::CONTROL_CELLS;
+use theory::COUNT;
 use theory::HISTORY_CELLS;
 
-// Reads the recording and writes its tables.
+// Memory for the report of a piece, which is thrown away: the totals are what the records leave in the control table.
+const REPORT: usize = LINE_ROOM * PIECE;
+
+// Reads the recording line by line and writes its tables, each at once, so that nothing that is ready waits for more input.
 fn run(every: u32) {
     let mut control = [0u32; CONTROL_CELLS];
     let mut last = [0u32; HISTORY_CELLS];
@@ -29,31 +36,41 @@ fn run(every: u32) {
     begin(&mut control, &mut last, &mut clocks, &mut fullclocks);
     let mut report = [0u8; REPORT];
     let mut held = [0u8; HELD_MOST];
-    let none = Progress {
+    let mut block = io::large_buffer();
+    let mut piece = no_piece();
+    let mut now = Progress {
         lines: 0,
         held: 0,
         at: 0,
     };
-    let read = feed_input(
-        every,
-        &mut report,
-        &mut held,
-        none,
-        &mut control,
-        &mut last,
-        &mut clocks,
-        &mut fullclocks,
-    );
-    let now = feed_rest(
-        every,
-        &mut report,
-        &mut held,
-        read,
-        &mut control,
-        &mut last,
-        &mut clocks,
-        &mut fullclocks,
-    );
+    // A proved loop has to end, and nothing says that an input does: it counts turns that no run uses up.
+    let mut more = true;
+    let mut turns = u64::MAX;
+    while turns > 0 && more {
+        piece = next_piece(
+            &mut block,
+            piece,
+            true,
+            now.held > 0,
+            b"totals: the input cannot be read\n",
+        );
+        let from = piece.from;
+        let end = piece.end;
+        let before = control[COUNT];
+        let read = report_piece(
+            &mut report,
+            &block[from..end],
+            &mut held,
+            now,
+            &mut control,
+            &mut last,
+            &mut clocks,
+            &mut fullclocks,
+        );
+        now = show_due(&control, every, before, read);
+        more = piece.more && now.at < REFUSED;
+        turns -= 1;
+    }
     if now.at < REFUSED {
         show(&control, every);
     }

@@ -4,15 +4,14 @@ use crate::sums::added_to;
 use crate::sums::all_of;
 use crate::sums::nothing_yet;
 use checker::totals_of;
+use report::put_digit;
 use theory::Control;
 use theory::Totals;
 use theory::VARIABLES;
 ghost use Prim.Native.Nat.{_+_, _*_, _-_, _<_, _≤_, max};
 ghost use mathlib.Core.Path.{_≡_};
-ghost use mathlib.Core.List.{[], _∷_};
 ghost use lib.ListN.{length, getD};
 ghost use Rattle.theory.specs.order.Limits.{variables};
-ghost use Rattle.text.specs.Printing.{lastDigit};
 ghost use Rattle.io.specs.Counts.{Counts};
 ghost use Rattle.text.specs.Wrote.{Wrote};
 ghost use Rattle.totals.specs.Table.{Small, line, sumsBelow, padded, cell, countsOf, variableLine, linesBelow, tableOf, room, shownOf};
@@ -50,15 +49,6 @@ fn put_padded(out: &mut [u8], at: usize, spaces: usize, bytes: &[u8]) -> usize
         i += 1;
     }
     at + i
-}
-
-// The last digit of a number.
-fn put_digit(out: &mut [u8], at: usize, n: u64) -> usize
-    requires { ⌜ at < length (now out) ⌝ }
-    ensures { λ r. ⌜ Wrote (now (out .entry)) at (lastDigit n ∷ []) (now (out .exit)) r ⌝ }
-{
-    out[at] = (n % 10) as u8 + b'0';
-    at + 1
 }
 
 // What is left of a column's width beside one digit.

@@ -1,6 +1,6 @@
 -- What the code of the lazy reckoning counts on: it takes a kind that is none for the first such kind, goes over the list by places, and adds
 -- numbers that fit. Assumes nothing.
-use mathlib.Core.Path.{_≡_, refl, sym, _∙_, ap, subst}
+use mathlib.Core.Path.{_≡_, refl, sym, _∙_, ap}
 use mathlib.Core.Bool.{Bool, true, false, cond, not, _&&_, _||_, true≢false}
 use mathlib.Core.Logic.{_≢_}
 use mathlib.Core.List.{List, [], _∷_, map}
@@ -8,7 +8,7 @@ use Prim.Native.Nat.{ℕ, zero, suc, _+_, _-_, _≤_, _<_}
 use native.Mathlib.Numerals.{add-one}
 use native.Mathlib.Omega.{arith}
 use borrow.Author.Tests.{lt-ltb, le-ltb, le-leb}
-use lib.Dec.{ltb, leb, eqb}
+use lib.Dec.{ltb, eqb}
 use lib.ListN.{length, getD, set, take, drop, length-set, length-map, length-take, drop-of-length-le, List·getD-map}
 use lib.Seq.{drop-cons, getD-take, getD-set-same, getD-set-other}
 use Rattle.theory.specs.declared.record.Record.{Record}
@@ -21,7 +21,7 @@ use Rattle.theory.specs.acceptance.Table.{NamesTask, Standing, standingR
 use Rattle.theory.specs.acceptance.Control.{countAt, countIn, counted, controlStanding, controlRefusal, controlAfter}
 use Rattle.theory.specs.history.History.{asker, kindClashes}
 use Rattle.theory.specs.tables.Reckonings.{wordBits}
-use Rattle.theory.specs.lazy.Fold.{byEnd, byWrite, askerOn, walkable, Lazy, emptied, arrivedNow, keepOn, accessed, walkedOver, noted, acted, recorded, Run, runOf, followed, freshLazy, pairsOf, question, answeredAt, ending, lazyEnd, lazily, recordIn}
+use Rattle.theory.specs.lazy.Fold.{byEnd, byWrite, askerOn, walkable, Lazy, arrivedNow, keepOn, accessed, walkedOver, noted, acted, recorded, Run, runOf, followed, freshLazy, pairsOf, question, answeredAt, ending, lazyEnd, lazily, recordIn}
 use Rattle.theory.specs.feeding.Step.{recordOf, freshControl}
 use Rattle.theory.proofs.basics.Reflects.{Reflects, right, wrong, equal, at-most}
 use Rattle.theory.proofs.acceptance.Rows.{allowed}
@@ -43,6 +43,11 @@ no-arrival word walked counts = none wordBits
     none (suc n) = never (bit word n) _ _ ∙ none n
 
 -- Kinds
+
+-- a test that makes no difference
+pub either-same : (b : Bool) (s : Lazy) → s ≡ cond b s s
+either-same true s = refl
+either-same false s = refl
 
 -- what is a join and more is a join
 pub join-kind : (k : ℕ) (b : Bool) → (eqb k (kind join) && b) ≡ true → k ≡ kind join

@@ -1,10 +1,8 @@
 -- The rows that an act acquires and releases to are nodes, and order goes over them.
 use mathlib.Core.Path.{_≡_, sym, _∙_}
 use mathlib.Core.Bool.{true}
-use Prim.Native.Nat.{_<_}
 use native.Mathlib.Omega.{arith}
 use Rattle.theory.specs.order.Recording.{Op, kind}
-use Rattle.theory.specs.tables.Rows.{hub}
 use Rattle.theory.proofs.tables.Ranges.{acquired-fits, released-fits}
 use Rattle.theory.proofs.lazy.Code.{join-kind}
 use borrow.Author.Needs.{needs}

@@ -1,6 +1,6 @@
 -- By the refusal before, by its own, and by its kind.
 -- what it was lent, as one
-use mathlib.Core.Path.{_≡_, sym, _∙_}
+use mathlib.Core.Path.{sym, _∙_}
 use Rattle.theory.specs.lazy.Fold.{lazyOf, Run, runOf}
 use Rattle.theory.proofs.acceptance.Accepted.{accepts}
 use Rattle.theory.proofs.tables.Ranges.{access-acts}

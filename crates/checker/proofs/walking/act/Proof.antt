@@ -1,7 +1,5 @@
 -- By its kind.
 use mathlib.Core.Path.{sym, _∙_}
-use Prim.Native.Nat.{_<_}
-use Rattle.theory.specs.order.Limits.{records}
 use Rattle.theory.specs.lazy.Fold.{acted}
 use borrow.Author.Needs.{needs}
 use Rattle.checker.proofs.walking.act.Statement.{statement}
@@ -23,24 +21,10 @@ returns c =
 returns-2 : tie.Need-returns-2
 unfolding acted
 returns-2 c =
-    let at-if2 = c .before .before .before in
-    let at-either = at-if2 .before in
-    let at-access = at-either .before in
-    let at-if1 = at-access .before in
+    let at-if1 = c .before .before .before in
     let at-walkable = at-if1 .before in
-    rw (sym (at-walkable .is-walkable .ensures) ∙ at-if1 .if1 .left, ← at-access .is-access .ensures, sym (at-either .either .ensures) ∙ at-if2 .if2 .taken)
-    (rw (at-walkable .before .noted .ensures) at (c .of-variable .ensures))
-
-returns-3 : tie.Need-returns-3
-unfolding acted
-returns-3 c =
-    let at-either = c .before in
-    let at-access = at-either .before in
-    let at-if1 = at-access .before in
-    let at-walkable = at-if1 .before in
-    rw (sym (at-walkable .is-walkable .ensures) ∙ at-if1 .if1 .left, ← at-access .is-access .ensures, sym (at-either .either .ensures) ∙ c .if2 .left, at-walkable .before .noted .ensures)
+    rw (sym (at-walkable .is-walkable .ensures) ∙ at-if1 .if1 .left) (rw (at-walkable .before .noted .ensures) at (c .other-act .ensures))
 
 pub act-spec : {M : Type 1} → statement M
 act-spec = tie.close (tie.spec
-    (λ c κs. search needs) (λ c κs. search needs) walk-over-requires returns (λ c κs. search needs)
-    (λ c κs. search needs) (λ c κs. search needs) returns-2 returns-3)
+    (λ c κs. search needs) (λ c κs. search needs) walk-over-requires returns (λ c κs. search needs) returns-2)

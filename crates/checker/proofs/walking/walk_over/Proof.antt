@@ -1,5 +1,4 @@
 -- It is counted. Where something is followed, order goes over it, and what has come to the acting task is counted, too.
-use mathlib.Core.Path.{sym}
 use Prim.Native.Nat.{_+_}
 use lib.ListN.{getD}
 use borrow.Author.Tests.{ne-eqb}

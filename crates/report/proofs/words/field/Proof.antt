@@ -13,17 +13,17 @@ use Rattle.report.proofs.words.field.Tie as tie
 within : (c : tie.Then1) → let a = c .before .before .before .before .args in length (a .name .now) ≤ length (a .s .now)
 within c = word-fits _ _ (sym (c .before .starts-with .ensures) ∙ c .if1 .taken)
 
-sub-decimal : tie.Need-sub-decimal
-sub-decimal c = within c
+sub-read-decimal : tie.Need-sub-read-decimal
+sub-read-decimal c = within c
 
-part-decimal-start : tie.Need-part-decimal-start
-part-decimal-start c = within c
+part-read-decimal-start : tie.Need-part-read-decimal-start
+part-read-decimal-start c = within c
 
 returns : tie.Need-returns
 unfolding fieldOf
 returns c =
     let a = c .before .before .before .before .before .before .args in
-    c .decimal .ensures ∙ ap readDecimal (part-from (a .s .now) (length (a .name .now)))
+    c .read-decimal .ensures ∙ ap readDecimal (part-from (a .s .now) (length (a .name .now)))
     ∙ sym (named readDecimal _ _ (sym (c .before .before .before .starts-with .ensures) ∙ c .before .before .if1 .taken))
 
 returns-2 : tie.Need-returns-2
@@ -31,4 +31,4 @@ unfolding fieldOf
 returns-2 c = sym (unnamed readDecimal _ _ (sym (c .before .starts-with .ensures) ∙ c .if1 .left))
 
 pub field-spec : {M : Type 1} → statement M
-field-spec = tie.close (tie.spec (λ c κs. search needs) sub-decimal part-decimal-start (λ c. search needs) (λ c κs. search needs) returns returns-2)
+field-spec = tie.close (tie.spec (λ c κs. search needs) sub-read-decimal part-read-decimal-start (λ c. search needs) (λ c κs. search needs) returns returns-2)

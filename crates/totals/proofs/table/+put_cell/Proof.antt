@@ -10,7 +10,7 @@ use Rattle.totals.proofs.table.put_cell.Reads as put-cell
 use Rattle.totals.proofs.table.put_cell.Kinds as put-cell-kinds
 use Rattle.totals.proofs.table.+put_cell.Lts-put_cell as put-cell-lts
 use Rattle.totals.proofs.table.beside_digit.Reads as beside-digit-reads
-use Rattle.totals.proofs.table.put_digit.Reads as put-digit-reads
+use Rattle.report.proofs.put_digit.Reads as put-digit-reads
 use Rattle.totals.proofs.table.put_padded.Reads as put-padded-reads
 use Rattle.totals.proofs.table.+put_cell.{statement}
 use Rattle.totals.proofs.table.+put_cell.Tie.{close}

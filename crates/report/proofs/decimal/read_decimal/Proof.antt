@@ -1,9 +1,9 @@
--- `report::decimal::decimal`: a plain part is read. Assumes nothing.
+-- `report::decimal::read_decimal`: a plain part is read. Assumes nothing.
 use mathlib.Core.Path.{sym, _∙_}
 use borrow.Author.Needs.{needs}
 use Rattle.text.proofs.Numerals.{plain-fits, decimal-plain, decimal-other}
-use Rattle.report.proofs.decimal.decimal.Statement.{statement}
-use Rattle.report.proofs.decimal.decimal.Tie as tie
+use Rattle.report.proofs.decimal.read_decimal.Statement.{statement}
+use Rattle.report.proofs.decimal.read_decimal.Tie as tie
 
 read-digits-requires : tie.Need-read-digits-requires
 read-digits-requires c κs = plain-fits _ (sym (c .before .is-plain .ensures) ∙ c .if1 .taken)
@@ -14,6 +14,6 @@ returns c = c .read-digits .ensures ∙ sym (decimal-plain _ (sym (c .before .be
 returns-2 : tie.Need-returns-2
 returns-2 c = sym (decimal-other _ (sym (c .before .is-plain .ensures) ∙ c .if1 .left))
 
-pub decimal-spec : {M : Type 1} → statement M
-decimal-spec = tie.close (tie.spec
+pub read-decimal-spec : {M : Type 1} → statement M
+read-decimal-spec = tie.close (tie.spec
     (λ c κs. search needs) read-digits-requires returns returns-2)

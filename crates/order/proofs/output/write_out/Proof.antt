@@ -1,8 +1,8 @@
 -- What waits lies within the memory.
 use Rattle.text.proofs.Held.{counted}
 use borrow.Author.Needs.{needs}
-use Rattle.order.proofs.blocks.write_out.Statement.{statement}
-use Rattle.order.proofs.blocks.write_out.Tie as tie
+use Rattle.order.proofs.output.write_out.Statement.{statement}
+use Rattle.order.proofs.output.write_out.Tie as tie
 
 slice-aggregate-write-all : tie.Need-slice-aggregate-write-all
 slice-aggregate-write-all c = counted _ _ (c .before .if1 .left)

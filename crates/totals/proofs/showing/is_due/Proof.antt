@@ -1,8 +1,8 @@
 -- Each test leaves one case.
 use borrow.Author.Needs.{needs}
 use borrow.Author.Tests.{eq-eqb, ne-eqb, lt-ltb, le-ltb}
-use Rattle.totals.proofs.input.is_due.Statement.{statement}
-use Rattle.totals.proofs.input.is_due.Tie as tie
+use Rattle.totals.proofs.showing.is_due.Statement.{statement}
+use Rattle.totals.proofs.showing.is_due.Tie as tie
 
 returns : tie.Need-returns
 returns c = rw (eq-eqb (c .before .args .every) 0 (c .if1 .taken))

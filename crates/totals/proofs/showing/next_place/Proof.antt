@@ -1,7 +1,7 @@
 -- Each test leaves one case.
 use borrow.Author.Tests.{not-true, not-false, lt-ltb, le-ltb}
-use Rattle.totals.proofs.input.next_place.Statement.{statement}
-use Rattle.totals.proofs.input.next_place.Tie as tie
+use Rattle.totals.proofs.showing.next_place.Statement.{statement}
+use Rattle.totals.proofs.showing.next_place.Tie as tie
 
 returns : tie.Need-returns
 returns c = rw (not-true (c .before .args .written) (c .if1 .taken))

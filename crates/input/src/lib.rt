@@ -1,0 +1,111 @@
+// Standard input in pieces: each read brings a block, which is handed out piece by piece. No contract can say what came; that a piece lies within its
+// block is proved.
+use libc::STDERR_FILENO;
+use libc::STDIN_FILENO;
+ghost use Prim.Native.Nat.{_<_, _≤_};
+ghost use lib.ListN.{length};
+
+// A piece has so many bytes at most.
+pub const PIECE: usize = 1024;
+
+const LF: u8 = b'\n';
+
+// Where a piece stands in its block, how many bytes of that were read, and whether there may be more input.
+pub struct Span {
+    pub from: usize,
+    pub end: usize,
+    pub len: usize,
+    pub more: bool,
+}
+
+// Before the first piece.
+pub fn no_piece() -> Span {
+    Span {
+        from: 0,
+        end: 0,
+        len: 0,
+        more: true,
+    }
+}
+
+// How far the piece that begins at a place may go.
+fn furthest(from: usize, len: usize) -> usize
+    requires { ⌜ from < len ⌝ }
+    ensures { λ r. ⌜ (from < r) × (r ≤ len) ⌝ }
+{
+    if len - from <= PIECE {
+        len
+    } else {
+        from + PIECE
+    }
+}
+
+// After the next LF, if that is not too far.
+fn after_lf(block: &[u8], from: usize, most: usize) -> usize
+    requires { ⌜ (from < most) × (most ≤ length (now block)) ⌝ }
+    ensures { λ r. ⌜ (from < r) × (r ≤ most) ⌝ }
+{
+    let mut e = from;
+    while e < most {
+        if block[e] == LF {
+            return e + 1;
+        }
+        e += 1;
+    }
+    e
+}
+
+// The piece that begins at a place of a block; where lines are asked for, it ends after the next LF.
+fn piece_at(block: &[u8], from: usize, len: usize, lines: bool) -> Span
+    requires { ⌜ (from < len) × (len ≤ length (now block)) ⌝ }
+    ensures { λ r. ⌜ (r .from ≤ r .end) × (r .end ≤ length (now (block .entry))) ⌝ }
+{
+    let most = furthest(from, len);
+    let end = if lines {
+        after_lf(block, from, most)
+    } else {
+        most
+    };
+    Span {
+        from,
+        end,
+        len,
+        more: true,
+    }
+}
+
+// The last piece: LF, where a line has begun that none ends, and else nothing.
+fn last_piece(block: &mut [u8], begun: bool) -> Span
+    ensures { λ r. ⌜ (r .from ≤ r .end) × (r .end ≤ length (now (block .exit))) ⌝ }
+{
+    let mut end = 0;
+    if begun && 0 < block.len() {
+        block[0] = LF;
+        end = 1;
+    }
+    Span {
+        from: 0,
+        end,
+        len: end,
+        more: false,
+    }
+}
+
+// The piece after another, from the next block where that one is used up. A read may bring less than a block; none at all is the end of the input, and
+// one that fails says so, by the words for it, and is the end as well. `begun` says whether a line has begun, which the end of the input ends.
+pub fn next_piece(block: &mut [u8], was: Span, lines: bool, begun: bool, failed: &[u8]) -> Span
+    ensures { λ r. ⌜ (r .from ≤ r .end) × (r .end ≤ length (now (block .exit))) ⌝ }
+{
+    if was.end < was.len && was.len <= block.len() {
+        return piece_at(block, was.end, was.len, lines);
+    }
+    let got = libc::read(STDIN_FILENO, block);
+    if got < 0 {
+        io::write_all(STDERR_FILENO, failed);
+    }
+    let n = io::count(got, block);
+    if n == 0 {
+        return last_piece(block, begun);
+    }
+    piece_at(block, 0, n, lines)
+}
