@@ -20,6 +20,7 @@ pub mod Pieces
 pub mod Entries
 pub mod Reporting
 pub mod Held
+pub mod EntriesRead
 pub mod Excused
 pub mod TextDemands
 pub mod TextTotals

@@ -16,5 +16,6 @@ pub mod TextKnown
 -- As memory: what is written, what answering promises, and how a reader moves
 pub mod Wrote
 pub mod Answers
+pub mod EntriesRead
 pub mod Reading
 pub mod Places
