@@ -5,7 +5,7 @@ mod accepted;
 mod output;
 mod running;
 
-use accepted::open_accepted;
+use accepted::take_entries;
 use checker::begin;
 use libc::STDIN_FILENO;
 use output::OUT;
@@ -24,21 +24,15 @@ fn main() {
     let mut out = [0u8; OUT];
     let mut held = [0u8; HELD_MOST];
     let mut block = io::large_buffer();
-    let file = open_accepted();
-    if 0 <= file {
-        run(
-            file,
-            true,
-            b"order: accepted.txt cannot be read\n",
-            &mut out,
-            &mut held,
-            &mut block,
-            &mut control,
-            &mut last,
-            &mut clocks,
-            &mut fullclocks,
-        );
-    }
+    take_entries(
+        &mut out,
+        &mut held,
+        &mut block,
+        &mut control,
+        &mut last,
+        &mut clocks,
+        &mut fullclocks,
+    );
     run(
         STDIN_FILENO,
         false,
