@@ -64,7 +64,7 @@ fn run_full(tally: &mut Tally, order: Option<&str>) {
     tally.check(whole(entry::report(&example.text, 0)), || "entry, row 5".to_string());
     tally.check(whole(streaming::report(&example.text, Cuts::Anywhere(5))), || "pieces, row 5".to_string());
     // The search would take too long; one task alone has no conflict.
-    let clear = |access| Judged { access, verdict: Verdict::Clear, with: 0 };
+    let clear = |access| Judged { access, verdict: Verdict::Clear, with: 0, apart: Vec::new() };
     let judged: Vec<_> = oracle::accesses(&reading.recording).into_iter().map(clear).collect();
     feeding::expect(tally, "row 5", &feeding::records(&example.text), &reading, &judged);
     if let Some(order) = order {
