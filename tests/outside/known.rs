@@ -1,5 +1,5 @@
 //! Faults already accepted: the program `order` in a folder with a file accepted.txt, and `order_entries` ahead of `order_piece`, against document 02
-//! read word for word (entries.rs). Built with `--cfg without_entries` only the programs are tested, for archives that have no `order_entries`.
+//! read word for word (entries.rs).
 
 use crate::cuts::{Cuts, WAYS};
 use crate::entries::{self, Entries, Entry, MOST};
@@ -134,7 +134,6 @@ impl Drop for Folder {
 /// A file and a recording come to this report: by the archive, both cut in these ways, and by the program, where it is there.
 fn expect(tally: &mut Tally, name: &str, file: &[u8], deck: &Deck, expected: &str, order: Option<&Folder>, cuts: (Cuts, Cuts)) {
     let both = [file, b"\n--- recording\n", &deck.text].concat();
-    #[cfg(not(without_entries))]
     {
         let answer = streaming::report_with((file, cuts.0), (&deck.text, cuts.1), &deck.totals());
         tally.expect(&format!("entries in pieces, {name}, cut {cuts:?}"), &both, expected, answer);
@@ -747,7 +746,6 @@ fn run_large(tally: &mut Tally, order: Option<&Folder>) {
     ];
     for (name, file) in cases {
         let expected = deck.report(&entries::read(file.as_bytes()));
-        #[cfg(not(without_entries))]
         for cuts in [Cuts::Every(4_095), Cuts::Every(64), Cuts::Anywhere(1)] {
             let answer = streaming::report_with((file.as_bytes(), cuts), (&deck.text, Cuts::Nowhere), &deck.totals());
             tally.check(answer.is_ok_and(|got| got == expected.as_bytes()), || format!("entries in pieces, {name}, cut {cuts:?}"));
@@ -773,7 +771,6 @@ fn run_blocks(tally: &mut Tally, order: &Folder) {
 }
 
 /// Pieces of a file that are refused: for want of memory, and where the progress is none that a piece leaves. Nothing is changed.
-#[cfg(not(without_entries))]
 fn run_refused(tally: &mut Tally) {
     let mut try_one = |name: &str, result: Result<(), String>| tally.check(result.is_ok(), || format!("entries, {name}: {result:?}"));
     let file = format!("{SOUND}\nx\n");
@@ -894,7 +891,6 @@ pub fn run(tally: &mut Tally, order: Option<&str>, totals: Option<&str>) {
     run_bad(tally, program);
     run_large(tally, program);
     tally.part("entries, bad and large files");
-    #[cfg(not(without_entries))]
     run_refused(tally);
     if let Some(folder) = program {
         run_blocks(tally, folder);

@@ -4,7 +4,6 @@
 //! search. `outside [ORDER TOTALS]` runs them; without the programs only the archive is tested.
 //! `outside --report [ENTRIES]` prints what the plain path search says of the recording on standard input, with a file of entries if one is given.
 
-#![cfg_attr(without_entries, allow(dead_code, unused_imports))]
 
 mod bad;
 mod cuts;
