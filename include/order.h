@@ -271,7 +271,7 @@ static inline uint32_t order_sets_state_any_race(const struct order_sets *s) {
  *              of its own pairs; the answer is yes then.
  *
  * The pointers must be valid for their sizes, aligned and not null, also where len is 0, and the two must not overlap.
- * The memory is fixed whatever the length of the list: the call needs under 8 kilobytes of stack. Needs libhost.a. */
+ * The memory is fixed whatever the length of the list: the call needs under 16 kilobytes of stack. Needs libhost.a. */
 void order_lazy(const uint32_t (*list)[3], size_t len, uint64_t answer[4]);
 
 #ifdef __cplusplus
