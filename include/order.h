@@ -1,6 +1,6 @@
 /* The order checker for a host program in C. Link the archives whose functions are used: `rt staticlib NAME` writes libNAME.a, where NAME is
  * report (order_report), host (a running state and the sets, fed record by record, and their totals; order_lazy), gateway (order_step) or
- * pieces (order_piece). */
+ * pieces (order_piece, order_entries). */
 #ifndef ORDER_H
 #define ORDER_H
 
@@ -11,7 +11,7 @@
 extern "C" {
 #endif
 
-/* What order_report and order_piece answer where the report memory is too small. */
+/* What order_report, order_piece and order_entries answer where the report memory is too small. */
 #define ORDER_TOO_SMALL UINT64_MAX
 
 /* Reads a recording as text and writes its report.
@@ -21,7 +21,7 @@ extern "C" {
  *
  * Answers the count of bytes written, which stand at the start of `report`; the bytes after them stay as they were.
  * Where report_len is under 64 bytes for each line it answers ORDER_TOO_SMALL, and `report` is untouched; this is looked at before
- * any line. Each call begins from a fresh state.
+ * any line. Each call begins from a fresh state, without entries.
  *
  * Both pointers must be valid for their lengths and not null, also where a length is 0, and the two must not overlap.
  * The call needs under 32 kilobytes of stack. */
@@ -51,7 +51,7 @@ uint64_t order_report(const uint8_t *text, size_t text_len, uint8_t *report, siz
 #define ORDER_DOUBT 4
 
 /* How many cells each table of a running state has. */
-#define ORDER_CONTROL_CELLS 210
+#define ORDER_CONTROL_CELLS 1235
 #define ORDER_HISTORY_CELLS 3072
 #define ORDER_CLOCK_CELLS 1312
 #define ORDER_SET_CELLS 7872
@@ -103,12 +103,12 @@ static inline uint32_t order_state_any_race(const struct order_state *s) {
     return order_any_race(s->control);
 }
 
-/* The same as order_state_feed by one call that is lent the whole state. It copies the state there and back, 23 kilobytes, so that a record
+/* The same as order_state_feed by one call that is lent the whole state. It copies the state there and back, 27 kilobytes, so that a record
  * takes 49 to 118 times as long (medians: some 1,600 ns against 32 in a mixed recording of 16 tasks, and against 14 for accesses of one
  * task); the two may be mixed. Needs libgateway.a. */
 void order_step(struct order_state *s, uint8_t kind, uint32_t task, uint32_t on, uint32_t answer[3]);
 
-/* So many bytes of a line are held at most: no line of more than 64 is a record. */
+/* So many bytes of a line are held at most: no line of more than 64 is a record or an entry. */
 #define ORDER_HELD_BYTES 65
 
 /* A text that comes in pieces, over hours if need be, cut anywhere: its running state and what is kept of it between two pieces. The host
@@ -121,7 +121,15 @@ void order_step(struct order_state *s, uint8_t kind, uint32_t task, uint32_t on,
  *     while ((len = receive(piece, sizeof piece)) > 0) show(report, order_text_piece(&text, piece, len, report, sizeof report));
  *     show(report, order_text_end(&text, report, sizeof report));
  *
- * What is shown so, one after the other, is the report that order_report writes of the whole text. Needs libhost.a and libpieces.a. */
+ * What is shown so, one after the other, is the report that order_report writes of the whole text. Needs libhost.a and libpieces.a.
+ *
+ * A planner's entries, the faults that are accepted already, come before the recording, in pieces as well:
+ *
+ *     order_text_begin(&text);
+ *     while ((len = read_entries(piece, sizeof piece)) > 0) show(report, order_text_entries(&text, piece, len, report, sizeof report));
+ *     show(report, order_text_entries_end(&text, report, sizeof report));
+ *
+ * and then the recording as above. What is shown so is what the program `order` prints where the entries are its accepted.txt. */
 struct order_text {
     struct order_state state;
     uint64_t progress[2]; /* how many lines are answered, and how many bytes are held of the line that has begun */
@@ -162,6 +170,43 @@ static inline uint64_t order_text_piece(struct order_text *t, const uint8_t *pie
 static inline uint64_t order_text_end(struct order_text *t, uint8_t *report, size_t report_len) {
     const uint8_t lf = '\n';
     return t->progress[1] == 0 ? 0 : order_text_piece(t, &lf, 1, report, report_len);
+}
+
+/* Takes in a planner's entries, from a file that comes in pieces like a recording: those whose lines end in the piece. An entry is a line
+ * `rec=00012 var=5 low=1 high=3 mark=accepted`, or the same with mark=open: where the fault was seen, in five digits, 00001 to 60000; its
+ * variable, 0 to 63; its two tasks, the lower one first, 0 to 15. Lines end and numbers are written as in a recording. Of two entries for the
+ * same variable and tasks the later one holds, so that an open undoes an accepted.
+ *
+ * In what order_piece then writes, a Race is `verdict=known` where the acting task is accepted for that variable with every task that it is
+ * not in order with, whatever was lost; `with` is as it would be without entries. Otherwise it is `verdict=race`, and `with` is the latest
+ * access of the lowest of the tasks that it is not accepted with. Nothing else changes: a known Race is a Race still, and is counted as one.
+ *
+ * For an entry that is refused `entry=4 refused=12` is written, with its line in the file, and it is left out:
+ *   12  the line is not of this form, or a number is out of its range; this is looked at first
+ *   13  200 entries have been taken in already, and each counts that was taken, also one that replaced another, and an open
+ *
+ * piece, report, held, progress: as in order_piece, and so are the count of bytes that is answered, ORDER_TOO_SMALL, and a last line
+ * without LF.
+ * control: that of a fresh running state. The entries lie in it, and order_begin forgets them. They are to be taken in before the first
+ * record, and `progress` is to be 0, 0 again before the first piece of the recording.
+ *
+ * The pointers must be valid for their lengths and sizes, aligned and not null, also where a length is 0, and no two may overlap. */
+uint64_t order_entries(const uint8_t *piece, size_t piece_len, uint8_t *report, size_t report_len, uint8_t held[ORDER_HELD_BYTES],
+                       uint64_t progress[2], uint32_t control[ORDER_CONTROL_CELLS]);
+
+/* The same as order_entries. */
+static inline uint64_t order_text_entries(struct order_text *t, const uint8_t *piece, size_t piece_len, uint8_t *report,
+                                          size_t report_len) {
+    return order_entries(piece, piece_len, report, report_len, t->held, t->progress, t->state.control);
+}
+
+/* Ends the entries: answers a last line without LF, if there is one, so that the recording may begin. 64 bytes of report are enough; where
+ * they are wanted and not there, it answers ORDER_TOO_SMALL, and nothing is changed. */
+static inline uint64_t order_text_entries_end(struct order_text *t, uint8_t *report, size_t report_len) {
+    const uint8_t lf = '\n';
+    uint64_t n = t->progress[1] == 0 ? 0 : order_text_entries(t, &lf, 1, report, report_len);
+    if (n != ORDER_TOO_SMALL) t->progress[0] = t->progress[1] = 0;
+    return n;
 }
 
 /* The totals of the lines that have ended, between two pieces. */
@@ -226,7 +271,7 @@ static inline uint32_t order_sets_state_any_race(const struct order_sets *s) {
  *              of its own pairs; the answer is yes then.
  *
  * The pointers must be valid for their sizes, aligned and not null, also where len is 0, and the two must not overlap.
- * The memory is fixed whatever the length of the list: the call needs under 8 kilobytes of stack. Needs libhost.a. */
+ * The memory is fixed whatever the length of the list: the call needs under 16 kilobytes of stack. Needs libhost.a. */
 void order_lazy(const uint32_t (*list)[3], size_t len, uint64_t answer[4]);
 
 #ifdef __cplusplus

@@ -1,6 +1,6 @@
 /* A host program in C over the archives: document 01's example, row 11 at its edge, kept bytes, the empty text; then the same example fed
- * record by record to a running state and to the sets, and as a text in pieces, and its totals at each moment; lists for the lazy
- * reckoning. */
+ * record by record to a running state and to the sets, and as a text in pieces, and its totals at each moment; a planner's entries before
+ * it; lists for the lazy reckoning. */
 #include <stdio.h>
 #include <string.h>
 
@@ -326,7 +326,18 @@ static void cut_add(struct cut *cut, uint64_t n, const uint8_t *out, size_t out_
     cut->total += n;
 }
 
-static uint8_t memory[64 * TEXT];
+/* A planner's entries: the example's Race is accepted, and its Doubt, which stays one; another pair is open, and what is between is no entry.
+ * Below, what is written for them and for the example. */
+static const char entries[] = "rec=00006 var=5 low=0 high=1 mark=accepted\nrec=00007 var=6 low=1 high=0 mark=accepted\n\n"
+                              "rec=00007 var=6 low=0 high=1 mark=accepted\nrec=60000 var=6 low=0 high=2 mark=open\n";
+static const char known[] = "entry=2 refused=12\nentry=3 refused=12\n"
+                            "rec=00002 task=0 var=5 verdict=clear with=00000\nrec=00004 task=0 var=6 verdict=clear with=00000\n"
+                            "rec=00006 task=1 var=5 verdict=doubt with=00002\nrec=00007 task=1 var=6 verdict=known with=00004\n"
+                            "rec=00009 task=1 var=5 verdict=clear with=00000\nline=10 refused=6\n";
+
+enum { ENTRIES = sizeof entries - 1 };
+
+static uint8_t memory[64 * (sizeof text > sizeof entries ? sizeof text : sizeof entries)];
 
 /* Feeds a piece, with just the memory that it wants. */
 static void cut_feed(struct cut *cut, const char *piece, size_t len) {
@@ -334,13 +345,29 @@ static void cut_feed(struct cut *cut, const char *piece, size_t len) {
     cut_add(cut, order_text_piece(&cut->kept, (const uint8_t *)piece, len, memory, 64 * len), memory, 64 * len);
 }
 
-/* Ends the text: the report is whole, and so is the count of its bytes. */
-static void cut_end(struct cut *cut, const char *how, size_t at) {
+/* Ends the text: what was written is just this. */
+static void cut_expect(struct cut *cut, const char *how, size_t at, const char *expected) {
     memset(memory, 0x5a, sizeof memory);
     cut_add(cut, order_text_end(&cut->kept, memory, 64), memory, 64);
     char what[160];
     snprintf(what, sizeof what, "the example %s %zu: %zu bytes of report", how, at, cut->total);
-    check(what, cut->right && cut->total == REPORT && memcmp(cut->wrote, report, REPORT) == 0);
+    check(what, cut->right && cut->total == strlen(expected) && memcmp(cut->wrote, expected, cut->total) == 0);
+}
+
+/* The report is whole, and so is the count of its bytes. */
+static void cut_end(struct cut *cut, const char *how, size_t at) { cut_expect(cut, how, at, report); }
+
+/* Takes in entries, with just the memory that they want. */
+static void cut_enter(struct cut *cut, const char *piece, size_t len) {
+    memset(memory, 0x5a, sizeof memory);
+    cut_add(cut, order_text_entries(&cut->kept, (const uint8_t *)piece, len, memory, 64 * len), memory, 64 * len);
+}
+
+/* Ends the entries, so that the text may begin. */
+static void cut_entered(struct cut *cut) {
+    memset(memory, 0x5a, sizeof memory);
+    cut_add(cut, order_text_entries_end(&cut->kept, memory, 64), memory, 64);
+    cut->right = cut->right && cut->kept.progress[0] == 0 && cut->kept.progress[1] == 0;
 }
 
 static struct cut cut;
@@ -439,6 +466,135 @@ static void any_text(void) {
     check("the last line that can be counted", order_text_piece(&kept, (const uint8_t *)"\n", 1, out, 64) == 36);
     check("has its number", memcmp(out, "line=18446744073709551615 refused=1\n", 36) == 0);
     refuse("and there is none after it", &kept, "\n", 1, sizeof memory);
+}
+
+/* Entries in pieces of each size, in two, with an empty piece between, each with their last LF and without; then the example. */
+static void entered(size_t len) {
+    for (size_t size = 1; size <= len; size++) {
+        cut_begin(&cut);
+        for (size_t at = 0; at < len; at += size) cut_enter(&cut, entries + at, len - at < size ? len - at : size);
+        cut_entered(&cut);
+        cut_feed(&cut, text, TEXT);
+        cut_expect(&cut, "after entries in pieces of", size, known);
+    }
+    for (size_t at = 0; at <= len; at++) {
+        cut_begin(&cut);
+        cut_enter(&cut, entries, at);
+        cut_enter(&cut, "", 0);
+        cut_enter(&cut, entries + at, len - at);
+        cut_entered(&cut);
+        cut_feed(&cut, text, at);
+        cut_feed(&cut, text + at, TEXT - at);
+        cut_expect(&cut, "after entries, cut at", at, known);
+    }
+}
+
+/* Entries count nowhere, and a known Race counts as a Race. A begun text has none. */
+static void entered_totals(void) {
+    static struct order_text fresh;
+    const struct way way = {.name = "entries", .totals = totals_text, .any_race = any_race_text};
+    memset(&fresh, 0, sizeof fresh);
+    order_text_begin(&fresh);
+    cut_begin(&cut);
+    cut_enter(&cut, entries, ENTRIES);
+    count(&way, &cut.kept, 0);
+    cut_entered(&cut);
+    cut_feed(&cut, text, TEXT);
+    count(&way, &cut.kept, RECORDS);
+    cut_expect(&cut, "after entries, with its totals, cut at", 0, known);
+    order_text_begin(&cut.kept);
+    check("a text with entries is begun again without", memcmp(&cut.kept.state, &fresh.state, sizeof fresh.state) == 0);
+}
+
+/* So many times a line of entries, then another; and the first line of what is written then. */
+static void enter_many(const char *what, size_t times, const char *line, const char *last, const char *first, const char *verdict) {
+    cut_begin(&cut);
+    for (size_t i = 0; i < times; i++) cut_enter(&cut, line, strlen(line));
+    cut_enter(&cut, last, strlen(last));
+    cut_entered(&cut);
+    cut_feed(&cut, text, TEXT);
+    cut.wrote[cut.total < sizeof cut.wrote ? cut.total : 0] = 0;
+    check(what, cut.right && strncmp((char *)cut.wrote, first, strlen(first)) == 0 && strstr((char *)cut.wrote, verdict));
+}
+
+/* The later line holds; 200 are taken in, whatever they say, and 12 goes before 13. */
+static void later_and_full(void) {
+    static const char accepted[] = "rec=00007 var=6 low=0 high=1 mark=accepted\n", open[] = "rec=00001 var=6 low=0 high=1 mark=open\n";
+    static const char other[] = "rec=00001 var=63 low=14 high=15 mark=open\n", swapped[] = "rec=00001 var=6 low=1 high=0 mark=open\n";
+    enter_many("accepted", 0, "", accepted, "rec=00002", " var=6 verdict=known with=00004\n");
+    enter_many("accepted, then open", 1, accepted, open, "rec=00002", " var=6 verdict=race with=00004\n");
+    enter_many("open, then accepted", 1, open, accepted, "rec=00002", " var=6 verdict=known with=00004\n");
+    enter_many("the 200th entry", 199, other, accepted, "rec=00002", " var=6 verdict=known with=00004\n");
+    enter_many("the 201st entry", 200, other, accepted, "entry=201 refused=13\nrec=00002", " var=6 verdict=race with=00004\n");
+    enter_many("the 201st for the same pair", 200, accepted, open, "entry=201 refused=13\nrec=00002", " var=6 verdict=known with=00004\n");
+    enter_many("12 goes first", 200, accepted, swapped, "entry=201 refused=12\nrec=00002", " var=6 verdict=known with=00004\n");
+}
+
+/* Tasks 1 and 2 write variable 5 and task 0 reads it; the line for the read, by what is accepted. */
+static void partners(void) {
+#define ACCEPTED(var, pair) "rec=00005 var=" var " " pair " mark=accepted\n"
+    static const char three[] = "op=start task=0 on=1\nop=start task=0 on=2\nop=write task=1 on=5\nop=write task=2 on=5\n"
+                                "op=read task=0 on=5\n";
+    static const char *const cases[][2] = {
+        {"", "race with=00003\n"},
+        {ACCEPTED("5", "low=0 high=1"), "race with=00004\n"},
+        {ACCEPTED("5", "low=0 high=2"), "race with=00003\n"},
+        {ACCEPTED("5", "low=1 high=2"), "race with=00003\n"},
+        {ACCEPTED("5", "low=0 high=1") ACCEPTED("5", "low=0 high=2"), "known with=00003\n"},
+        {ACCEPTED("5", "low=0 high=1") ACCEPTED("4", "low=0 high=2"), "race with=00004\n"},
+    };
+    for (size_t i = 0; i < sizeof cases / sizeof cases[0]; i++) {
+        size_t len = strlen(cases[i][1]);
+        cut_begin(&cut);
+        cut_enter(&cut, cases[i][0], strlen(cases[i][0]));
+        cut_entered(&cut);
+        cut_feed(&cut, three, sizeof three - 1);
+        check(cases[i][0], cut.right && cut.total > len && memcmp(cut.wrote + cut.total - len, cases[i][1], len) == 0);
+    }
+}
+
+/* A piece of entries that is refused changes nothing. */
+static void refuse_entries(const char *what, const struct order_text *kept, const char *piece, size_t len, size_t room) {
+    static struct order_text before, after;
+    memcpy(&before, kept, sizeof before);
+    memcpy(&after, kept, sizeof after);
+    memset(memory, 0x5a, sizeof memory);
+    uint64_t n = len ? order_text_entries(&after, (const uint8_t *)piece, len, memory, room) : order_text_entries_end(&after, memory, room);
+    check(what, n == ORDER_TOO_SMALL && memcmp(&before, &after, sizeof before) == 0 && all(memory, sizeof memory, 0x5a));
+}
+
+static void entries_refused(void) {
+    static struct order_text kept;
+    uint8_t out[64];
+    cut_begin(&cut);
+    for (size_t at = 0; at < ENTRIES - 1; at += 30) {
+        size_t len = ENTRIES - 1 - at < 30 ? ENTRIES - 1 - at : 30;
+        refuse_entries("entries, one byte too few", &cut.kept, entries + at, len, 64 * len - 1);
+        refuse_entries("entries, no memory", &cut.kept, entries + at, len, 0);
+        cut_enter(&cut, entries + at, len);
+    }
+    refuse_entries("the end of entries, one byte too few", &cut.kept, "", 0, 63);
+    cut_entered(&cut);
+    check("a second end has nothing to say", order_text_entries_end(&cut.kept, out, 0) == 0);
+    cut_feed(&cut, text, TEXT);
+    cut_expect(&cut, "after refusals of entries in pieces of", 30, known);
+
+    /* What no begin or piece left: the call is safe still. */
+    memset(&kept, 0xff, sizeof kept);
+    refuse_entries("entries of all one-bits", &kept, entries, 1, sizeof memory);
+    kept.progress[0] = 0;
+    kept.progress[1] = ORDER_HELD_BYTES + 1;
+    refuse_entries("more held of an entry than can be", &kept, "\n", 1, sizeof memory);
+    kept.progress[1] = ORDER_HELD_BYTES;
+    uint64_t n = order_text_entries(&kept, (const uint8_t *)"\n", 1, out, 64);
+    check("held bytes of any kind are no entry", n == 19 && memcmp(out, "entry=1 refused=12\n", 19) == 0);
+    n = order_text_entries(&kept, (const uint8_t *)entries, 43, memory, sizeof memory);
+    check("a control table of all one-bits: full", n == 19 && memcmp(memory, "entry=2 refused=13\n", 19) == 0);
+    check("and is left as it was", all(&kept.state, sizeof kept.state, 0xff));
+    kept.progress[0] = UINT64_MAX - 1;
+    check("the last entry that can be counted", order_text_entries(&kept, (const uint8_t *)"\n", 1, out, 64) == 38);
+    check("has its number", memcmp(out, "entry=18446744073709551615 refused=12\n", 38) == 0);
+    refuse_entries("and there is none after it", &kept, "\n", 1, sizeof memory);
 }
 
 /* A list and what is answered for the access that ends it: the refusal, the tasks that have a pair, those from which a path leads here, the
@@ -540,6 +696,12 @@ int main(void) {
     text_and_records();
     too_little();
     any_text();
+    entered(ENTRIES);
+    entered(ENTRIES - 1);
+    entered_totals();
+    later_and_full();
+    partners();
+    entries_refused();
     lazily();
     printf("host: %d passed, %d failed\n", passed, failed);
     return failed != 0;

@@ -149,7 +149,7 @@ fn judged(recording: &[Record], report: &[u8]) -> Vec<Judged> {
             "race" => Verdict::Race,
             _ => Verdict::Doubt,
         };
-        Judged { access, verdict, with: with.parse().unwrap_or(0) }
+        Judged { access, verdict, with: with.parse().unwrap_or(0), apart: Vec::new() }
     };
     oracle::accesses(recording).into_iter().zip(verdicts).map(judge).collect()
 }

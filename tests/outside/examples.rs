@@ -20,7 +20,7 @@ pub fn text(records: &str) -> Vec<u8> {
 }
 
 /// Report lines in short: `3 1 race 2` is record 3, task 1, variable 5, and its partner; `!4 6` is line 4 refused with 6.
-fn report(lines: &str) -> String {
+pub fn report(lines: &str) -> String {
     let mut out = String::new();
     for line in lines.split(", ").filter(|line| !line.is_empty()) {
         match line.split(' ').collect::<Vec<_>>()[..] {

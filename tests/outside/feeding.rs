@@ -49,8 +49,8 @@ pub struct Reckoning {
     feed: Feed,
 }
 
-pub const CLOCKS: Reckoning = Reckoning { name: "clocks", sizes: [210, 3072, 1312, 1312], begin: order_begin, feed: order_feed };
-pub const SETS: Reckoning = Reckoning { name: "sets", sizes: [210, 3072, 7872, 7872], begin: order_sets_begin, feed: order_sets_feed };
+pub const CLOCKS: Reckoning = Reckoning { name: "clocks", sizes: [1235, 3072, 1312, 1312], begin: order_begin, feed: order_feed };
+pub const SETS: Reckoning = Reckoning { name: "sets", sizes: [1235, 3072, 7872, 7872], begin: order_sets_begin, feed: order_sets_feed };
 pub const BOTH: [Reckoning; 2] = [CLOCKS, SETS];
 
 /// A state in one piece of memory, a guard before, between and after its tables.

@@ -287,7 +287,7 @@ fn stray(random: &mut Random) -> String {
     format!("op={word} task={task} on={on}")
 }
 
-fn replace(line: &mut Vec<u8>, old: &str, new: &str) {
+pub fn replace(line: &mut Vec<u8>, old: &str, new: &str) {
     *line = String::from_utf8_lossy(line).replacen(old, new, 1).into_bytes();
 }
 

@@ -1,15 +1,18 @@
 //! Tests from outside: the C entry, texts in pieces and the programs `order` and `totals` against the plain path search, byte for byte, and bad
 //! input at scale; the programs on input that pauses; the running state and the sets, fed without text, against the same search, answer for answer,
-//! and their totals after each record; the lazy reckoning against a literal reading of document 02 over that search.
-//! `outside [ORDER TOTALS]` runs them; without the programs only the archive is tested.
-//! `outside --report` prints what the plain path search says of the recording on standard input.
+//! and their totals after each record; the lazy reckoning, and reports with a planner's entries, against a literal reading of document 02 over that
+//! search. `outside [ORDER TOTALS]` runs them; without the programs only the archive is tested.
+//! `outside --report [ENTRIES]` prints what the plain path search says of the recording on standard input, with a file of entries if one is given.
+
 
 mod bad;
 mod cuts;
+mod entries;
 mod entry;
 mod examples;
 mod feeding;
 mod generate;
+mod known;
 mod lazy;
 mod numbers;
 mod oracle;
@@ -64,7 +67,7 @@ fn run_full(tally: &mut Tally, order: Option<&str>) {
     tally.check(whole(entry::report(&example.text, 0)), || "entry, row 5".to_string());
     tally.check(whole(streaming::report(&example.text, Cuts::Anywhere(5))), || "pieces, row 5".to_string());
     // The search would take too long; one task alone has no conflict.
-    let clear = |access| Judged { access, verdict: Verdict::Clear, with: 0 };
+    let clear = |access| Judged { access, verdict: Verdict::Clear, with: 0, apart: Vec::new() };
     let judged: Vec<_> = oracle::accesses(&reading.recording).into_iter().map(clear).collect();
     feeding::expect(tally, "row 5", &feeding::records(&example.text), &reading, &judged);
     if let Some(order) = order {
@@ -235,7 +238,7 @@ fn run_coverage(tally: &mut Tally) {
     let others =
         ["race", "clear", "doubt", "doubt tipped by a random completion", "recordings with a mark", "tables of any content, accepted"]
             .map(String::from);
-    for what in rows.into_iter().chain(unsayable).chain(others).chain(lazy::SEEN.map(String::from)) {
+    for what in rows.into_iter().chain(unsayable).chain(others).chain(lazy::SEEN.map(String::from)).chain(known::SEEN.map(String::from)) {
         let times = tally.seen.get(&what).copied().unwrap_or(0);
         println!("seen: {what}: {times}");
         tally.check(times >= 50, || format!("seen too seldom: {what}"));
@@ -247,7 +250,9 @@ fn main() {
     if word.as_deref() == Some("--report") {
         let mut text = Vec::new();
         std::io::stdin().read_to_end(&mut text).expect("standard input can be read");
-        print!("{}", oracle::report_of(&text));
+        let file = std::env::args().nth(2).map_or(Vec::new(), |file| std::fs::read(file).expect("the entries can be read"));
+        let reading = oracle::read(&text);
+        print!("{}", entries::read(&file).report(&reading, &oracle::judge(&reading.recording)));
         return;
     }
     run_all(word.as_deref(), std::env::args().nth(2).as_deref());
@@ -273,6 +278,7 @@ fn run_all(order: Option<&str>, totals: Option<&str>) {
     tally.part("long recordings");
     numbers::run(&mut tally);
     lazy::run(&mut tally);
+    known::run(&mut tally, order, totals);
     bad::run(&mut tally, order);
     run_coverage(&mut tally);
     tally.part("coverage");

@@ -1,5 +1,5 @@
-/* The C entry, texts in pieces, the running state, the sets and lists for the lazy reckoning in memory allotted to the byte, to be run under
- * valgrind: they must touch nothing beyond it and use nothing unset. */
+/* The C entry, texts in pieces, entries before them, the running state, the sets and lists for the lazy reckoning in memory allotted to the
+ * byte, to be run under valgrind: they must touch nothing beyond it and use nothing unset. */
 #include <stdio.h>
 #include <stdlib.h>
 #include <string.h>
@@ -116,13 +116,15 @@ static void fed_whole(void) {
     free(state);
 }
 
+typedef uint64_t piece_call(struct order_text *, const uint8_t *, size_t, uint8_t *, size_t);
+
 /* One piece in memory of its own, with as much for its report as it wants. Answers how much was written, after what was before. */
-static size_t piece(struct order_text *kept, const char *text, size_t len, uint8_t *whole, size_t before) {
+static size_t piece(piece_call *call, struct order_text *kept, const char *text, size_t len, uint8_t *whole, size_t before) {
     uint8_t *lent = malloc(len ? len : 1);
     uint8_t *report = malloc(len ? 64 * len : 1);
     if (!lent || !report) abort();
     memcpy(lent, text, len);
-    uint64_t n = order_text_piece(kept, lent, len, report, 64 * len);
+    uint64_t n = call(kept, lent, len, report, 64 * len);
     if (n > 64 * len) abort();
     memcpy(whole + before, report, (size_t)n);
     free(lent);
@@ -130,15 +132,20 @@ static size_t piece(struct order_text *kept, const char *text, size_t len, uint8
     return before + (size_t)n;
 }
 
+/* All pieces of one size, and a rest without LF. */
+static size_t pieces(piece_call *call, struct order_text *kept, const char *text, size_t len, size_t size, uint8_t *whole, size_t before) {
+    for (size_t at = 0; at < len; at += size) before = piece(call, kept, text + at, len - at < size ? len - at : size, whole, before);
+    return kept->progress[1] > 0 ? piece(call, kept, "\n", 1, whole, before) : before;
+}
+
 /* A text in pieces of one size, what is kept being unset before its begin, against the report of the whole text. */
 static void cut(const char *text, size_t len, size_t size) {
-    size_t most = 64 * lines(text, len), total = 0;
+    size_t most = 64 * lines(text, len);
     uint8_t *expected = malloc(most), *whole = malloc(most);
     struct order_text *kept = malloc(sizeof *kept);
     if (!expected || !whole || !kept) abort();
     order_text_begin(kept);
-    for (size_t at = 0; at < len; at += size) total = piece(kept, text + at, len - at < size ? len - at : size, whole, total);
-    if (kept->progress[1] > 0) total = piece(kept, "\n", 1, whole, total);
+    size_t total = pieces(order_text_piece, kept, text, len, size, whole, 0);
     uint64_t n = order_report((const uint8_t *)text, len, expected, most);
     if (total == n && memcmp(whole, expected, total) == 0) {
         passed++;
@@ -149,6 +156,43 @@ static void cut(const char *text, size_t len, size_t size) {
     free(expected);
     free(whole);
     free(kept);
+}
+
+/* A file of entries in pieces of one size, then a text in pieces of another, what is kept being unset before its begin. Answers how much was
+ * written. The entries are asked to end twice, in no memory where nothing is left. */
+static size_t entered(const char *file, size_t file_len, size_t size, const char *text, size_t len, size_t other, uint8_t *whole) {
+    struct order_text *kept = malloc(sizeof *kept);
+    uint8_t *none = malloc(1);
+    if (!kept || !none) abort();
+    order_text_begin(kept);
+    size_t total = pieces(order_text_entries, kept, file, file_len, size, whole, 0);
+    if (order_text_entries_end(kept, none, 0) || order_text_entries_end(kept, none, 0)) abort();
+    total = pieces(order_text_piece, kept, text, len, other, whole, total);
+    if (sum(kept->state.control, ORDER_CONTROL_CELLS) == 0) abort();
+    free(kept);
+    free(none);
+    return total;
+}
+
+/* However the two are cut, the same is written, and more than without entries. */
+static void cut_entries(const char *file, size_t file_len, const char *text, size_t len) {
+    size_t most = 64 * (lines(file, file_len) + lines(text, len));
+    uint8_t *expected = malloc(most), *whole = malloc(most);
+    if (!expected || !whole) abort();
+    size_t n = entered(file, file_len, file_len, text, len, len, expected), plain = entered("", 0, 1, text, len, len, whole);
+    int right = n > plain && memcmp(expected, "entry=", 6) == 0 && memcmp(whole, "entry=", 6) != 0;
+    for (size_t size = 1; size <= file_len; size = size < 70 ? size + 1 : 2 * size) {
+        size_t total = entered(file, file_len, size, text, len, 71 - size % 70, whole);
+        right = right && total == n && memcmp(whole, expected, n) == 0;
+    }
+    if (right) {
+        passed++;
+    } else {
+        failed++;
+        printf("FAILED: a text after entries: %zu bytes, and %zu without\n", n, plain);
+    }
+    free(expected);
+    free(whole);
 }
 
 /* The first so many records of a list, all kinds by turns once all tasks are started, the last one being as it is given. */
@@ -200,6 +244,10 @@ int main(void) {
     for (size_t cut = 1; cut < len; cut += 23) around(sample + cut, len - cut);
     for (size_t length = 0; length < 64; length++) call("op=read task=0 on=1", 19, length, 0);
     for (size_t size = 1; size <= len; size = size < 70 ? size + 1 : 2 * size) cut(sample, len, size);
+    static const char file[] = "rec=00012 var=5 low=0 high=1 mark=accepted\nrec=00000 var=5 low=0 high=1 mark=open\n\n"
+                               "rec=60000 var=63 low=14 high=15 mark=accepted\nrec=00001 var=5 low=1 high=15 mark=open\n"
+                               "rec=00001 var=64 low=1";
+    for (size_t cut = sizeof file - 1; cut > 50; cut -= 7) cut_entries(file, cut, sample, len);
     fed("clocks", order_begin, order_feed, ORDER_CLOCK_CELLS);
     fed_whole();
     fed("sets", order_sets_begin, order_sets_feed, ORDER_SET_CELLS);

@@ -381,18 +381,18 @@ pub fn pairs(accesses: &[Access], this: usize) -> impl Iterator<Item = usize> {
     latest.into_iter().flatten()
 }
 
-/// Among tasks whose latest conflicting earlier access has no path to this one, the lowest; that access's record number.
-fn partner(accesses: &[Access], paths: &Paths, this: usize) -> usize {
-    match pairs(accesses, this).find(|&latest| !paths.has(latest, this)) {
-        Some(latest) => accesses[latest].rec,
-        None => panic!("the oracle contradicts itself: a racy access without a partner"),
-    }
+/// Those of them from which no path leads to this one.
+fn apart(accesses: &[Access], paths: &Paths, this: usize) -> Vec<Access> {
+    pairs(accesses, this).filter(|&latest| !paths.has(latest, this)).map(|latest| accesses[latest]).collect()
 }
 
 pub struct Judged {
     pub access: Access,
     pub verdict: Verdict,
+    /// The record number of the partner: the first of those apart.
     pub with: usize,
+    /// For Race the latest conflicting accesses without a path in any completion, for Doubt as it arrived; the lowest task first.
+    pub apart: Vec<Access>,
 }
 
 /// Race: racy even in the fullest completion. Clear: not racy even as it arrived. Doubt: otherwise.
@@ -402,13 +402,14 @@ pub fn judge(recording: &[Record]) -> Vec<Judged> {
     let full = paths(&complete(recording, fullest));
     let mut list = Vec::new();
     for this in 0..accesses.len() {
-        let (verdict, with) = match (racy(&accesses, &full, this), racy(&accesses, &arrived, this)) {
-            (true, true) => (Verdict::Race, partner(&accesses, &full, this)),
-            (false, true) => (Verdict::Doubt, partner(&accesses, &arrived, this)),
-            (false, false) => (Verdict::Clear, 0),
+        let (verdict, apart) = match (racy(&accesses, &full, this), racy(&accesses, &arrived, this)) {
+            (true, true) => (Verdict::Race, apart(&accesses, &full, this)),
+            (false, true) => (Verdict::Doubt, apart(&accesses, &arrived, this)),
+            (false, false) => (Verdict::Clear, Vec::new()),
             (true, false) => panic!("the oracle contradicts itself: racy in the fullest completion alone"),
         };
-        list.push(Judged { access: accesses[this], verdict, with });
+        assert_eq!(apart.is_empty(), verdict == Verdict::Clear, "the oracle contradicts itself: a racy access without a partner");
+        list.push(Judged { access: accesses[this], verdict, with: apart.first().map_or(0, |lowest| lowest.rec), apart });
     }
     list
 }
@@ -484,17 +485,32 @@ pub fn tables(reading: &Reading, judged: &[Judged], every: usize, ended: bool) -
 
 // ---- Report
 
+/// The word for a verdict, and the partner.
+pub fn said(one: &Judged) -> (&'static str, usize) {
+    let word = match one.verdict {
+        Verdict::Clear => "clear",
+        Verdict::Race => "race",
+        Verdict::Doubt => "doubt",
+    };
+    (word, one.with)
+}
+
 /// One line for an accepted access, one for a refused line, none for other records.
 pub fn report(reading: &Reading, judged: &[Judged]) -> String {
+    report_as(reading, judged, said)
+}
+
+/// The same with what `said` makes of each verdict.
+pub fn report_as(reading: &Reading, judged: &[Judged], said: impl Fn(&Judged) -> (&'static str, usize)) -> String {
     let mut out = String::new();
     for (at, fate) in reading.fates.iter().enumerate() {
         match *fate {
             Fate::Refused(row) => writeln!(out, "line={} refused={row}", at + 1).unwrap(),
             Fate::Accepted(rec) => {
                 if let Ok(found) = judged.binary_search_by_key(&rec, |one| one.access.rec) {
-                    let Judged { access, verdict, with } = &judged[found];
-                    let verdict = format!("{verdict:?}").to_lowercase();
-                    writeln!(out, "rec={rec:05} task={} var={} verdict={verdict} with={with:05}", access.task, access.var).unwrap();
+                    let Access { task, var, .. } = judged[found].access;
+                    let (verdict, with) = said(&judged[found]);
+                    writeln!(out, "rec={rec:05} task={task} var={var} verdict={verdict} with={with:05}").unwrap();
                 }
             }
         }

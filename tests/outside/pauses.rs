@@ -4,6 +4,7 @@ use crate::oracle;
 use crate::program::{ended, start, PATIENCE};
 use crate::tally::Tally;
 use std::io::{Read, Write};
+use std::process::Child;
 use std::sync::mpsc::{channel, Receiver};
 use std::time::{Duration, Instant};
 
@@ -52,10 +53,9 @@ impl Watched {
     }
 }
 
-/// Feeds the parts one after the other through a pipe that stays open: after each, what is due for the lines that have ended is there, and after
-/// the last what is due at the end. `due` says it of the text so far, and is told whether that has ended.
-pub fn watch(program: &str, words: &[String], parts: &[String], due: &dyn Fn(&[u8], bool) -> String) -> Result<(), String> {
-    let mut child = start(program, words)?;
+/// Feeds the parts one after the other to a program just started, through a pipe that stays open: after each, what is due for the lines that have
+/// ended is there, and after the last what is due at the end. `due` says it of the text so far, and is told whether that has ended.
+pub fn watch(mut child: Child, parts: &[String], due: &dyn Fn(&[u8], bool) -> String) -> Result<(), String> {
     let mut input = child.stdin.take().unwrap();
     let mut watched = Watched::new(child.stdout.take().unwrap());
     let mut text = Vec::new();
@@ -92,7 +92,7 @@ pub fn cases() -> [(&'static str, Vec<String>); 5] {
 
 pub fn run(tally: &mut Tally, program: &str) {
     for (name, parts) in cases() {
-        let seen = watch(program, &[], &parts, &|text, _| oracle::report_of(text));
+        let seen = start(program, &[]).and_then(|child| watch(child, &parts, &|text, _| oracle::report_of(text)));
         tally.check(seen.is_ok(), || format!("program, pauses, {name}: {}", seen.unwrap_err()));
     }
     tally.part("a recording that pauses");

@@ -56,8 +56,12 @@ pub fn ended(child: &mut Child, since: Instant) -> Result<(), String> {
 
 /// Starts the program, with pipes to it and from it.
 pub fn start(program: &str, words: &[String]) -> Result<Child, String> {
-    let pipes = Command::new(program).args(words).stdin(Stdio::piped()).stdout(Stdio::piped()).spawn();
-    pipes.map_err(|e| format!("{program} cannot be started: {e}"))
+    spawn(Command::new(program).args(words))
+}
+
+pub fn spawn(command: &mut Command) -> Result<Child, String> {
+    let child = command.stdin(Stdio::piped()).stdout(Stdio::piped()).spawn();
+    child.map_err(|e| format!("{:?} cannot be started: {e}", command.get_program()))
 }
 
 /// Runs the program without arguments.
@@ -67,8 +71,12 @@ pub fn report(program: &str, text: &[u8], cuts: Cuts) -> Result<Vec<u8>, String>
 
 /// Runs the program on a text and answers what it wrote to standard output.
 pub fn run(program: &str, words: &[String], text: &[u8], cuts: Cuts) -> Result<Vec<u8>, String> {
+    answer(start(program, words)?, text, cuts)
+}
+
+/// The same for a program that has just been started.
+pub fn answer(mut child: Child, text: &[u8], cuts: Cuts) -> Result<Vec<u8>, String> {
     let since = Instant::now();
-    let mut child = start(program, words)?;
     let mut output = child.stdout.take().unwrap();
     let reader = std::thread::spawn(move || {
         let mut wrote = Vec::new();

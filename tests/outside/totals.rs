@@ -52,7 +52,7 @@ fn run_generated(tally: &mut Tally, program: &str) {
 fn run_full(tally: &mut Tally, program: &str) {
     let text = examples::full().text;
     let reading = oracle::read(&text);
-    let clear = |access| Judged { access, verdict: Verdict::Clear, with: 0 };
+    let clear = |access| Judged { access, verdict: Verdict::Clear, with: 0, apart: Vec::new() };
     let judged: Vec<_> = oracle::accesses(&reading.recording).into_iter().map(clear).collect();
     for every in [0, 1_000, 7_777, 60_000, 60_001] {
         let expected = oracle::tables(&reading, &judged, every, true);
@@ -69,7 +69,8 @@ fn run_pauses(tally: &mut Tally, program: &str) {
             if every == 1 && parts.concat().len() > 4_096 {
                 continue;
             }
-            let seen = pauses::watch(program, &words(every), &parts, &|text, ended| tables_of(text, every, ended));
+            let started = start(program, &words(every));
+            let seen = started.and_then(|child| pauses::watch(child, &parts, &|text, ended| tables_of(text, every, ended)));
             tally.check(seen.is_ok(), || format!("totals {every}, pauses, {name}: {}", seen.unwrap_err()));
         }
     }

@@ -1,4 +1,5 @@
 // Feeds the recordings of document 01 to the order checker and prints each answer. The file `stdout` has what document 01 says.
+mod accepting;
 mod asking;
 mod edges;
 mod feeding;
@@ -26,6 +27,7 @@ fn main() {
     edges::huge();
     edges::masks();
     joining::joins();
+    accepting::entries();
     walks::lists();
     recordings::full();
 }

@@ -1,5 +1,6 @@
 // What is printed of an answer: a line each.
 use theory::Answer;
+use theory::Excuse;
 use theory::Masks;
 use theory::Pairs;
 use theory::RecordNumber;
@@ -73,4 +74,13 @@ pub(crate) fn tell_asked(row: u32, m: Masks) {
     io::write_all(1, b" full ");
     number(m.full as u32);
     told(b" arrived ", m.arrived as u32);
+}
+
+// How a Race is reported beside accepted faults.
+pub(crate) fn tell_excuse(e: Excuse) {
+    if e.known {
+        told(b"known ", e.partner.0);
+    } else {
+        told(b"race ", e.partner.0);
+    }
 }

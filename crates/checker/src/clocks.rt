@@ -281,6 +281,16 @@ pub(crate) fn clock_masks(
     }
 }
 
+// The mask of one filling.
+pub(crate) fn clock_mask(cells: &Clocks, last: &History, kind: u8, task: Task, v: Variable) -> u16
+    requires { ⌜ OfAccess kind (task .0) (v .0) ⌝ }
+    ensures { λ r. ⌜ r ≡ clockMask (now (cells .entry)) (now (last .entry)) kind (task .0) (v .0) ⌝ }
+{
+    let row = task_row(task) * COLUMNS;
+    let from = slot(ask_at(kind), v, Task(0));
+    lower_half(mask(cells, last, row, from))
+}
+
 // What a take does to a table of clocks beside its own part: the semaphore's clock is joined into the task's, in one pass. Answers whether any
 // entry was newer. Where there is no such task or semaphore nothing is changed.
 pub fn acquire(cells: &mut Clocks, task: u32, semaphore: u32) -> Acquired

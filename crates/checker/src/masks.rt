@@ -65,7 +65,7 @@ pub(crate) fn empty_masks() -> Masks
 }
 
 // The lowest-numbered task of a mask that is not empty.
-fn lowest(mask: u16) -> Task
+pub(crate) fn lowest(mask: u16) -> Task
     requires { ⌜ (mask ≡ 0 → ⊥) ⌝ }
     ensures { λ r. ⌜ (r .0 ≡ lowestTask mask) × (r .0 < tasks) ⌝ }
 {

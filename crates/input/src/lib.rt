@@ -1,7 +1,6 @@
-// Standard input in pieces: each read brings a block, which is handed out piece by piece. No contract can say what came; that a piece lies within its
+// An open file in pieces, standard input or another: each read brings a block, which is handed out piece by piece. No contract can say what came; that a piece lies within its
 // block is proved.
 use libc::STDERR_FILENO;
-use libc::STDIN_FILENO;
 ghost use Prim.Native.Nat.{_<_, _≤_};
 ghost use lib.ListN.{length};
 
@@ -93,13 +92,20 @@ fn last_piece(block: &mut [u8], begun: bool) -> Span
 
 // The piece after another, from the next block where that one is used up. A read may bring less than a block; none at all is the end of the input, and
 // one that fails says so, by the words for it, and is the end as well. `begun` says whether a line has begun, which the end of the input ends.
-pub fn next_piece(block: &mut [u8], was: Span, lines: bool, begun: bool, failed: &[u8]) -> Span
+pub fn next_piece(
+    fd: i32,
+    block: &mut [u8],
+    was: Span,
+    lines: bool,
+    begun: bool,
+    failed: &[u8],
+) -> Span
     ensures { λ r. ⌜ (r .from ≤ r .end) × (r .end ≤ length (now (block .exit))) ⌝ }
 {
     if was.end < was.len && was.len <= block.len() {
         return piece_at(block, was.end, was.len, lines);
     }
-    let got = libc::read(STDIN_FILENO, block);
+    let got = libc::read(fd, block);
     if got < 0 {
         io::write_all(STDERR_FILENO, failed);
     }

@@ -7,16 +7,18 @@ use mathlib.Core.List.{List}
 use lib.ListN.{length, set, getD}
 use lib.Seq.{sets, set-getD}
 use Rattle.text.specs.declared.progress.Progress.{Progress}
-use Rattle.text.specs.Pieces.{Kept, saidIn, afterPiece, progressAfter, refused}
+use Rattle.text.specs.Stream.{Reader, Pending, pieceSaid, pieceKept, progressTo}
+use Rattle.text.specs.Pieces.{refused}
 use Rattle.pieces.specs.Begun.{begun, progressNumbers}
 
 -- the numbers with the progress written into them
 abbrev stored : List ℕ → Progress → List ℕ
 stored numbers p = set (set numbers 0 (p .lines)) 1 (p .held)
 
--- by the progress that was answered: where the report ends in its memory, and the numbers
-pub numbers-after : (taken : Bool) (numbers : List ℕ) (k : Kept) (piece : List ℕ) (p : Progress) → p ≡ cond taken (progressAfter k 0 piece) (refused (begun numbers))
-    → (p .at ≡ cond taken (length (saidIn k piece)) (2 ^ 64 - 1)) × (stored numbers p ≡ cond taken (sets numbers 0 (progressNumbers (afterPiece k piece))) numbers)
-numbers-after true numbers k piece p e = (ap (λ (x : Progress). x .at) e ∙ zero-add _, ap (stored numbers) e)
-numbers-after false numbers k piece p e =
-    (ap (λ (x : Progress). x .at) e, ap (stored numbers) e ∙ (ap (λ (x : List ℕ). set x 1 (getD numbers 1 0)) (set-getD numbers 0 0) ∙ set-getD numbers 1 0))
+-- by the progress that was answered: where what is said ends in its memory, and the numbers
+module _ {S : Type 0} (x : Reader S) where
+  pub numbers-after : (taken : Bool) (numbers : List ℕ) (k : Pending S) (piece : List ℕ) (p : Progress) → p ≡ cond taken (progressTo x k 0 piece) (refused (begun numbers))
+      → (p .at ≡ cond taken (length (pieceSaid x k piece)) (2 ^ 64 - 1)) × (stored numbers p ≡ cond taken (sets numbers 0 (progressNumbers (pieceKept x k piece))) numbers)
+  numbers-after true numbers k piece p e = (ap (λ (x : Progress). x .at) e ∙ zero-add _, ap (stored numbers) e)
+  numbers-after false numbers k piece p e =
+      (ap (λ (x : Progress). x .at) e, ap (stored numbers) e ∙ (ap (λ (x : List ℕ). set x 1 (getD numbers 1 0)) (set-getD numbers 0 0) ∙ set-getD numbers 1 0))

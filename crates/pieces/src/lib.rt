@@ -1,6 +1,8 @@
-// A text that comes in pieces, for a host program in C that keeps what is between them; include/order.h has the same function for C. It is
-// an archive of its own: in one with `order_feed` the step would have two callers, and the compiler would no longer make it part of either.
+// A recording that comes in pieces, and the file of accepted faults ahead of it, for a host program in C that keeps what is between them;
+// include/order.h has the same functions for C. It is an archive of its own: in one with `order_feed` the step would have two callers, and the
+// compiler would no longer make it part of either.
 use report::HELD_MOST;
+use report::entries_piece;
 use report::report_piece;
 use text::Progress;
 use theory::Clocks;
@@ -12,6 +14,8 @@ ghost use Prim.Native.Nat.{_-_, _^_};
 ghost use lib.ListN.{length};
 ghost use lib.Seq.{sets as written};
 ghost use Rattle.theory.specs.feeding.Lent.{tables};
+ghost use Rattle.text.specs.Stream.{pendingIn, pieceSaid, pieceKept};
+ghost use Rattle.text.specs.Entries.{entries};
 ghost use Rattle.text.specs.Pieces.{fromMemory, fits, saidIn, afterPiece};
 ghost use Rattle.pieces.specs.Begun.{begun, progressNumbers};
 
@@ -48,6 +52,38 @@ pub extern "C" fn order_piece(
         at: 0,
     };
     let to = report_piece(report, piece, held, from, control, last, clocks, fullclocks);
+    progress[0] = to.lines;
+    progress[1] = to.held as u64;
+    to.at as u64
+}
+
+// The same for a piece of the file of accepted faults, into the control table; the report memory has what is said for its refused lines. Held
+// bytes and progress are of that file alone. It is read with fresh tables, ahead of the recording.
+#[no_mangle]
+pub extern "C" fn order_entries(
+    piece: &[u8],
+    report: &mut [u8],
+    held: &mut [u8; HELD_MOST],
+    progress: &mut [u64; 2],
+    control: &mut Control,
+) -> u64
+    ensures { λ n. let from = begun (now (progress .entry)) in
+        let k = pendingIn (now (control .entry)) from (now (held .entry)) in
+        let said = pieceSaid entries k (now (piece .entry)) in
+        let after = pieceKept entries k (now (piece .entry)) in
+        let taken = fits (length (now (report .entry))) (length (now (piece .entry))) (now (held .entry)) from in
+        ⌜ (n ≡ cond taken (length said) (2 ^ 64 - 1))
+        × (now (report .exit) ≡ cond taken (written (now (report .entry)) 0 said) (now (report .entry)))
+        × (now (progress .exit) ≡ cond taken (written (now (progress .entry)) 0 (progressNumbers after)) (now (progress .entry)))
+        × (now (control .exit) ≡ cond taken (after .state) (now (control .entry)))
+        × (now (held .exit) ≡ cond taken (written (now (held .entry)) 0 (after .held)) (now (held .entry))) ⌝ }
+{
+    let from = Progress {
+        lines: progress[0],
+        held: progress[1] as usize,
+        at: 0,
+    };
+    let to = entries_piece(report, piece, held, from, control);
     progress[0] = to.lines;
     progress[1] = to.held as u64;
     to.at as u64

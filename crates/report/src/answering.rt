@@ -36,7 +36,7 @@ pub(crate) fn put_parsed(
         return put_refused(out, at, number, 1);
     };
     let answer = step_in_place(control, last, clocks, fullclocks, r);
-    put_answer(out, at, number, r, answer)
+    put_answer(out, at, number, r, answer, control, last, fullclocks)
 }
 
 // How far a text is answered: the lines so far, and the next place in the report.

@@ -3,9 +3,14 @@ use text::Number;
 ghost use mathlib.Core.Path.{_≡_};
 ghost use Prim.Native.Nat.{_≤_, _<_};
 ghost use lib.ListN.{length};
+ghost use Rattle.text.specs.EntryForm.{digitsIn};
 ghost use Rattle.text.specs.LineForm.{isDigit, isPlain, digits, readDigits, readDecimal};
+ghost use Rattle.text.specs.Printing.{recordDigits};
 
 pub const DIGITS: usize = 5;
+
+// So many digits has a record number, leading zeros included.
+const RECORD_DIGITS: usize = 5;
 
 fn is_digit(b: u8) -> bool
     ensures { λ r. ⌜ r ≡ isDigit b ⌝ }
@@ -74,6 +79,16 @@ pub fn read_decimal(s: &[u8]) -> Number
     ensures { λ r. ⌜ r ≡ readDecimal (now (s .entry)) ⌝ }
 {
     if is_plain(s) {
+        return read_digits(s);
+    }
+    Number::Nothing
+}
+
+// What a part of a line says as a record number.
+pub(crate) fn record_digits(s: &[u8]) -> Number
+    ensures { λ r. ⌜ r ≡ digitsIn recordDigits (now (s .entry)) ⌝ }
+{
+    if s.len() == RECORD_DIGITS {
         return read_digits(s);
     }
     Number::Nothing

@@ -1,7 +1,9 @@
 // The text layer above the order checker: lines in, report lines out. It relies on the checker's promises only.
 mod answering;
 mod decimal;
+mod entries;
 mod entry;
+mod entry_form;
 mod parsing;
 mod reader;
 mod scan;
@@ -13,6 +15,7 @@ mod writing;
 
 pub use decimal::DIGITS;
 pub use decimal::read_decimal;
+pub use entries::entries_piece;
 pub use entry::order_report;
 pub use parsing::parse_line;
 pub use reader::LineReader;

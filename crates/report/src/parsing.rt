@@ -15,7 +15,7 @@ ghost use lib.ListN.{length, drop};
 ghost use Rattle.text.specs.LineForm.{parseAct, parseMark, parseOf};
 
 // The place after a space; the end where there is none.
-fn past(s: &[u8], at: usize) -> usize
+pub(crate) fn past(s: &[u8], at: usize) -> usize
     requires { ⌜ at ≤ length (now s) ⌝ }
     ensures { λ r. ⌜ (drop r (now (s .entry)) ≡ drop (suc at) (now (s .entry))) × (r ≤ length (now (s .entry))) ⌝ }
 {

@@ -30,7 +30,7 @@ fn least(a: usize, b: usize) -> usize
 }
 
 // Holds a part of a line after the n bytes that are held, as far as there is room.
-fn hold(held: &mut [u8], n: usize, s: &[u8]) -> usize
+pub(crate) fn hold(held: &mut [u8], n: usize, s: &[u8]) -> usize
     requires { ⌜ (n ≤ heldMost) × (heldMost ≤ length (now held)) ⌝ }
     ensures { λ r. ⌜ (r ≡ length (take heldMost (take n (now (held .entry)) ++ now (s .entry))))
         × (now (held .exit) ≡ written (now (held .entry)) 0 (take heldMost (take n (now (held .entry)) ++ now (s .entry)))) ⌝ }
@@ -190,7 +190,7 @@ fn holds_open(held: &[u8], n: usize) -> bool
 }
 
 // A piece of so many bytes can be answered into report memory of this size.
-fn has_room(out: usize, piece: usize, held: &[u8], begun: Progress) -> bool
+pub(crate) fn has_room(out: usize, piece: usize, held: &[u8], begun: Progress) -> bool
     ensures { λ r. ⌜ r ≡ fits out piece (now (held .entry)) begun ⌝ }
 {
     if out < begun.at {

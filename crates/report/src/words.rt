@@ -33,7 +33,7 @@ const OPENINGS: [[u8; 8]; KINDS as usize] = [
 ];
 
 // The part starts with the word.
-fn starts_with(word: &[u8], s: &[u8]) -> bool
+pub(crate) fn starts_with(word: &[u8], s: &[u8]) -> bool
     ensures { λ r. ⌜ r ≡ startsWith (now (word .entry)) (now (s .entry)) ⌝ }
 {
     if s.len() < word.len() {
@@ -50,7 +50,7 @@ fn starts_with(word: &[u8], s: &[u8]) -> bool
 }
 
 // The part is the word.
-fn is_word(word: &[u8], s: &[u8]) -> bool
+pub(crate) fn is_word(word: &[u8], s: &[u8]) -> bool
     ensures { λ r. ⌜ r ≡ isWord (now (word .entry)) (now (s .entry)) ⌝ }
 {
     if s.len() == word.len() {

@@ -1,5 +1,10 @@
 // Report lines, written into lent memory. Each function writes at a place and returns the place after what it wrote.
+use checker::excuse;
 use theory::Answer;
+use theory::Clocks;
+use theory::Control;
+use theory::Excuse;
+use theory::History;
 use theory::Record;
 ghost use Prim.Native.Nat.{_+_, _<_, _≤_, _^_};
 ghost use mathlib.Core.Path.{_≡_};
@@ -9,7 +14,9 @@ ghost use lib.Dec.{ltb};
 ghost use lib.ListN.{length};
 ghost use Rattle.text.specs.Lines.{lineRoom};
 ghost use Rattle.text.specs.Printing.{bytes, lastDigit, decimal, fiveDigits};
-ghost use Rattle.text.specs.ReportLines.{accessPart, accessLine, refusedLine, reportLine};
+ghost use Rattle.theory.specs.feeding.Meaning.{meaning};
+ghost use Rattle.theory.specs.entries.Table.{excuseBy};
+ghost use Rattle.text.specs.ReportLines.{accessPart, accessLine, refusedAs, refusedLine, raceWord, excusedFor, partnerIn};
 ghost use Rattle.text.specs.Wrote.{Wrote};
 
 // The bytes as they are.
@@ -129,29 +136,61 @@ fn put_clear(out: &mut [u8], at: usize, number: u32, r: Record) -> usize
     put_bytes(out, a, b" verdict=clear with=00000\n")
 }
 
-// The line of a refused line, by its line number and the refusal's number.
-pub(crate) fn put_refused(out: &mut [u8], at: usize, line: u64, number: u32) -> usize
-    requires { ⌜ at + lineRoom ≤ length (now out) ⌝ }
-    ensures { λ r. ⌜ Wrote (now (out .entry)) at (refusedLine line number) (now (out .exit)) r × (r ≤ at + lineRoom) ⌝ }
+// The line of a Race as it is excused.
+fn put_race(out: &mut [u8], at: usize, number: u32, r: Record, x: Excuse) -> usize
+    requires { ⌜ at + length (accessLine number (r .task) (r .on) (raceWord (x .known)) (x .partner .0)) ≤ length (now out) ⌝ }
+    ensures { λ to. ⌜ Wrote (now (out .entry)) at (accessLine number (r .task) (r .on) (raceWord (x .known)) (x .partner .0)) (now (out .exit)) to ⌝ }
 {
-    let a = put_bytes(out, at, b"line=");
+    if x.known {
+        return put_access_line(out, at, number, r, b"known", x.partner.0);
+    }
+    put_access_line(out, at, number, r, b"race", x.partner.0)
+}
+
+// The line of a refused line of a text of which each is called so, by its line number and the refusal's number.
+pub(crate) fn put_refusal(out: &mut [u8], at: usize, name: &[u8], line: u64, number: u32) -> usize
+    requires { ⌜ (at + lineRoom ≤ length (now out)) × (length (now name) ≤ 6) ⌝ }
+    ensures { λ r. ⌜ Wrote (now (out .entry)) at (refusedAs (now (name .entry)) line number) (now (out .exit)) r × (r ≤ at + lineRoom) ⌝ }
+{
+    let a = put_bytes(out, at, name);
     let b = put_decimal(out, a, line);
     let c = put_bytes(out, b, b" refused=");
     let d = put_decimal(out, c, number as u64);
     put_bytes(out, d, b"\n")
 }
 
-// What the report has for a line that said the record r and got the answer a.
+// The line of a refused line of a recording.
+pub(crate) fn put_refused(out: &mut [u8], at: usize, line: u64, number: u32) -> usize
+    requires { ⌜ at + lineRoom ≤ length (now out) ⌝ }
+    ensures { λ r. ⌜ Wrote (now (out .entry)) at (refusedLine line number) (now (out .exit)) r × (r ≤ at + lineRoom) ⌝ }
+{
+    put_refusal(out, at, b"line=", line, number)
+}
+
+// What the report has for a line that said the record r and got the answer a, a Race as the tables excuse it once r is fed.
 // 64 bytes are room enough where task and variable have at most nine digits; in the text form they have five.
-pub(crate) fn put_answer(out: &mut [u8], at: usize, line: u64, r: Record, a: Answer) -> usize
+pub(crate) fn put_answer(
+    out: &mut [u8],
+    at: usize,
+    line: u64,
+    r: Record,
+    a: Answer,
+    control: &Control,
+    last: &History,
+    fullclocks: &Clocks,
+) -> usize
     requires { ⌜ (at + lineRoom ≤ length (now out)) × (r .task < 10 ^ 9) × (r .on < 10 ^ 9) ⌝ }
-    ensures { λ to. ⌜ Wrote (now (out .entry)) at (reportLine line r a) (now (out .exit)) to × (to ≤ at + lineRoom) ⌝ }
+    ensures { λ to. let excused = excuseBy (now (control .entry)) (now (last .entry)) (now (fullclocks .entry)) r (partnerIn (meaning a)) in
+        ⌜ Wrote (now (out .entry)) at (excusedFor line r excused (meaning a)) (now (out .exit)) to × (to ≤ at + lineRoom) ⌝ }
 {
     match a {
         Answer::Refused(number) => put_refused(out, at, line, number),
         Answer::Accepted(_) => at,
         Answer::Clear(number) => put_clear(out, at, number.0, r),
-        Answer::Race(number, partner) => put_access_line(out, at, number.0, r, b"race", partner.0),
+        Answer::Race(number, partner) => {
+            let x = excuse(control, last, fullclocks, r, partner);
+            put_race(out, at, number.0, r, x)
+        }
         Answer::Doubt(number, partner) => put_access_line(
             out,
             at,

@@ -208,8 +208,10 @@ split-first b (x ∷ s) h = picked (eqb x b) refl h (split-first b s)
     picked false e h ih = ap (λ (l : List ℕ). x ∷ l) (ih (omega arith))
 
 -- so where something stands after it
-pub rejoined : (b : ℕ) (s : List ℕ) → 0 < length (after b s) → s ≡ upTo b s ++ (b ∷ after b s)
-rejoined b s h = split-first b s (omega (arith, length-drop (suc (indexOf b s)) s))
+pub joined : (b : ℕ) (s w t : List ℕ) → upTo b s ≡ w → after b s ≡ t → 0 < length t → s ≡ w ++ (b ∷ t)
+joined b s w t e f h =
+    split-first b s (omega (arith, length-drop (suc (indexOf b s)) s, ap length f))
+    ∙ ap₂ (λ (l : List ℕ) (m : List ℕ). l ++ (b ∷ m)) e f
 
 -- Words
 

@@ -19,6 +19,7 @@ use Rattle.text.specs.Lines.{lf, lineRoom, linesOf, lineEnd}
 use Rattle.text.specs.LineForm.{parseOf}
 use Rattle.text.specs.Wrote.{Wrote}
 use Rattle.text.specs.Answers.{LineAnswered, LinesFit, stateFrom, LinesAnswered, PieceFits, EndedAnswered}
+use Rattle.text.specs.Stream.{linesSaid, linesAfter, pieceSaid, pieceKept, byteKept}
 use Rattle.text.specs.Report.{saidFor, stateAfter, reportFrom, reportOf}
 use Rattle.text.specs.Pieces.{Kept, kept, heldMost, afterByte, saidIn, afterPiece, progressAfter, holdsOpen, fits, HeldOpen}
 use Rattle.text.specs.Reading.{LastLf}
@@ -132,7 +133,7 @@ module _ (u : List ℕ) (some : 0 < length u) (e : getD u (length u - 1) 0 ≡ l
       getD-drop (suc (lineEnd u)) u (length more - 1) 0 ∙ ap (λ (j : ℕ). getD u j 0) q ∙ e
 
   one-more : (s : State) (n : ℕ) → OnlyLines more (stateAfter s (parseOf line)) (suc n) → OnlyLines u s n
-  unfolding reportFrom stateFrom
+  unfolding linesSaid linesAfter
   one-more s n on =
       let split : u ≡ line ++ (lf ∷ more) = split-first lf u (lf-within u 0 some e) in
       let lines : linesOf u ≡ line ∷ linesOf more = lines-of u some in
@@ -151,7 +152,7 @@ module _ (u : List ℕ) (some : 0 < length u) (e : getD u (length u - 1) 0 ≡ l
 
 -- nothing is too
 no-more : (s : State) (n : ℕ) → OnlyLines [] s n
-unfolding saidIn afterPiece reportFrom stateFrom
+unfolding pieceSaid pieceKept linesSaid linesAfter
 no-more s n = rw no-lines (refl, ap (λ (k : ℕ). kept s k []) (sym (add-zero n)))
 
 -- so a part of which LF is the last byte, or that is empty, is its lines
@@ -288,7 +289,7 @@ one-line line q w h = ap linesOf (ap (λ (k : ℕ). take k line) q ∙ take-leng
 line-answered : (h : List ℕ) {out out′ : List ℕ} {at n lines to : ℕ} {s s′ : State}
     → LinesAnswered (record { entry = out; exit = out′ }) at (record { entry = s; exit = s′ }) n (take heldMost h ∷ []) lines to
     → LineAnswered (record { entry = out; exit = out′ }) at (n + 1) (record { entry = s; exit = s′ }) (parseOf h) to
-unfolding reportFrom stateFrom
+unfolding linesSaid linesAfter
 line-answered h {out} {out′} {at} {n} {to = to} {s} a =
     record {
       room = omega (arith, a .room);
@@ -349,7 +350,7 @@ pub progress-said : (k : Kept) (piece : List ℕ) (at : ℕ) {to n lines : ℕ} 
 progress-said k piece at e f g = rw (e, f, g)
 
 pub held-open : HeldOpen
-unfolding afterPiece afterByte
+unfolding pieceKept byteKept
 held-open k [] w = w
 held-open k (b ∷ s) w = held-open (afterByte k b) s (picked (eqb b lf) refl)
   where

@@ -9,7 +9,7 @@ use Rattle.theory.specs.declared.answer.Answer.{Answer}
 use Rattle.theory.specs.verdicts.Verdict.{Verdict, Race, Clear, Doubt}
 use Rattle.theory.specs.feeding.Meaning.{Meaning, refuses, takes, judges, meaning, refusalNumber}
 use Rattle.text.specs.Printing.{bytes, lastDigits, decimal}
-use Rattle.text.specs.ReportLines.{accessPart, accessLine, refusedLine, wordFor, lineFor, reportLine}
+use Rattle.text.specs.ReportLines.{accessPart, accessLine, refusedAs, refusedLine, wordFor, lineFor, reportLine}
 use Rattle.text.proofs.Digits.{decimal-fits}
 
 -- the lengths of the lines: the words and the numbers of five digits are of fixed length
@@ -27,14 +27,17 @@ pub clear-line : (number task variable : ℕ) → accessLine number task variabl
 unfolding accessLine lastDigits
 clear-line number task variable = simp append-assoc refl
 
-pub length-refused-line : (line number : ℕ) → length (refusedLine line number) ≡ 15 + length (decimal line) + length (decimal number)
-unfolding refusedLine
-length-refused-line line number = simp length-append (omega arith)
+length-refused : (name : List ℕ) (line number : ℕ) → length (refusedAs name line number) ≡ 10 + length name + length (decimal line) + length (decimal number)
+unfolding refusedAs
+length-refused name line number = simp length-append (omega arith)
 
--- a refusal, by any line number and any number of 32 bits
+-- a refusal, by any line number and any number of 32 bits, of a line or of an entry
+pub refused-fits : (name : List ℕ) (line number : ℕ) → length name ≤ 6 → line < 2 ^ 64 → number < 2 ^ 32 → length (refusedAs name line number) ≤ 64
+refused-fits name line number l h g =
+    omega (arith, length-refused name line number, decimal-fits 19 line (omega arith), decimal-fits 9 number (omega arith))
+
 pub refused-line-fits : (line number : ℕ) → line < 2 ^ 64 → number < 2 ^ 32 → length (refusedLine line number) ≤ 64
-refused-line-fits line number h g =
-    omega (arith, length-refused-line line number, decimal-fits 19 line (omega arith), decimal-fits 9 number (omega arith))
+refused-line-fits line number h g = refused-fits (bytes "line=") line number (omega arith) h g
 
 -- an access, by a task and a variable of at most nine digits
 pub access-line-fits : (number task variable : ℕ) (verdict : List ℕ) (partner : ℕ)

@@ -14,7 +14,7 @@ use Rattle.theory.specs.order.Recording.{lossMark}
 use Rattle.text.specs.declared.number.Number.{Number}
 use Rattle.text.specs.declared.parsed.Parsed.{Parsed}
 use Rattle.text.specs.Bytes.{indexOf, upTo, after, startsWith, isWord}
-use Rattle.text.specs.LineForm.{readDecimal, words, opName, taskName, onName, space, placeOf, namedKind, fieldOf, parseAct, parseMark, restOf, parseOf}
+use Rattle.text.specs.LineForm.{words, opName, taskName, onName, space, placeOf, namedKind, fieldBy, fieldOf, parseAct, parseMark, restOf, parseOf}
 
 -- Words
 
@@ -56,13 +56,11 @@ no-op s e = rw e
 
 -- Fields
 
-module _ (name s : List ℕ) where
-  pub named : startsWith name s ≡ true → fieldOf name s ≡ readDecimal (drop (length name) s)
-  unfolding fieldOf
+module _ (read : List ℕ → Number) (name s : List ℕ) where
+  pub named : startsWith name s ≡ true → fieldBy read name s ≡ read (drop (length name) s)
   named e = rw e
 
-  pub unnamed : startsWith name s ≡ false → fieldOf name s ≡ Number.Nothing
-  unfolding fieldOf
+  pub unnamed : startsWith name s ≡ false → fieldBy read name s ≡ Number.Nothing
   unnamed e = rw e
 
 -- Parts: what the code hands on from a place p of s to its end is what stands from there on

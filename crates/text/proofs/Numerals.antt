@@ -150,7 +150,7 @@ read-above v n (b ∷ s) e =
     divide-more n (length s) ∙ rw h (omega arith)
 
 -- what was read is printed again
-read-printed : (v n : ℕ) (s : List ℕ) → readDigits v s ≡ Number.Value n → s ≡ lastDigits (length s) n
+pub read-printed : (v n : ℕ) (s : List ℕ) → readDigits v s ≡ Number.Value n → s ≡ lastDigits (length s) n
 unfolding readDigits lastDigits
 read-printed v n [] e = refl
 read-printed v n (b ∷ s) e =
@@ -164,7 +164,7 @@ is-digit : (b : ℕ) → 48 ≤ b → b ≤ 57 → isDigit b ≡ true
 is-digit b h k = rw (le-leb 48 b h, le-leb b 57 k)
 
 -- what was printed is read again, after what stands above it
-printed-read : (v n k : ℕ) → v ≡ n / 10 ^ k → readDigits v (lastDigits k n) ≡ Number.Value n
+pub printed-read : (v n k : ℕ) → v ≡ n / 10 ^ k → readDigits v (lastDigits k n) ≡ Number.Value n
 unfolding readDigits lastDigits
 printed-read v n zero e = ap Number.Value (e ∙ div-one n)
 printed-read v n (suc k) e =

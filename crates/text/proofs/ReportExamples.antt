@@ -6,7 +6,7 @@ use Rattle.theory.specs.order.Recording.{Op, kind}
 use Rattle.theory.specs.declared.record.Record.{Record}
 use Rattle.theory.specs.declared.answer.Answer.the-variants.{Refused, Accepted, Clear, Race, Doubt}
 use Rattle.text.specs.Printing.{bytes, lastDigits, widthIn, width, decimal, fiveDigits}
-use Rattle.text.specs.ReportLines.{accessPart, accessLine, refusedLine, reportLine}
+use Rattle.text.specs.ReportLines.{refusedAs, accessPart, accessLine, reportLine}
 
 abbrev record-of : Op → ℕ → ℕ → Record
 record-of op task on = record { kind = kind op; task = task; on = on }
@@ -27,7 +27,7 @@ unfolding accessPart accessLine decimal width widthIn lastDigits
 race = refl
 
 refused : reportLine 10 (record-of Op.read 2 5) (Refused 6) ≡ bytes "line=10 refused=6\n"
-unfolding refusedLine decimal width widthIn lastDigits
+unfolding refusedAs decimal width widthIn lastDigits
 refused = refl
 
 longest : decimal (2 ^ 64 - 1) ≡ bytes "18446744073709551615"

@@ -11,6 +11,7 @@ use Rattle.text.specs.declared.parsed.Parsed.{Parsed}
 use Rattle.text.specs.Lines.{lf, lineRoom, linesOf, lineEnd}
 use Rattle.text.specs.LineForm.{parseOf}
 use Rattle.text.specs.Answers.{LineAnswered, stateFrom, LinesAnswered}
+use Rattle.text.specs.Stream.{linesSaid, linesAfter}
 use Rattle.text.specs.Report.{saidFor, stateAfter, reportFrom}
 use Rattle.text.specs.Reading.{lineAt, nextAt, LineStarts}
 use Rattle.text.proofs.Bytes.{Without, index-none, split-first, before-without, without-cons}
@@ -27,7 +28,7 @@ module _ {report report′ : List ℕ} {at to : ℕ} {s s′ : State} {parsed : 
   rest = reportFrom (suc (n + 1)) s′ ls
 
   first-said : reportFrom (suc n) s (line ∷ ls) ≡ saidFor (n + 1) s parsed ++ rest
-  unfolding reportFrom
+  unfolding linesSaid
   first-said = rw (a .fed, e, add-one n)
 
   pub place-next : to + length rest ≡ at + length (reportFrom (suc n) s (line ∷ ls))
@@ -40,7 +41,7 @@ module _ {report report′ : List ℕ} {at to : ℕ} {s s′ : State} {parsed : 
       ∙ ap (sets report at) (sym first-said)
 
   pub fed-next : stateFrom s′ ls ≡ stateFrom s (line ∷ ls)
-  unfolding stateFrom
+  unfolding linesAfter
   fed-next = ap (λ (z : State). stateFrom z ls) (a .fed ∙ ap (stateAfter s) e)
 
 -- Line by line
@@ -88,7 +89,7 @@ module _ {text : List ℕ} {end : ℕ} {memory : List ℕ} {start : ℕ} {s₀ :
 
     -- no line is left
     pub left-said : end ≤ p → LinesAnswered (record { entry = memory; exit = report }) start (record { entry = s₀; exit = s }) n₀ (linesIn text end p₀) n at
-    unfolding reportFrom stateFrom
+    unfolding linesSaid linesAfter
     left-said h =
         let none : linesIn text end p ≡ [] = ap linesOf (drop-of-length-le (take end text) {i = p} (omega (arith, length-take end text))) ∙ no-lines in
         record {

@@ -15,27 +15,33 @@ use Rattle.theory.proofs.acceptance.Rows.{none-below}
 use Rattle.text.specs.declared.number.Number.{Number}
 use Rattle.text.specs.declared.parsed.Parsed.{Parsed}
 use Rattle.text.specs.Bytes.{indexOf, upTo, after, startsWith, isWord}
-use Rattle.text.specs.LineForm.{digits, readDecimal, words, opName, taskName, onName, tasksName, space, placeOf, namedKind, fieldOf, actRecord, markRecord}
+use Rattle.text.specs.LineForm.{digits, readDecimal, words, opName, taskName, onName, tasksName, space, placeOf, namedKind, fieldBy, fieldOf, actRecord, markRecord}
 use Rattle.text.specs.LineForm.{parseAct, parseMark, restOf, parseOf, wordOf, textOf, Sayable, TextTaken, OnlyText, OnlySayable, LongRefused}
 use Rattle.text.specs.Printing.{lastDigit, lastDigits, width, decimal}
-use Rattle.text.proofs.Bytes.{Without, without-cons, without-append, before-seam, after-seam, rejoined, word-split, word-starts, word-dropped, is-the-word}
+use Rattle.text.proofs.Bytes.{Without, without-cons, without-append, before-seam, after-seam, joined, word-split, word-starts, word-dropped, is-the-word}
 use Rattle.text.proofs.Digits.{decimal-fits}
 use Rattle.text.proofs.Numerals.{let-through, decimal-read, read-decimal}
 use Rattle.text.proofs.LineForm.{rest-act}
 
 -- What is taken
 
--- a field is its name and a number
-record Field (name s : List ℕ) (n : ℕ) : Type 0 where
-  is : s ≡ name ++ decimal n
-  short : n < 10 ^ digits
+-- a field is its name and what is read
+pub field-by : (read : List ℕ → Number) (name s : List ℕ) (n : ℕ) → fieldBy read name s ≡ Number.Value n → (t : List ℕ) × (s ≡ name ++ t) × (read t ≡ Number.Value n)
+field-by read name s n e =
+    let (f, g) = let-through (startsWith name s) (read (drop (length name) s)) n e in
+    (drop (length name) s, word-split name s f, g)
 
-field-is : (name s : List ℕ) (n : ℕ) → fieldOf name s ≡ Number.Value n → Field name s n
+-- where that is a number of at most 5 digits, without needless zeros
+pub record Field (name s : List ℕ) (n : ℕ) : Type 0 where
+  pub is : s ≡ name ++ decimal n
+  pub short : n < 10 ^ digits
+
+pub field-is : (name s : List ℕ) (n : ℕ) → fieldOf name s ≡ Number.Value n → Field name s n
 unfolding fieldOf
 field-is name s n e =
-    let (f, g) = let-through (startsWith name s) (readDecimal (drop (length name) s)) n e in
-    let p = read-decimal (drop (length name) s) n g in
-    record { is = word-split name s f ∙ ap (λ (l : List ℕ). name ++ l) (p .is); short = p .short }
+    let (t, f, g) = field-by readDecimal name s n e in
+    let p = read-decimal t n g in
+    record { is = f ∙ ap (λ (l : List ℕ). name ++ l) (p .is); short = p .short }
 
 word-at : (ws : List (List ℕ)) (s : List ℕ) → placeOf ws s < length ws → s ≡ getD ws (placeOf ws s) []
 unfolding placeOf
@@ -71,16 +77,13 @@ act-joined : (s : List ℕ) (k t n : ℕ) → (k ≡ lossMark → ⊥) → upTo 
     → after space (after space s) ≡ onName ++ decimal n → s ≡ textOf (record { kind = k; task = t; on = n })
 act-joined s k t n h e f g =
     let a = after space s in
-    let x : 0 < length (after space a) = rw g (omega arith) in
-    let p : a ≡ (taskName ++ decimal t) ++ (space ∷ (onName ++ decimal n)) = rejoined space a x ∙ ap₂ (λ (l : List ℕ) (m : List ℕ). l ++ (space ∷ m)) f g in
-    let y : 0 < length a = rw p (omega arith) in
-    rejoined space s y ∙ ap₂ (λ (l : List ℕ) (m : List ℕ). l ++ (space ∷ m)) e p ∙ sym (act-text k t n h)
+    let p : a ≡ (taskName ++ decimal t) ++ (space ∷ (onName ++ decimal n)) = joined space a (taskName ++ decimal t) (onName ++ decimal n) f g (omega arith) in
+    joined space s (opName ++ wordOf k) ((taskName ++ decimal t) ++ (space ∷ (onName ++ decimal n))) e p (omega arith) ∙ sym (act-text k t n h)
 
 mark-joined : (s : List ℕ) (t n : ℕ) → upTo space s ≡ opName ++ wordOf lossMark → after space s ≡ tasksName ++ decimal n
     → s ≡ textOf (record { kind = lossMark; task = t; on = n })
 mark-joined s t n e f =
-    let y : 0 < length (after space s) = rw f (omega arith) in
-    rejoined space s y ∙ ap₂ (λ (l : List ℕ) (m : List ℕ). l ++ (space ∷ m)) e f ∙ sym (mark-text t n)
+    joined space s (opName ++ wordOf lossMark) (tasksName ++ decimal n) e f (omega arith) ∙ sym (mark-text t n)
 
 -- what a line that is taken is
 record Said (s : List ℕ) (r : Record) : Type 0 where
@@ -168,11 +171,14 @@ long-refused s h = picked (parseOf s) refl
 
 -- The text of a record is taken
 
-field-read : (name : List ℕ) (n : ℕ) → n < 10 ^ digits → fieldOf name (name ++ decimal n) ≡ Number.Value n
-unfolding fieldOf
-field-read name n h = rw (word-starts name (decimal n), word-dropped name (decimal n)) (decimal-read n h)
+pub field-read-by : (read : List ℕ → Number) (name t : List ℕ) (n : ℕ) → read t ≡ Number.Value n → fieldBy read name (name ++ t) ≡ Number.Value n
+field-read-by read name t n e = rw (word-starts name t, word-dropped name t) e
 
-digits-whole : (b k n : ℕ) → b < 48 → Without b (lastDigits k n)
+pub field-read : (name : List ℕ) (n : ℕ) → n < 10 ^ digits → fieldOf name (name ++ decimal n) ≡ Number.Value n
+unfolding fieldOf
+field-read name n h = field-read-by readDecimal name (decimal n) n (decimal-read n h)
+
+pub digits-whole : (b k n : ℕ) → b < 48 → Without b (lastDigits k n)
 unfolding lastDigits indexOf
 digits-whole b zero n h = refl
 digits-whole b (suc k) n h = without-cons b (lastDigit (n / 10 ^ k)) (lastDigits k n) (λ e. omega arith) (digits-whole b k n h)
@@ -182,9 +188,8 @@ pub decimal-whole : (b n : ℕ) → b < 48 → Without b (decimal n)
 unfolding decimal
 decimal-whole b n h = digits-whole b (width n) n h
 
-task-whole : (n : ℕ) → Without space (taskName ++ decimal n)
-unfolding indexOf
-task-whole n = without-append space taskName (decimal n) refl (decimal-whole space n (omega arith))
+pub field-whole : (name : List ℕ) (n : ℕ) → Without space name → Without space (name ++ decimal n)
+field-whole name n h = without-append space name (decimal n) h (decimal-whole space n (omega arith))
 
 parse-words : (w s : List ℕ) → Without space w → parseOf (w ++ (space ∷ s)) ≡ restOf (namedKind w) s
 unfolding parseOf
@@ -196,13 +201,14 @@ act-words k w s h = ap₂ (λ (x : List ℕ) (y : List ℕ). actRecord k (fieldO
 
 act-taken : (k t n : ℕ) → k < length words → (k ≡ lossMark → ⊥) → t < 10 ^ digits → n < 10 ^ digits
     → parseOf (textOf (record { kind = k; task = t; on = n })) ≡ Parsed.Record (record { kind = k; task = t; on = n })
+unfolding indexOf
 act-taken k t n l h f g =
     let rest = (taskName ++ decimal t) ++ (space ∷ (onName ++ decimal n)) in
     ap parseOf (act-text k t n h)
     ∙ parse-words (opName ++ wordOf k) rest (op-whole k l)
     ∙ ap (λ (j : ℕ). restOf j rest) (op-kind k l)
     ∙ rest-act k rest l h
-    ∙ act-words k (taskName ++ decimal t) (onName ++ decimal n) (task-whole t)
+    ∙ act-words k (taskName ++ decimal t) (onName ++ decimal n) (field-whole taskName t refl)
     ∙ ap₂ (actRecord k) (field-read taskName t f) (field-read onName n g)
 
 mark-taken : (n : ℕ) → n < 10 ^ digits

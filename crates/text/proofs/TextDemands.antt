@@ -19,10 +19,12 @@ use Rattle.text.specs.declared.parsed.Parsed.{Parsed}
 use Rattle.text.specs.Lines.{linesOf}
 use Rattle.text.specs.LineForm.{parseOf}
 use Rattle.text.specs.ReportLines.{wordFor, refusedLine, lineFor, reportLine}
+use Rattle.text.specs.Stream.{linesSaid}
 use Rattle.text.specs.Report.{saidFor, stateAfter, reportFrom, reportOf, tooSmall}
 use Rattle.text.specs.TextDemands.{TextForm, LineGot, no-record, refused, judged, taken, LinesGot, no-lines, a-line, TextHandled, refused-whole, reported, TextDemand1, OneReport, Tells, tells-nothing, tells-no-record, tells-answer, TextFed}
 use Rattle.text.proofs.Lines.{lines-fit}
 use Rattle.text.proofs.RoundTrip.{text-taken, only-text, only-sayable}
+use Rattle.text.proofs.Excused.{NoEntries, said-plain, none-after, none-fresh}
 use Rattle.text.proofs.Lengths.{refused-line-fits, access-line-fits, word-fits}
 
 -- A line
@@ -49,16 +51,18 @@ module _ (line : List ℕ) where
   pub parsed-form : (r : Record) → parseOf line ≡ Parsed.Record r → TextForm line r
   parsed-form r e = record { sayable = only-sayable line r e; is-text = only-text line r e }
 
-  line-got : (n : ℕ) (s : State) (p : Parsed) → parseOf line ≡ p → LineGot n s line (stateAfter s p) (saidFor n s p)
-  line-got n s Parsed.Nothing e = no-record (parsed-none e)
-  line-got n s (Parsed.Record r) e = record-got n s line r (parsed-form r e)
+  line-got : (n : ℕ) (s : State) (p : Parsed) → NoEntries s → parseOf line ≡ p → LineGot n s line (stateAfter s p) (saidFor n s p)
+  line-got n s Parsed.Nothing z e = no-record (parsed-none e)
+  line-got n s (Parsed.Record r) z e =
+      subst (LineGot n s line (byClocks .next s r)) (sym (said-plain n r (byClocks .next s r) (meaning (byClocks .answer s r)) (none-after s (Parsed.Record r) z)))
+      (record-got n s line r (parsed-form r e))
 
 -- A text
 
-answered : (n : ℕ) (s : State) (lines : List (List ℕ)) → LinesGot n s lines (reportFrom n s lines)
-unfolding reportFrom
-answered n s [] = no-lines
-answered n s (line ∷ lines) = a-line (line-got line n s (parseOf line) refl) (answered (suc n) (stateAfter s (parseOf line)) lines)
+answered : (n : ℕ) (s : State) (lines : List (List ℕ)) → NoEntries s → LinesGot n s lines (reportFrom n s lines)
+unfolding linesSaid
+answered n s [] z = no-lines
+answered n s (line ∷ lines) z = a-line (line-got line n s (parseOf line) z refl) (answered (suc n) (stateAfter s (parseOf line)) lines (none-after s (parseOf line) z))
 
 got-fits : {n : ℕ} {s s′ : State} {line said : List ℕ} → LineGot n s line s′ said → n < 2 ^ 64 → length said ≤ 64
 got-fits {n} (no-record f) h = refused-line-fits n 1 h (omega arith)
@@ -75,7 +79,7 @@ answered-fits (a-line {said = said} {report = report} g a) h = omega (arith, len
 
 text-answered : (text : List ℕ) → LinesGot 1 freshState (linesOf text) (reportOf text)
 unfolding reportOf
-text-answered text = answered 1 freshState (linesOf text)
+text-answered text = answered 1 freshState (linesOf text) none-fresh
 
 -- demand 1 for texts
 pub text-demand1 : TextDemand1
@@ -106,11 +110,11 @@ record Fixed (n : ℕ) (s : State) (line : List ℕ) (s′ : State) (said : List
   state : s′ ≡ stateAfter s (parseOf line)
   piece : said ≡ saidFor n s (parseOf line)
 
-module _ {n : ℕ} {s : State} {line : List ℕ} where
+module _ {n : ℕ} {s : State} {line : List ℕ} (z : NoEntries s) where
   form-fixed : {r : Record} {s′ : State} {said : List ℕ} → TextForm line r → s′ ≡ byClocks .next s r → said ≡ reportLine n r (byClocks .answer s r) → Fixed n s line s′ said
   form-fixed {r} f a b =
       let e : parseOf line ≡ Parsed.Record r = ap parseOf (f .is-text) ∙ text-taken r (f .sayable) in
-      record { state = rw e a; piece = rw e b }
+      record { state = rw e a; piece = rw e (b ∙ sym (said-plain n r (byClocks .next s r) (meaning (byClocks .answer s r)) (none-after s (Parsed.Record r) z))) }
 
   got-fixed : {s′ : State} {said : List ℕ} → LineGot n s line s′ said → Fixed n s line s′ said
   got-fixed (no-record f) = by-parse (parseOf line) refl
@@ -118,33 +122,35 @@ module _ {n : ℕ} {s : State} {line : List ℕ} where
       by-parse : (p : Parsed) → parseOf line ≡ p → Fixed n s line s (refusedLine n 1)
       by-parse Parsed.Nothing e = record { state = rw e; piece = rw e }
       by-parse (Parsed.Record r) e = absurd (f r (parsed-form line r e))
-  got-fixed (refused {r = r} f z l h) = let (m, q) = row-refuses s r z l in form-fixed f (sym q) (ap (lineFor n r) (sym m))
-  got-fixed (judged {r = r} f z a m) = form-fixed f refl (ap (lineFor n r) (sym m))
-  got-fixed (taken {r = r} f z a m) = form-fixed f refl (ap (lineFor n r) (sym m))
+  got-fixed (refused {r = r} f e l h) = let (m, q) = row-refuses s r e l in form-fixed f (sym q) (ap (lineFor n r) (sym m))
+  got-fixed (judged {r = r} f e a m) = form-fixed f refl (ap (lineFor n r) (sym m))
+  got-fixed (taken {r = r} f e a m) = form-fixed f refl (ap (lineFor n r) (sym m))
 
-answered-fixed : {n : ℕ} {s : State} {lines : List (List ℕ)} {report : List ℕ} → LinesGot n s lines report → report ≡ reportFrom n s lines
-unfolding reportFrom
-answered-fixed no-lines = refl
-answered-fixed {n} (a-line {lines = lines} g a) =
-    let f = got-fixed g in
-    ap₂ (λ (x : List ℕ) (y : List ℕ). x ++ y) (f .piece) (answered-fixed a ∙ ap (λ (x : State). reportFrom (suc n) x lines) (f .state))
+answered-fixed : {n : ℕ} {s : State} {lines : List (List ℕ)} {report : List ℕ} → NoEntries s → LinesGot n s lines report → report ≡ reportFrom n s lines
+unfolding linesSaid
+answered-fixed z no-lines = refl
+answered-fixed {n} {s} z (a-line {line = line} {lines = lines} g a) =
+    let f = got-fixed z g in
+    let y = subst NoEntries (sym (f .state)) (none-after s (parseOf line) z) in
+    ap₂ (λ (x : List ℕ) (y : List ℕ). x ++ y) (f .piece) (answered-fixed y a ∙ ap (λ (x : State). reportFrom (suc n) x lines) (f .state))
 
 pub one-report : OneReport
 unfolding reportOf
-one-report text report a = answered-fixed a
+one-report text report a = answered-fixed none-fresh a
 
 -- The answers are those of feeding
 
-told : (n : ℕ) (s : State) (lines : List (List ℕ)) → (rs : List Record) × Tells n lines rs (replies byClocks s rs) (reportFrom n s lines)
-unfolding reportFrom
-told n s [] = ([], tells-nothing)
-told n s (line ∷ lines) = by-parse (parseOf line) refl (told (suc n) (stateAfter s (parseOf line)) lines)
+told : (n : ℕ) (s : State) (lines : List (List ℕ)) → NoEntries s → (rs : List Record) × Tells n lines rs (replies byClocks s rs) (reportFrom n s lines)
+unfolding linesSaid
+told n s [] z = ([], tells-nothing)
+told n s (line ∷ lines) z = by-parse (parseOf line) refl (told (suc n) (stateAfter s (parseOf line)) lines (none-after s (parseOf line) z))
   where
     by-parse : (p : Parsed) → parseOf line ≡ p → ((rs : List Record) × Tells (suc n) lines rs (replies byClocks (stateAfter s p) rs) (reportFrom (suc n) (stateAfter s p) lines))
         → (rs : List Record) × Tells n (line ∷ lines) rs (replies byClocks s rs) (saidFor n s p ++ reportFrom (suc n) (stateAfter s p) lines)
     by-parse Parsed.Nothing e (rs, t) = (rs, tells-no-record (parsed-none line e) t)
-    by-parse (Parsed.Record r) e (rs, t) = (r ∷ rs, tells-answer (parsed-form line r e) t)
+    by-parse (Parsed.Record r) e (rs, t) =
+        (r ∷ rs, rw (said-plain n r (byClocks .next s r) (meaning (byClocks .answer s r)) (none-after s (Parsed.Record r) z)) (tells-answer (parsed-form line r e) t))
 
 pub text-fed : TextFed
 unfolding reportOf
-text-fed text = told 1 freshState (linesOf text)
+text-fed text = told 1 freshState (linesOf text) none-fresh

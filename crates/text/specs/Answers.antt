@@ -2,7 +2,7 @@
 -- memory that holds the line that has begun, with `state` each at entry and at exit.
 use mathlib.Core.Path.{_≡_}
 use Prim.Native.Nat.{ℕ, suc, _+_, _*_, _^_, _≤_, _<_}
-use mathlib.Core.List.{List, [], _∷_}
+use mathlib.Core.List.{List}
 use lib.ListN.{length, take, drop}
 use lib.Seq.{sets}
 use Rattle.theory.specs.declared.state.State.{State}
@@ -10,10 +10,10 @@ use Rattle.theory.specs.feeding.Lent.{Twice}
 use Rattle.text.specs.declared.parsed.Parsed.{Parsed}
 use Rattle.text.specs.declared.progress.Progress.{Progress}
 use Rattle.text.specs.Lines.{lineRoom, linesOf, lineEnd}
-use Rattle.text.specs.LineForm.{parseOf}
 use Rattle.text.specs.Reading.{LineStarts}
 use Rattle.text.specs.Wrote.{Wrote}
-use Rattle.text.specs.Report.{saidFor, stateAfter, reportFrom}
+use Rattle.text.specs.Stream.{linesAfter}
+use Rattle.text.specs.Report.{saidFor, stateAfter, records, reportFrom}
 use Rattle.text.specs.Pieces.{Kept, kept, fromMemory, heldMost, saidIn, afterPiece, progressAfter}
 
 -- a line that says `parsed` was answered under its number, from the place `at` on; `to` is the next place
@@ -31,9 +31,8 @@ pub record LinesFit (out : List ℕ) (at lines : ℕ) (text : List ℕ) (from en
   pub counted : lines + length (linesOf (drop from (take end text))) < 2 ^ 64
 
 -- the running state after lines
-unfoldable pub stateFrom : State → List (List ℕ) → State
-stateFrom s [] = s
-stateFrom s (l ∷ ls) = stateFrom (stateAfter s (parseOf l)) ls
+abbrev pub stateFrom : State → List (List ℕ) → State
+stateFrom = linesAfter records
 
 -- lines ls were answered after so many others, from the place `at` on; then `ended` lines are answered, and `to` is the next place
 pub record LinesAnswered (out : Twice (List ℕ)) (at : ℕ) (state : Twice State) (lines : ℕ) (ls : List (List ℕ)) (ended to : ℕ) : Type 0 where

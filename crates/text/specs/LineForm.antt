@@ -79,9 +79,13 @@ placeOf (w ∷ ws) s = cond (isWord w s) zero (suc (placeOf ws s))
 unfoldable pub namedKind : List ℕ → ℕ
 namedKind s = cond (startsWith opName s) (placeOf words (drop (length opName) s)) (length words)
 
+-- the number of a field, from what follows its name
+abbrev pub fieldBy : (List ℕ → Number) → List ℕ → List ℕ → Number
+fieldBy read name s = cond (startsWith name s) (read (drop (length name) s)) Number.Nothing
+
 -- the number of a field `name=N`
 unfoldable pub fieldOf : List ℕ → List ℕ → Number
-fieldOf name s = cond (startsWith name s) (readDecimal (drop (length name) s)) Number.Nothing
+fieldOf name s = fieldBy readDecimal name s
 
 -- Lines
 

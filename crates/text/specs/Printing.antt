@@ -34,5 +34,8 @@ unfoldable pub decimal : ℕ → List ℕ
 decimal n = lastDigits (width n) n
 
 -- a record number: five digits, leading zeros included
+abbrev pub recordDigits : ℕ
+recordDigits = 5
+
 abbrev pub fiveDigits : ℕ → List ℕ
-fiveDigits n = lastDigits 5 n
+fiveDigits n = lastDigits recordDigits n

@@ -8,3 +8,4 @@ pub mod tables
 pub mod totals
 pub mod feeding
 pub mod lazy
+pub mod entries

@@ -10,5 +10,7 @@ pub mod tables
 pub mod feeding
 -- Totals of the verdicts
 pub mod totals
+-- Faults already accepted
+pub mod entries
 -- The lazy reckoning
 pub mod lazy

@@ -2,6 +2,7 @@
 // No code stands here, only the types that the definitions speak of, and the numbers of kinds and limits for the code.
 mod acquired;
 mod answer;
+mod excuse;
 mod kinds;
 mod limits;
 mod masks;
@@ -13,6 +14,7 @@ mod walk;
 
 pub use acquired::Acquired;
 pub use answer::Answer;
+pub use excuse::Excuse;
 pub use kinds::ASKERS;
 pub use kinds::BUMP;
 pub use kinds::FRESH;
@@ -27,6 +29,7 @@ pub use kinds::SET;
 pub use kinds::START;
 pub use kinds::TAKE;
 pub use kinds::WRITE;
+pub use limits::ENTRIES_MOST;
 pub use limits::FLAGS;
 pub use limits::LAST_FLAG;
 pub use limits::LAST_SEMAPHORE;
@@ -52,11 +55,13 @@ pub use state::COUNT;
 pub use state::Clocks;
 pub use state::Control;
 pub use state::DOUBT_TOTALS;
+pub use state::ENTRIES;
 pub use state::FIRST_FLAG;
 pub use state::FIRST_SEMAPHORE;
 pub use state::HISTORY_CELLS;
 pub use state::HUB;
 pub use state::History;
+pub use state::PAIRED;
 pub use state::RACE_TOTALS;
 pub use state::RACES;
 pub use state::ROWS;

@@ -9,6 +9,9 @@ pub const VARIABLES: u32 = 64;
 
 pub const RECORDS: u32 = 60_000;
 
+// So many entries of accepted faults are taken in.
+pub const ENTRIES_MOST: u32 = 200;
+
 // The last number of each series: a number within it is 0 to this one.
 pub const LAST_TASK: u32 = TASKS - 1;
 

@@ -8,7 +8,7 @@ use crate::limits::VARIABLES;
 // The tables that a state is made of, by their sizes. crates/theory/specs says which cells hold what.
 
 // Each task's phase (0 unseen, 1 live, 2 ended), then the count of accepted records, the count of Races, and for each verdict a total for each
-// variable: Clear, Race, Doubt.
+// variable: Clear, Race, Doubt; then the faults that a planner has accepted.
 pub const COUNT: usize = TASKS as usize;
 
 pub const RACES: usize = COUNT + 1;
@@ -19,7 +19,12 @@ pub const RACE_TOTALS: usize = CLEAR_TOTALS + VARIABLES as usize;
 
 pub const DOUBT_TOTALS: usize = RACE_TOTALS + VARIABLES as usize;
 
-pub const CONTROL_CELLS: usize = DOUBT_TOTALS + VARIABLES as usize;
+// How many entries of accepted faults were taken in, and for each variable and task the tasks that are paired with it, as a mask.
+pub const ENTRIES: usize = DOUBT_TOTALS + VARIABLES as usize;
+
+pub const PAIRED: usize = ENTRIES + 1;
+
+pub const CONTROL_CELLS: usize = PAIRED + VARIABLES as usize * TASKS as usize;
 
 pub type Control = [u32; CONTROL_CELLS];
 

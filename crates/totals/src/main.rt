@@ -11,6 +11,7 @@ use input::PIECE;
 use input::next_piece;
 use input::no_piece;
 use libc::STDERR_FILENO;
+use libc::STDIN_FILENO;
 use report::DIGITS;
 use report::HELD_MOST;
 use report::LINE_ROOM;
@@ -48,6 +49,7 @@ fn run(every: u32) {
     let mut turns = u64::MAX;
     while turns > 0 && more {
         piece = next_piece(
+            STDIN_FILENO,
             &mut block,
             piece,
             true,

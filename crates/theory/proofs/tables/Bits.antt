@@ -1,13 +1,15 @@
 -- Masks of 16 tasks, built from the highest bit down or summed from the lowest up. Assumes nothing.
-use mathlib.Core.Path.{_≡_, refl, _∙_}
-use mathlib.Core.Bool.{Bool, true, false}
-use Prim.Native.Nat.{ℕ, zero, suc, _+_, _*_, _-_, _^_, _/_, _%_, _≤_, _<_, zero-le, suc-le-suc}
+use mathlib.Core.Path.{_≡_, refl, sym, _∙_}
+use mathlib.Core.Bool.{Bool, true, false, not, _&&_}
+use Prim.Native.Nat.{ℕ, zero, suc, _+_, _*_, _-_, _^_, _/_, _%_, _≤_, _<_, zero-le, suc-le-suc, min}
 use native.Mathlib.Nat.{pow-suc, add-mul, mul-assoc, zero-mul}
 use native.Mathlib.Numerals.{add-one}
 use native.Mathlib.Omega.{arith}
 use lib.Count.{trailingZeros, under, trailing-of-zero}
-use lib.Bits.{bitOr, or-block, or-shifted-r, or-zero-r}
-use lib.Pow.{pow-mono, pow-lt}
+use lib.Bits.{bitAnd, bitOr, and-step, and-le-l, and-mod, or-block, or-shifted-r, or-zero-r}
+use lib.Dec.{eqb}
+use lib.Pow.{pow-mono, pow-lt, shr-shr}
+use Rattle.theory.specs.fillings.Completion.{bit}
 use Rattle.theory.specs.tables.Turns.{turns}
 use Rattle.theory.specs.tables.Reckonings.{indicator, maskOf, lowestTask}
 use Rattle.theory.specs.order.Limits.{tasks}
@@ -73,6 +75,10 @@ lowest p (suc n) h =
     rw (trailing-next n (indicator (p (tasks - 1 - n))) (upper p n) (bit-le (p (tasks - 1 - n))))
     (lowest-next p n (trailingZeros n (upper p n)) (p (tasks - 1 - n)) (omega arith) refl (lowest p n (omega arith)))
 
+mask-lt : (p : ℕ → Bool) → maskOf p < 2 ^ tasks
+unfolding maskOf
+mask-lt p = upper-lt p tasks
+
 lowest-of : (p : ℕ → Bool) → Lowest p tasks (lowestTask (maskOf p))
 unfolding maskOf
 lowest-of p = lowest p tasks (omega arith)
@@ -97,9 +103,6 @@ mask-lowest p n =
     from-zero : (u : ℕ) → tasks - tasks + u ≡ u
     from-zero u = omega arith
 
-    mask-lt : (p : ℕ → Bool) → maskOf p < 2 ^ tasks
-    mask-lt p = unfold maskOf in upper-lt p tasks
-
 upper-ext : (p q : ℕ → Bool) → ((u : ℕ) → u < tasks → p u ≡ q u) → (n : ℕ) → upper p n ≡ upper q n
 unfolding turns
 upper-ext p q e zero = refl
@@ -109,6 +112,49 @@ upper-ext p q e (suc n) = rw (e (tasks - 1 - n) (omega arith), upper-ext p q e n
 pub mask-ext : (p q : ℕ → Bool) → ((u : ℕ) → u < tasks → p u ≡ q u) → maskOf p ≡ maskOf q
 unfolding maskOf
 mask-ext p q e = upper-ext p q e tasks
+
+-- A mask without the bits of a word
+
+-- with one bit more below both
+lower-without : (b : Bool) (m x : ℕ) {y o : ℕ} → x / 2 ≡ y → m - bitAnd m y ≡ o → indicator b + 2 * m - bitAnd (indicator b + 2 * m) x ≡ indicator (b && not (eqb (x % 2) 1)) + 2 * o
+lower-without b m x {y} e q = rw (and-step (indicator b + 2 * m) x, half b, odd b, e, ← q) (of b (x % 2) (bitAnd m y) (and-le-l m y) (omega arith))
+  where
+    half : (b : Bool) → (indicator b + 2 * m) / 2 ≡ m
+    half true = omega arith
+    half false = omega arith
+
+    odd : (b : Bool) → (indicator b + 2 * m) % 2 ≡ indicator b
+    odd true = omega arith
+    odd false = omega arith
+
+    of : (b : Bool) (d a : ℕ) → a ≤ m → d < 2 → indicator b + 2 * m - (a * 2 + min (indicator b) d) ≡ indicator (b && not (eqb d 1)) + 2 * (m - a)
+    of true zero a l h = omega arith
+    of true (suc zero) a l h = omega arith
+    of true (suc (suc d)) a l h = absurd (omega arith)
+    of false d a l h = omega arith
+
+upper-without : (p : ℕ → Bool) (x n : ℕ) → n ≤ tasks → upper p n - bitAnd (upper p n) (x / 2 ^ (tasks - n)) ≡ upper (λ u. p u && not (bit x u)) n
+unfolding turns
+upper-without p x zero h = omega arith
+upper-without p x (suc n) h =
+    let e : tasks - suc n ≡ tasks - 1 - n = omega arith in
+    let f : tasks - 1 - n + 1 ≡ tasks - n = omega arith in
+    let half : x / 2 ^ (tasks - 1 - n) / 2 ≡ x / 2 ^ (tasks - n) = rw (← f) (shr-shr x (tasks - 1 - n) 1) in
+    rw e (lower-without (p (tasks - 1 - n)) (upper p n) (x / 2 ^ (tasks - 1 - n)) half (upper-without p x n (omega arith)))
+
+without : (p : ℕ → Bool) (x : ℕ) → maskOf p - bitAnd (maskOf p) x ≡ maskOf (λ u. p u && not (bit x u))
+unfolding maskOf
+without p x = let e : x / 2 ^ (tasks - tasks) ≡ x = omega arith in rw e at (upper-without p x tasks (omega arith))
+
+-- the tasks that pass and have no bit in the word
+pub mask-without : (p : ℕ → Bool) (x : ℕ) → maskOf p - bitAnd (maskOf p) (x % 2 ^ tasks) ≡ maskOf (λ u. p u && not (bit x u))
+mask-without p x =
+    let h = mask-lt p in
+    let l = and-le-l (maskOf p) x in
+    let e : maskOf p % 2 ^ tasks ≡ maskOf p = omega arith in
+    let f : bitAnd (maskOf p) x % 2 ^ tasks ≡ bitAnd (maskOf p) x = omega arith in
+    let low : bitAnd (maskOf p) (x % 2 ^ tasks) ≡ bitAnd (maskOf p) x = sym (rw (f, e) at (and-mod (maskOf p) x tasks)) in
+    rw low (without p x)
 
 -- The mask as a sum
 

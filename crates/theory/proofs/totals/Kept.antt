@@ -198,7 +198,7 @@ some-race (m ∷ answers) = (λ h. decided (some-race answers) h (by-test (isRac
 
 -- From a fresh state
 
-fresh-cell : (i : ℕ) → 0 < i → i < controlCells → getD freshControl i 0 ≡ 0
+pub fresh-cell : (i : ℕ) → 0 < i → i < controlCells → getD freshControl i 0 ≡ 0
 fresh-cell i h l = getD-set-other (replicate controlCells 0) 0 i 1 0 (λ q. omega arith) ∙ getD-replicate {A = ℕ} controlCells i 0 0 l
 
 module _ {S : Type 0} {c : Checker S} {R : List Event → S → Type 0} (k : Keeps c R) (fresh : c .control (c .fresh) ≡ freshControl) where

@@ -90,7 +90,7 @@ pub record Moved (control after : List ℕ) (r : Record) (m : Meaning) : Type 0 
   pub of-races : Room (races control) → races after ≡ races control + indicator (isRace m)
 
 -- phases and count are noted elsewhere
-noted-elsewhere : (k on i : ℕ) (control : List ℕ) → countAt < i → (k ≡ kind start → on < tasks) → (k ≡ kind join → on < tasks) →
+pub noted-elsewhere : (k on i : ℕ) (control : List ℕ) → countAt < i → (k ≡ kind start → on < tasks) → (k ≡ kind join → on < tasks) →
     getD (controlAfter k on control) i 0 ≡ getD control i 0
 noted-elsewhere k on i control h s j = decided (equal k (kind start)) (equal k (kind join))
   where

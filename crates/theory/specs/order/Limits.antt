@@ -20,3 +20,7 @@ variables = 64
 -- a recording has at most this many records
 abbrev pub records : ℕ
 records = 60_000
+
+-- so many entries of accepted faults are taken in
+abbrev pub entries : ℕ
+entries = 200

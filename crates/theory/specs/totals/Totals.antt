@@ -6,7 +6,7 @@ use mathlib.Core.List.{List}
 use lib.Dec.{ltb}
 use lib.ListN.{getD, set}
 use Rattle.theory.specs.declared.verdict_totals.Totals.{Totals}
-use Rattle.theory.specs.order.Limits.{variables}
+use Rattle.theory.specs.order.Limits.{tasks, variables}
 use Rattle.theory.specs.acceptance.Control.{countAt}
 use Rattle.theory.specs.verdicts.Verdict.{Verdict, Race, Clear, Doubt}
 use Rattle.theory.specs.feeding.Meaning.{Meaning, refuses, takes, judges}
@@ -27,9 +27,13 @@ verdictPlace Doubt = 2
 abbrev pub totalAt : Verdict → ℕ → ℕ
 totalAt w v = firstTotal + verdictPlace w * variables + v
 
+-- what a planner has accepted lies after them (specs/entries): how many entries were taken in, and a cell for each variable and task
+abbrev pub entriesAt : ℕ
+entriesAt = firstTotal + 3 * variables
+
 -- so many cells has the control table
 abbrev pub controlCells : ℕ
-controlCells = firstTotal + 3 * variables
+controlCells = entriesAt + 1 + variables * tasks
 
 -- How they are read
 

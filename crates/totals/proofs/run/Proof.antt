@@ -21,7 +21,7 @@ loop-again c =
     let at = read .before .before .before .before .before .before in (
       at .loop .inv .0 ∙ sym (answered .report-piece .kept .0),
       at .loop .inv .1 ∙ sym (answered .report-piece .kept .1 .1 .0),
-      at .loop .inv .2 ∙ sym (read .next-piece .kept .0),
+      at .loop .inv .2 ∙ sym (read .next-piece .kept .1 .0),
     )
 
 -- a turn is left

@@ -1,10 +1,23 @@
--- A line is refused, or its record is fed and the answer written.
+-- A line is refused, or its record is fed and the answer written, a Race as it is excused after that.
 use borrow.Author.Needs.{needs}
-use mathlib.Core.Path.{ap}
+use mathlib.Core.Path.{_≡_, ap, subst}
+use mathlib.Core.List.{List}
+use Prim.Native.Nat.{ℕ}
 use native.Mathlib.Omega.{arith}
+use Rattle.theory.specs.declared.record.Record.{Record}
+use Rattle.theory.specs.declared.state.State.{State}
 use Rattle.theory.specs.declared.state.Stepped.{Stepped}
+use Rattle.theory.specs.feeding.Meaning.{meaning}
+use Rattle.theory.specs.feeding.Step.{stepOf}
+use Rattle.text.specs.Report.{saidBeside}
+use Rattle.text.specs.Wrote.{Wrote}
 use Rattle.report.proofs.answering.put_parsed.Statement.{statement}
 use Rattle.report.proofs.answering.put_parsed.Tie as tie
+
+-- what was written by the state and the answer that the step left
+said : {out out′ : List ℕ} {at to : ℕ} (n : ℕ) (s : State) (r : Record) {t : Stepped} → t ≡ stepOf s r
+    → Wrote out at (saidBeside n r (t .state) (meaning (t .answer))) out′ to → Wrote out at (saidBeside n r ((stepOf s r) .state) (meaning ((stepOf s r) .answer))) out′ to
+said {out} {out′} {at} {to} n s r f = subst (λ (x : Stepped). Wrote out at (saidBeside n r (x .state) (meaning (x .answer))) out′ to) f
 
 returns : tie.Need-returns
 returns c =
@@ -14,16 +27,20 @@ returns c =
 
 put-answer-requires : tie.Need-put-answer-requires
 put-answer-requires c κs =
-    let at-parsed = c .before .before .before .before .before .before .before in
+    let at-parsed = c .before .before .before .before .before .before .before .before .before .before in
     let at-start = at-parsed .before .before .before in
     let s = at-start .pre .1 _ (at-parsed .parsed .given .1) in (search needs, omega (arith, s .task-short), omega (arith, s .on-short))
 
 returns-2 : tie.Need-returns-2
 returns-2 c =
-    let e = c .before .before .before .before .before .before .before .before .before .before .parsed .given .1 in
-    let f = c .before .before .before .before .step-in-place .ensures in
-    let p = c .before .before .put-answer .ensures in
-    record { room = p .1; wrote = rw (e, ← ap (λ (x : Stepped). x .answer) f) (p .0); fed = rw e (ap (λ (x : Stepped). x .state) f) }
+    let at-put-answer = c .before .before in
+    let at-step = at-put-answer .before .before .before .before .before in
+    let at-parsed = at-step .before .before .before .before .before .before in
+    let at-start = at-parsed .before .before .before in
+    let e = at-parsed .parsed .given .1 in
+    let f = at-step .step-in-place .ensures in
+    let p = at-put-answer .put-answer .ensures in
+    record { room = p .1; wrote = rw e (said (at-start .args .number) _ _ f (p .0)); fed = rw e (ap (λ (x : Stepped). x .state) f) }
 
 pub put-parsed-spec : {M : Type 1} → statement M
 put-parsed-spec =

@@ -3,7 +3,7 @@ use mathlib.Core.Path.{sym, ap, _∙_}
 use Prim.Native.Nat.{_≤_}
 use lib.ListN.{length}
 use borrow.Author.Needs.{needs}
-use Rattle.text.specs.LineForm.{readDecimal}
+use Rattle.text.specs.LineForm.{readDecimal, fieldOf}
 use Rattle.text.proofs.Bytes.{word-fits}
 use Rattle.text.proofs.LineForm.{named, unnamed, part-from}
 use Rattle.report.proofs.words.field.Statement.{statement}
@@ -20,13 +20,15 @@ part-read-decimal-start : tie.Need-part-read-decimal-start
 part-read-decimal-start c = within c
 
 returns : tie.Need-returns
+unfolding fieldOf
 returns c =
     let a = c .before .before .before .before .before .before .args in
     c .read-decimal .ensures ∙ ap readDecimal (part-from (a .s .now) (length (a .name .now)))
-    ∙ sym (named _ _ (sym (c .before .before .before .starts-with .ensures) ∙ c .before .before .if1 .taken))
+    ∙ sym (named readDecimal _ _ (sym (c .before .before .before .starts-with .ensures) ∙ c .before .before .if1 .taken))
 
 returns-2 : tie.Need-returns-2
-returns-2 c = sym (unnamed _ _ (sym (c .before .starts-with .ensures) ∙ c .if1 .left))
+unfolding fieldOf
+returns-2 c = sym (unnamed readDecimal _ _ (sym (c .before .starts-with .ensures) ∙ c .if1 .left))
 
 pub field-spec : {M : Type 1} → statement M
 field-spec = tie.close (tie.spec (λ c κs. search needs) sub-read-decimal part-read-decimal-start (λ c. search needs) (λ c κs. search needs) returns returns-2)
