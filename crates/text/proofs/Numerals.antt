@@ -140,7 +140,7 @@ let-through true x n e = (refl, e)
 let-through false x n e = absurd (let z : _≡_ {A = ℕ} 0 1 = cc in omega arith)
 
 -- what was read before the digits is what stands above them
-read-above : (v n : ℕ) (s : List ℕ) → readDigits v s ≡ Number.Value n → n / 10 ^ length s ≡ v
+pub read-above : (v n : ℕ) (s : List ℕ) → readDigits v s ≡ Number.Value n → n / 10 ^ length s ≡ v
 unfolding readDigits
 read-above v n [] e = let q : v ≡ n = cc in div-one n ∙ sym q
 read-above v n (b ∷ s) e =
