@@ -182,8 +182,8 @@ fields-said s e (Number.Value rec) (Number.Value var) (Number.Value low) (Number
         five-or-seven = r .wide;
         enough = r .enough;
         is = entry-joined s (r .count) (record { rec = rec; var = var; low = low; high = high; accepted = t })
-          (r .is) (field-is varName (wordAfter 1 s) var b .is) (field-is lowName (wordAfter 2 s) low c .is)
-          (field-is highName (wordAfter 3 s) high d .is) m;
+            (r .is) (field-is varName (wordAfter 1 s) var b .is) (field-is lowName (wordAfter 2 s) low c .is)
+            (field-is highName (wordAfter 3 s) high d .is) m;
       });
       can = i;
     }
@@ -208,6 +208,9 @@ only-in-form s e h = said s e h .can
 wide-most : (k : ℕ) → Wide k → k ≤ recordDigits
 wide-most k (inl e) = omega arith
 wide-most k (inr e) = omega arith
+
+pub wide-fits : (k : ℕ) → recordWide k ≡ true → k ≤ recordDigits
+wide-fits k e = wide-most k (wide-digits k e)
 
 entry-short : (k : ℕ) (e : Entry) → Wide k → InForm e → length (entryText k e) ≤ 40 + recordDigits
 unfolding entryText

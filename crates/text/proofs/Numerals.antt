@@ -29,8 +29,8 @@ a-digit b e = let (f, g) = and-true (leb 48 b) (leb b 57) e in record { low = le
 pub digit-fits : (v b i : ℕ) → v < 10 ^ i → Digit b → v * 10 + (b - 48) < 10 ^ (i + 1)
 digit-fits v b i h d = rw (add-one i, pow-suc 10 i) (omega arith)
 
-pub power-fits : (i : ℕ) → i ≤ digits → 10 ^ i ≤ 10 ^ digits
-power-fits i h = pow-le-pow-right {n = 10} (omega arith) h
+pub power-fits : (i k : ℕ) → i ≤ k → 10 ^ i ≤ 10 ^ k
+power-fits i k h = pow-le-pow-right {n = 10} (omega arith) h
 
 -- Reading from place i on
 
