@@ -1,5 +1,7 @@
 //! Document 01's examples, edges and refusal rows, with reports written by hand.
 
+use crate::oracle::RECORD_DIGITS;
+
 pub struct Example {
     pub name: &'static str,
     pub text: Vec<u8>,
@@ -24,7 +26,7 @@ pub fn report(lines: &str) -> String {
     let mut out = String::new();
     for line in lines.split(", ").filter(|line| !line.is_empty()) {
         match line.split(' ').collect::<Vec<_>>()[..] {
-            [rec, task, verdict, with] => out += &format!("rec={rec:0>5} task={task} var=5 verdict={verdict} with={with:0>5}\n"),
+            [rec, task, verdict, with] => out += &format!("rec={rec:0>RECORD_DIGITS$} task={task} var=5 verdict={verdict} with={with:0>RECORD_DIGITS$}\n"),
             [number, row] => out += &format!("line={} refused={row}\n", &number[1..]),
             _ => panic!("not a report line: {line}"),
         }
@@ -163,14 +165,14 @@ const NOT_OF_THE_FORM: &[&str] = &[
 fn whole() -> Example {
     let text = "op=start task=0 on=1\nop=write task=0 on=5\nop=give task=0 on=2\nop=write task=0 on=6\nop=lost tasks=2\n\
                 op=read task=1 on=5\nop=read task=1 on=6\nop=take task=1 on=2\nop=write task=1 on=5\nop=read task=2 on=5\n";
-    let report = "rec=00002 task=0 var=5 verdict=clear with=00000\nrec=00004 task=0 var=6 verdict=clear with=00000\n\
-                  rec=00006 task=1 var=5 verdict=doubt with=00002\nrec=00007 task=1 var=6 verdict=race with=00004\n\
-                  rec=00009 task=1 var=5 verdict=clear with=00000\nline=10 refused=6\n";
+    let report = "rec=0000002 task=0 var=5 verdict=clear with=0000000\nrec=0000004 task=0 var=6 verdict=clear with=0000000\n\
+                  rec=0000006 task=1 var=5 verdict=doubt with=0000002\nrec=0000007 task=1 var=6 verdict=race with=0000004\n\
+                  rec=0000009 task=1 var=5 verdict=clear with=0000000\nline=10 refused=6\n";
     Example { name: "the report example", text: text.into(), report: report.into() }
 }
 
 fn last_variable() -> Example {
-    let report = "rec=00001 task=0 var=63 verdict=clear with=00000\nrec=00003 task=15 var=63 verdict=clear with=00000\n";
+    let report = "rec=0000001 task=0 var=63 verdict=clear with=0000000\nrec=0000003 task=15 var=63 verdict=clear with=0000000\n";
     Example { name: "task 15 and variable 63", text: text("write 0 63, start 0 15, read 15 63"), report: report.into() }
 }
 
@@ -181,15 +183,4 @@ pub fn examples() -> Vec<Example> {
         list.push(Example { name: line, text: format!("{line}\n").into(), report: report("!1 1") });
     }
     list
-}
-
-/// 60,000 records are accepted; then rows 1 to 4 still go before row 5, and row 5 before the others.
-pub fn full() -> Example {
-    let mut lines = "op=read task=0 on=1\n".repeat(60_001);
-    lines += "op=read task=0\nop=read task=16 on=1\nop=read task=0 on=64\nop=lost tasks=0\nop=read task=1 on=1\nop=lost tasks=2\n";
-    let mut report: String = (1..=60_000).map(|rec| format!("rec={rec:05} task=0 var=1 verdict=clear with=00000\n")).collect();
-    for (line, row) in [(60_001, 5), (60_002, 1), (60_003, 2), (60_004, 3), (60_005, 4), (60_006, 5), (60_007, 5)] {
-        report += &format!("line={line} refused={row}\n");
-    }
-    Example { name: "row 5", text: lines.into(), report }
 }
