@@ -1,5 +1,6 @@
-//! The limit of accepted records: the last one that is accepted and what comes after it, by the C entry, in pieces, by the running state and the sets,
-//! and by the programs. The path search cannot follow so many records, and need not: it judges short recordings whose verdicts are those of long ones.
+//! The limit of accepted records: the last one that is accepted and what comes after it, by the C entry, in pieces, by the running state and
+//! the sets, and by the programs. The path search cannot follow so many records, and need not: it judges short recordings whose verdicts are
+//! those of long ones.
 
 use crate::cuts::{pieces, Cuts, WAYS};
 use crate::examples::text;
@@ -123,7 +124,7 @@ impl Pattern {
     }
 }
 
-/// A text and its report, the same as records with their answers, and the totals.
+/// A text and its report, and the same as records with their answers.
 #[derive(Default)]
 struct Long {
     text: Vec<u8>,
@@ -163,13 +164,13 @@ impl Long {
         self.report.extend(format!("line={} refused={row}\n", self.records.len()).bytes());
     }
 
-    /// What the records and their answers come to.
+    /// The totals after each record.
     fn totals(&self) -> impl Iterator<Item = Totals> + '_ {
+        let verdicts = [Verdict::Clear, Verdict::Race, Verdict::Doubt];
         let mut so_far = Totals::NONE;
         self.records.iter().zip(&self.answers).map(move |((_, _, on), [said, ..])| {
-            if let Some(&verdict) = [Verdict::Clear, Verdict::Race, Verdict::Doubt].iter().find(|verdict| oracle::answer_of(**verdict) == *said) {
-                so_far.count(*on, verdict);
-            }
+            let verdict = verdicts.into_iter().find(|verdict| oracle::answer_of(*verdict) == *said);
+            verdict.into_iter().for_each(|verdict| so_far.count(*on, verdict));
             so_far
         })
     }
@@ -202,7 +203,9 @@ fn same(got: &[u8], expected: &[u8]) -> Result<(), String> {
     Ok(())
 }
 
-/// In pieces, each as large as may be, with memory that is not looked at beyond what is written.
+const PIECE: usize = 65_536;
+
+/// In large pieces, with memory that is not looked at beyond what is written.
 fn by_pieces(kept: &mut Kept, text: &[u8]) -> Result<Vec<u8>, String> {
     let mut memory = vec![0; 64 * PIECE];
     let mut whole = Vec::new();
@@ -212,8 +215,6 @@ fn by_pieces(kept: &mut Kept, text: &[u8]) -> Result<Vec<u8>, String> {
     }
     Ok(whole)
 }
-
-const PIECE: usize = 65_536;
 
 /// The peak of a running process's memory, in KB.
 fn peak(process: u32) -> Result<usize, String> {
@@ -243,7 +244,7 @@ fn by_program(order: &str, text: &[u8]) -> Result<(Vec<u8>, usize), String> {
     result.map(|peak| (wrote, peak))
 }
 
-/// More than for a short recording by this, in KB, is memory that grows.
+/// The program's memory is fixed: so much more than for a short recording, in KB, would be memory that grows.
 const GROWTH: usize = 256;
 
 fn run_program(tally: &mut Tally, order: &str, long: &Long) {
@@ -333,7 +334,8 @@ const WHOLE: u64 = 2;
 /// Recordings of all kinds of records, marks and damage, after so many acts of task 0 that the limit comes while they are under way.
 fn run_met(tally: &mut Tally, order: Option<&str>) {
     let before = LIMIT - LEFT;
-    let (mut acts, act) = (text(PAD).repeat(before), feeding::records(&text(PAD))[0]);
+    let pad = text(PAD);
+    let (mut acts, act) = (pad.repeat(before), feeding::records(&pad)[0]);
     let states = BOTH.each_ref().map(|by| {
         let mut lent = Lent::fresh(by)?;
         (0..before).try_for_each(|_| lent.feed(act, false).map(|_| ()))?;
@@ -360,7 +362,7 @@ fn run_met(tally: &mut Tally, order: Option<&str>) {
         let answer = kept.clone().and_then(|mut kept| kept.text(of_records, &text, cuts));
         tally.expect(&format!("pieces, {name}, cut {cuts:?}"), &text, &report, answer);
         if seed < WHOLE {
-            acts.truncate(before * PAD_LINE);
+            acts.truncate(before * pad.len());
             acts.extend(&text);
             tally.expect(&format!("entry, {name}"), &text, &report, entry::report(&acts, 0));
             if let Some(order) = order {
@@ -369,8 +371,6 @@ fn run_met(tally: &mut Tally, order: Option<&str>) {
         }
     }
 }
-
-const PAD_LINE: usize = "op=miss task=0 on=0\n".len();
 
 pub fn run(tally: &mut Tally, order: Option<&str>, totals: Option<&str>) {
     run_long(tally, order, totals);

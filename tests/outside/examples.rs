@@ -26,7 +26,9 @@ pub fn report(lines: &str) -> String {
     let mut out = String::new();
     for line in lines.split(", ").filter(|line| !line.is_empty()) {
         match line.split(' ').collect::<Vec<_>>()[..] {
-            [rec, task, verdict, with] => out += &format!("rec={rec:0>RECORD_DIGITS$} task={task} var=5 verdict={verdict} with={with:0>RECORD_DIGITS$}\n"),
+            [rec, task, verdict, with] => {
+                out += &format!("rec={rec:0>RECORD_DIGITS$} task={task} var=5 verdict={verdict} with={with:0>RECORD_DIGITS$}\n")
+            }
             [number, row] => out += &format!("line={} refused={row}\n", &number[1..]),
             _ => panic!("not a report line: {line}"),
         }
@@ -118,7 +120,11 @@ const SHORT: &[(&str, &str, &str)] = &[
     ("row 9", "lost 2", "!1 9"),
     ("row 9 of a join", "join 0 1", "!1 9"),
     ("the lower row goes first", "read 16 64, take 1 32, start 1 0, join 1 1, start 1 1, join 1 2", "!1 2, !2 3, !3 6, !4 6, !5 6, !6 6"),
-    ("the first past each series", "read 0 64, write 0 64, take 0 32, give 0 32, look 0 32, set 0 32, start 0 16, join 0 16, fresh 0 64, miss 0 32, bump 0 64", ELEVEN_THREES),
+    (
+        "the first past each series",
+        "read 0 64, write 0 64, take 0 32, give 0 32, look 0 32, set 0 32, start 0 16, join 0 16, fresh 0 64, miss 0 32, bump 0 64",
+        ELEVEN_THREES,
+    ),
     ("the last of each series", "take 0 31, give 0 31, look 0 31, set 0 31, start 0 15, lost 32769, join 0 15", ""),
     ("masks", "lost 65536, lost 65535, lost 99999, lost 1", "!1 4, !2 9, !3 4"),
     ("a joined task is done", "start 0 1, join 0 1, join 0 1, start 0 1, read 1 5, lost 2, lost 3", "!3 9, !4 7, !5 6, !6 9, !7 9"),

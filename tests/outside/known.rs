@@ -734,8 +734,10 @@ fn run_bad(tally: &mut Tally, order: Option<&Folder>) {
             files.push([&sample[..at], &[byte], &sample[at..]].concat());
         }
     }
-    let words: Vec<&[u8]> =
-        "rec=|0000|00|00012|4000001|4000000| var=|5|64| low=|0|1| high=|2|16| mark=|accepted|open|\n|\n|\r| |\0".split('|').map(str::as_bytes).collect();
+    let words: Vec<&[u8]> = "rec=|0000|00|00012|4000001|4000000| var=|5|64| low=|0|1| high=|2|16| mark=|accepted|open|\n|\n|\r| |\0"
+        .split('|')
+        .map(str::as_bytes)
+        .collect();
     for seed in 0..1_000 {
         let mut random = Random::new(9_700_000 + seed);
         let length = random.below(if seed % 10 == 0 { 4_000 } else { 200 });

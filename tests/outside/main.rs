@@ -1,9 +1,8 @@
 //! Tests from outside: the C entry, texts in pieces and the programs `order` and `totals` against the plain path search, byte for byte, and bad
 //! input at scale; as many records as may be, and more; the programs on input that pauses; the running state and the sets, fed without text,
-//! against the same search, answer for answer, and their totals after each record; the lazy reckoning, and reports with a planner's entries, against a literal reading of document 02 over that
-//! search. `outside [ORDER TOTALS]` runs them; without the programs only the archive is tested.
+//! against the same search, answer for answer, and their totals after each record; the lazy reckoning, and reports with a planner's entries,
+//! against a literal reading of document 02 over that search. `outside [ORDER TOTALS]` runs them; without the programs only the archive is tested.
 //! `outside --report [ENTRIES]` prints what the plain path search says of the recording on standard input, with a file of entries if one is given.
-
 
 mod bad;
 mod cuts;

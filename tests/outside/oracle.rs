@@ -319,7 +319,9 @@ pub fn accesses(recording: &[Record]) -> Vec<Access> {
     for (at, record) in recording.iter().enumerate() {
         match *record {
             Record::Act(Act { op: Fresh, on, .. }) => since[on as usize] = at + 1,
-            Record::Act(Act { op, task, on }) if is_access(op) => list.push(Access { rec: at + 1, task, var: on, op, since: since[on as usize] }),
+            Record::Act(Act { op, task, on }) if is_access(op) => {
+                list.push(Access { rec: at + 1, task, var: on, op, since: since[on as usize] })
+            }
             _ => {}
         }
     }
@@ -523,7 +525,7 @@ pub fn access_line(rec: usize, task: u32, var: u32, verdict: &str, with: usize) 
 impl Reading {
     /// The number that a record has in an answer, by its place among these; 0 is none.
     fn number(&self, rec: usize) -> usize {
-        if rec == 0 { 0 } else { self.before + rec }
+        (rec > 0).then_some(self.before + rec).unwrap_or(0)
     }
 }
 
