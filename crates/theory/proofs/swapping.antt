@@ -1,0 +1,3 @@
+-- Swaps of unrelated neighbours change neither acceptance nor a verdict nor a partner task
+pub mod Unrelated
+pub mod Acceptance
