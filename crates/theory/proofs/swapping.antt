@@ -1,3 +1,4 @@
 -- Swaps of unrelated neighbours change neither acceptance nor a verdict nor a partner task
 pub mod Unrelated
 pub mod Acceptance
+pub mod Candidates

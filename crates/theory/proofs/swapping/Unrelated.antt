@@ -83,6 +83,11 @@ pub empties-nothing : {e d f : Event} → Unrelated e d → Conflict e f → ¬ 
 empties-nothing (unrelated {o = o} x) (conflict {p = p} {v = v} d c) empties =
     shares-fresh (x .no-variable v (accessed o v (both-true (isAccess o) (isAccess p) (rule o p) c .0)) refl)
 
+-- and the history of an access when the other record stands before it
+pub never-empties : {e d f : Event} → Unrelated d f → Conflict e f → ¬ Empties d f
+never-empties (unrelated {p = p} x) (conflict {o = o} {v = v} d c) empties =
+    shares-fresh (may-share-either (x .no-variable v refl (accessed p v (both-true (isAccess o) (isAccess p) (rule o p) c .1))))
+
 -- Phases
 
 cond-same : {A : Type 0} (b : Bool) (x : A) → cond b x x ≡ x
