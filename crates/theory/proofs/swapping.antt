@@ -2,3 +2,4 @@
 pub mod Unrelated
 pub mod Acceptance
 pub mod Candidates
+pub mod Says
