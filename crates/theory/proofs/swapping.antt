@@ -3,3 +3,4 @@ pub mod Unrelated
 pub mod Acceptance
 pub mod Candidates
 pub mod Says
+pub mod Verdicts

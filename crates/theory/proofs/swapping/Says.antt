@@ -111,4 +111,3 @@ module _ {paired : Event → ℕ → Bool} where
   line-moved {es} (these z) (said-next a (said-next b m)) (said-next b′ (said-next a′ m′)) (suc (suc k)) = rw (all-swapped (swapped-last es z) m m′)
   line-moved (later s) (said-next a m) (said-next a′ m′) zero = rw (said-once a a′)
   line-moved (later s) (said-next a m) (said-next a′ m′) (suc k) = line-moved s m m′ k
-
