@@ -4,3 +4,4 @@ pub mod Acceptance
 pub mod Candidates
 pub mod Says
 pub mod Verdicts
+pub mod Totals

@@ -83,23 +83,23 @@ module _ {paired : Event → ℕ → Bool} where
   same-said to from (to-other n) (to-access a s) = absurd (n a)
   same-said to from (to-other n) (to-other n′) = refl
 
-  said-once : {es : List Event} {e : Event} {x y : Told} → SaidTo paired es e x → SaidTo paired es e y → x ≡ y
+  pub said-once : {es : List Event} {e : Event} {x y : Told} → SaidTo paired es e x → SaidTo paired es e y → x ≡ y
   said-once = same-said (λ g u c. c) (λ g u c. c)
 
   said-swapped : {es es′ : List Event} {e : Event} {x y : Told} → Swapped Unrelated es es′ → SaidTo paired es e x → SaidTo paired es′ e y → x ≡ y
   said-swapped s = same-said (λ g u c. candidate-swapped s c) (λ g u c. candidate-swapped (swapped-back s) c)
 
-  said-longer : {es : List Event} {d e : Event} {x y : Told} → Unrelated d e → SaidTo paired es e x → SaidTo paired (es ++ (d ∷ [])) e y → x ≡ y
+  pub said-longer : {es : List Event} {d e : Event} {x y : Told} → Unrelated d e → SaidTo paired es e x → SaidTo paired (es ++ (d ∷ [])) e y → x ≡ y
   said-longer {es} z = same-said (λ g u c. candidate-longer es z c) (λ g u c. candidate-shorter es z c)
 
 -- Lists
 
-swapped-last : (es : List Event) {e f : Event} → Unrelated e f → Swapped Unrelated ((es ++ (e ∷ [])) ++ (f ∷ [])) ((es ++ (f ∷ [])) ++ (e ∷ []))
+pub swapped-last : (es : List Event) {e f : Event} → Unrelated e f → Swapped Unrelated ((es ++ (e ∷ [])) ++ (f ∷ [])) ((es ++ (f ∷ [])) ++ (e ∷ []))
 swapped-last [] z = these z
 swapped-last (d ∷ es) z = later (swapped-last es z)
 
 module _ {paired : Event → ℕ → Bool} where
-  all-swapped : {es es′ : List Event} {rs : List Record} {ls ls′ : List Line} → Swapped Unrelated es es′ → SaidAll paired es rs ls → SaidAll paired es′ rs ls′ → ls ≡ ls′
+  pub all-swapped : {es es′ : List Event} {rs : List Record} {ls ls′ : List Line} → Swapped Unrelated es es′ → SaidAll paired es rs ls → SaidAll paired es′ rs ls′ → ls ≡ ls′
   all-swapped s said-none said-none = refl
   all-swapped s (said-next {r = r} a k) (said-next b k′) = rw (said-swapped s a b, all-swapped (swapped-before (eventOf r ∷ []) s) k k′)
 

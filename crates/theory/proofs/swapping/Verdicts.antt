@@ -61,7 +61,7 @@ task-at (r ∷ rs) rest e (next o) = task-at rs rest (tail-eq-of-cons-eq e) o
 
 -- What an accepted record is told
 
-abbrev unpaired : Event → ℕ → Bool
+abbrev pub unpaired : Event → ℕ → Bool
 unpaired e u = false
 
 module _ (all : List Record) (es : List Event) (rest : List Event) (begin : map eventOf all ≡ es ++ rest) where
