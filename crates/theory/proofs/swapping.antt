@@ -5,3 +5,4 @@ pub mod Candidates
 pub mod Says
 pub mod Verdicts
 pub mod Totals
+pub mod Beside
