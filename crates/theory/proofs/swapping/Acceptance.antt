@@ -11,16 +11,16 @@ use lib.Dec.{leb, eqb}
 use lib.ListN.{length, length-append}
 use Rattle.theory.specs.declared.record.Record.{Record}
 use Rattle.theory.specs.order.Limits.{records}
-use Rattle.theory.specs.order.Recording.{Op, start, join, Event, act, lost, kind, lossMark, eventOf}
+use Rattle.theory.specs.order.Recording.{Op, start, join, Event, act, lost, kind, lossMark, eventOf, acts}
 use Rattle.theory.specs.acceptance.Table.{Phase, isLive, isUnseen, nextPhase, phase, Standing, standing, firstRow, standingRefusal, refusal}
-use Rattle.theory.specs.swapping.Unrelated.{Thing, task, semaphore, flag, variable, thing, UnrelatedActs, Unrelated, unrelated, UnrelatedRecords}
+use Rattle.theory.specs.swapping.Unrelated.{Thing, task, semaphore, flag, variable, thing, Names, names, names-no-actor, names-no-same, Unrelated, UnrelatedRecords}
 use Rattle.theory.specs.swapping.Swaps.{Swapped, these, later}
 use Rattle.theory.proofs.basics.Reflects.{Reflects, right, wrong, equal}
 use Rattle.theory.proofs.order.Ops.{Role, a-take, a-give, a-look, a-set, a-start, a-join, plain, role, same-op, no-mark, event-act}
 use Rattle.theory.proofs.acceptance.Rows.{OfAct, actRows, act-rows, Allowed, allowed}
 use Rattle.theory.proofs.acceptance.ControlTable.{phase-snoc}
 use Rattle.theory.proofs.feeding.Simulation.{Shape, an-act, a-mark, shape-of}
-use Rattle.theory.proofs.swapping.Unrelated.{turned, either-way, phase-kept}
+use Rattle.theory.proofs.swapping.Unrelated.{TwoActs, two, both-acts, either-way, phase-kept}
 
 -- A list whose every record is accepted, after a recording
 
@@ -79,35 +79,53 @@ module _ (p : Op) (u m : ℕ) (es es′ : List Event) (room : length es < record
 -- Two unrelated acts
 
 -- the phases that the one looks at stand as they were after the other
-module _ {o p : Op} {t u n m : ℕ} (x : UnrelatedActs o t n p u m) (es : List Event) where
+module _ {o p : Op} {t u n m : ℕ} (x : Unrelated (act o t n) (act p u m)) (es : List Event) where
   actor-kept : phase (es ++ (act o t n ∷ [])) u ≡ phase es u
-  actor-kept = phase-next es (act o t n) u ∙ phase-kept o t n u (phase es u) (x .first-names-other)
+  actor-kept = phase-next es (act o t n) u ∙ phase-kept o t n u (phase es u) (λ y. x .holds names-no-actor u .0 y acts)
 
   named-kept : thing p m ≡ task m → phase (es ++ (act o t n ∷ [])) m ≡ phase es m
-  named-kept e = phase-next es (act o t n) m ∙ phase-kept o t n m (phase es m) (λ q. x .no-task m q e)
+  named-kept e = phase-next es (act o t n) m ∙ phase-kept o t n m (phase es m) (λ y. x .holds names-no-same m y (names e))
 
-names-or-not : (y : Thing) (x : ℕ) → (y ≡ task x) ⊎ (y ≢ task x)
-names-or-not (task k) x = decided (equal k x)
+-- an act names a task or it does not
+names-task : (o : Op) (t n x : ℕ) → Names (task x) (act o t n) ⊎ (¬ Names (task x) (act o t n))
+names-task o t n x = of (thing o n) refl
   where
-    decided : {b : Bool} → Reflects (k ≡ x) b → (task k ≡ task x) ⊎ (task k ≢ task x)
-    decided (right e) = inl (ap task e)
-    decided (wrong f) = inr (λ e. f (cc))
-names-or-not (semaphore k) x = inr (λ e. let z : _≡_ {A = ℕ} 0 1 = cc in omega arith)
-names-or-not (flag k) x = inr (λ e. let z : _≡_ {A = ℕ} 0 1 = cc in omega arith)
-names-or-not (variable k) x = inr (λ e. let z : _≡_ {A = ℕ} 0 1 = cc in omega arith)
+    other : (y : Thing) → y ≢ task x → thing o n ≡ y → Names (task x) (act o t n) ⊎ (¬ Names (task x) (act o t n))
+    other y d e = inr (λ a. away a)
+      where
+        away : ¬ Names (task x) (act o t n)
+        away (names q) = d (sym e ∙ q)
+
+    decided : (k : ℕ) {b : Bool} → Reflects (k ≡ x) b → thing o n ≡ task k → Names (task x) (act o t n) ⊎ (¬ Names (task x) (act o t n))
+    decided k (right q) e = inl (names (e ∙ ap task q))
+    decided k (wrong f) e = other (task k) (λ q. f (cc)) e
+
+    of : (y : Thing) → thing o n ≡ y → Names (task x) (act o t n) ⊎ (¬ Names (task x) (act o t n))
+    of (task k) e = decided k (equal k x) e
+    of (semaphore k) e = other (semaphore k) (λ q. let z : _≡_ {A = ℕ} 0 1 = cc in omega arith) e
+    of (flag k) e = other (flag k) (λ q. let z : _≡_ {A = ℕ} 0 1 = cc in omega arith) e
+    of (variable k) e = other (variable k) (λ q. let z : _≡_ {A = ℕ} 0 1 = cc in omega arith) e
 
 -- their phases come to the same in either order
-phases-commute : {e f : Event} → Unrelated e f → (x : ℕ) (p : Phase) → nextPhase e x (nextPhase f x p) ≡ nextPhase f x (nextPhase e x p)
-phases-commute (unrelated {o = o} {p = p} {t = t} {u = u} {n = n} {m = m} z) x q = decided (names-or-not (thing o n) x)
+act-phases : {o p : Op} {t u n m : ℕ} → Unrelated (act o t n) (act p u m) → (x : ℕ) (q : Phase) →
+    nextPhase (act o t n) x (nextPhase (act p u m) x q) ≡ nextPhase (act p u m) x (nextPhase (act o t n) x q)
+act-phases {o} {p} {t} {u} {n} {m} z x q = decided (names-task o t n x)
   where
-    decided : (thing o n ≡ task x) ⊎ (thing o n ≢ task x) →
+    decided : Names (task x) (act o t n) ⊎ (¬ Names (task x) (act o t n)) →
         nextPhase (act o t n) x (nextPhase (act p u m) x q) ≡ nextPhase (act p u m) x (nextPhase (act o t n) x q)
-    decided (inl e) =
+    decided (inl y) =
         let k = phase-kept p u m x in
-        ap (nextPhase (act o t n) x) (k q (z .no-task x e)) ∙ sym (k (nextPhase (act o t n) x q) (z .no-task x e))
+        let a = z .holds names-no-same x y in
+        ap (nextPhase (act o t n) x) (k q a) ∙ sym (k (nextPhase (act o t n) x q) a)
     decided (inr d) =
         let k = phase-kept o t n x in
         k (nextPhase (act p u m) x q) d ∙ ap (nextPhase (act p u m) x) (sym (k q d))
+
+phases-commute : {e f : Event} → Unrelated e f → (x : ℕ) (p : Phase) → nextPhase e x (nextPhase f x p) ≡ nextPhase f x (nextPhase e x p)
+phases-commute z x q = of (both-acts z) z
+  where
+    of : {e f : Event} → TwoActs e f → Unrelated e f → nextPhase e x (nextPhase f x q) ≡ nextPhase f x (nextPhase e x q)
+    of two z = act-phases z x q
 
 pub standing-swapped : (es : List Event) {e f : Event} → Unrelated e f → SameStanding ((es ++ (e ∷ [])) ++ (f ∷ [])) ((es ++ (f ∷ [])) ++ (e ∷ []))
 standing-swapped es {e} {f} z =
@@ -121,16 +139,22 @@ standing-swapped es {e} {f} z =
 
 -- marks are never among them
 no-mark-first : {mask : ℕ} {f : Event} → ¬ Unrelated (lost mask) f
-no-mark-first x = elim x [ ]
+no-mark-first x = of (both-acts x)
+  where
+    of : {mask : ℕ} {f : Event} → ¬ TwoActs (lost mask) f
+    of y = elim y [ ]
 
 no-mark-second : {mask : ℕ} {e : Event} → ¬ Unrelated e (lost mask)
-no-mark-second x = elim x [ ]
+no-mark-second x = of (both-acts x)
+  where
+    of : {mask : ℕ} {e : Event} → ¬ TwoActs e (lost mask)
+    of y = elim y [ ]
 
 is-no-mark : (o : Op) → kind o ≢ lossMark
 is-no-mark o e = eqb-false (kind o) lossMark (no-mark o) e
 
 -- the two are accepted in either order
-module _ {o p : Op} {t u n m : ℕ} (x : UnrelatedActs o t n p u m) (es : List Event) where
+module _ {o p : Op} {t u n m : ℕ} (x : Unrelated (act o t n) (act p u m)) (es : List Event) where
   abbrev first : Record
   first = record { kind = kind o; task = t; on = n }
 
@@ -144,7 +168,7 @@ module _ {o p : Op} {t u n m : ℕ} (x : UnrelatedActs o t n p u m) (es : List E
       let room : length es < records = k .room in
       let room-one : suc (length es) < records = subst (λ (i : ℕ). i < records) (longer es (act o t n)) (l .room) in
       let room-other : length (es ++ (act p u m ∷ [])) < records = subst (λ (i : ℕ). i < records) (sym (longer es (act p u m))) room-one in
-      let y = turned x in (
+      let y = either-way x in (
         sym (same-act p u m (es ++ (act o t n ∷ [])) es (l .room) room (actor-kept x es) (named-kept x es) (record { known = l .known; no-mark = is-no-mark p })) ∙ b,
         same-act o t n (es ++ (act p u m ∷ [])) es room-other room (actor-kept y es) (named-kept y es) (record { known = k .known; no-mark = is-no-mark o }) ∙ a,
       )
@@ -152,11 +176,7 @@ module _ {o p : Op} {t u n m : ℕ} (x : UnrelatedActs o t n p u m) (es : List E
 -- records as they are fed
 swap-accepted : {es : List Event} {r q : Record} → Shape es r → Shape (es ++ (eventOf r ∷ [])) q → UnrelatedRecords r q →
     refusal es r ≡ 0 → refusal (es ++ (eventOf r ∷ [])) q ≡ 0 → (refusal es q ≡ 0) × (refusal (es ++ (eventOf q ∷ [])) r ≡ 0)
-swap-accepted {es} (an-act o t n _) (an-act p u m _) x a b = rw (event-act p u m) (of (rw (event-act o t n, event-act p u m) at x) (rw (event-act o t n) at b))
-  where
-    of : Unrelated (act o t n) (act p u m) → refusal (es ++ (act o t n ∷ [])) (record { kind = kind p; task = u; on = m }) ≡ 0 →
-        (refusal es (record { kind = kind p; task = u; on = m }) ≡ 0) × (refusal (es ++ (act p u m ∷ [])) (record { kind = kind o; task = t; on = n }) ≡ 0)
-    of (unrelated y) b = other-accepted y es a b
+swap-accepted {es} (an-act o t n _) (an-act p u m _) x a b = rw (event-act p u m) (other-accepted (rw (event-act o t n, event-act p u m) at x) es a (rw (event-act o t n) at b))
 swap-accepted (an-act o t n _) (a-mark u m _) x a b = absurd (no-mark-second x)
 swap-accepted (a-mark t n _) k x a b = absurd (no-mark-first x)
 

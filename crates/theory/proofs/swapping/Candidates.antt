@@ -7,7 +7,7 @@ use Prim.Native.Nat.{ℕ, zero, suc}
 use Rattle.theory.specs.order.Recording.{Op, Event, act, lost, Every, no-more, and-more, ActsIn, acts}
 use Rattle.theory.specs.order.Path.{Step, Conflict, Empties, Against}
 use Rattle.theory.specs.fillings.Completion.{fillWith}
-use Rattle.theory.specs.swapping.Unrelated.{Unrelated, unrelated}
+use Rattle.theory.specs.swapping.Unrelated.{actors-differ, Unrelated}
 use Rattle.theory.specs.swapping.Swaps.{Swapped, these, later}
 use Rattle.theory.proofs.order.Leads.{Leads, last, over, via}
 use Rattle.theory.proofs.order.Places.{Occurs, first, next}
@@ -15,7 +15,7 @@ use Rattle.theory.proofs.order.Tests.{Some, this, further, Again, some-
 use Rattle.theory.proofs.fillings.Came.{Snoc, old, new, occurs-snoc, occurs-old}
 use Rattle.theory.proofs.fillings.Reach.{fill-append}
 use Rattle.theory.proofs.verdicts.Search.{Apart, Candidate, candidate-first, candidate-next, candidate-cases}
-use Rattle.theory.proofs.swapping.Unrelated.{either-way, no-step, no-conflict, empties-nothing, never-empties}
+use Rattle.theory.proofs.swapping.Unrelated.{TwoActs, two, both-acts, either-way, no-step, no-conflict, empties-nothing, never-empties}
 
 -- Swapped lists
 
@@ -34,7 +34,10 @@ swapped-before gs (later s) = later (swapped-before gs s)
 
 -- a swap of a recording is a swap of what is filled in
 swapped-filled : (g : ℕ → List Event) {es es′ : List Event} → Swapped Unrelated es es′ → Swapped Unrelated (fillWith g es) (fillWith g es′)
-swapped-filled g (these (unrelated x)) = these (unrelated x)
+swapped-filled g (these {xs = xs} z) = of xs (both-acts z) z
+  where
+    of : {e f : Event} (es : List Event) → TwoActs e f → Unrelated e f → Swapped Unrelated (fillWith g (e ∷ (f ∷ es))) (fillWith g (f ∷ (e ∷ es)))
+    of es two z = these z
 swapped-filled g (later {x = act o t n} s) = later (swapped-filled g s)
 swapped-filled g (later {x = lost mask} s) = swapped-behind (g mask) (swapped-filled g s)
 
@@ -66,7 +69,7 @@ leads-over x (over p) = p
 leads-over x (via s p) = absurd (no-step x s)
 
 other-acts : {t : ℕ} {e d : Event} → Unrelated e d → ActsIn t e → ¬ ActsIn t d
-other-acts (unrelated x) acts acts = x .actors-differ refl
+other-acts z = z .holds actors-differ _
 
 leads-longer : {e f : Event} {mid : List Event} (d : Event) → Leads e mid f → Leads e (mid ++ (d ∷ [])) f
 leads-longer d (last s) = over (last s)
@@ -82,13 +85,19 @@ leads-shorter (y ∷ mid) x (via s p) = via s (leads-shorter mid x p)
 -- the same with marks filled in
 module _ (g : ℕ → List Event) where
   filled-over : {e d f : Event} (mid : List Event) → Unrelated e d → Leads e (fillWith g (d ∷ mid)) f ↔ Leads e (fillWith g mid) f
-  filled-over mid (unrelated x) = (leads-over (unrelated x), over)
+  filled-over mid z = of (both-acts z) z
+    where
+      of : {e d f : Event} → TwoActs e d → Unrelated e d → Leads e (fillWith g (d ∷ mid)) f ↔ Leads e (fillWith g mid) f
+      of two z = (leads-over z, over)
+
+  one-filled : {e f : Event} → TwoActs e f → fillWith g (e ∷ []) ≡ e ∷ []
+  one-filled two = refl
 
   filled-longer : {e d f : Event} (mid : List Event) → Unrelated d f → Leads e (fillWith g mid) f → Leads e (fillWith g (mid ++ (d ∷ []))) f
-  filled-longer {e} {d} {f} mid (unrelated x) p = rw (fill-append g mid (d ∷ [])) (leads-longer d p)
+  filled-longer {d = d} mid z p = rw (fill-append g mid (d ∷ []), one-filled (both-acts z)) (leads-longer d p)
 
   filled-shorter : {e d f : Event} (mid : List Event) → Unrelated d f → Leads e (fillWith g (mid ++ (d ∷ []))) f → Leads e (fillWith g mid) f
-  filled-shorter {e} {d} {f} mid (unrelated x) p = leads-shorter (fillWith g mid) (unrelated x) (rw (fill-append g mid (d ∷ [])) at p)
+  filled-shorter {d = d} mid z p = leads-shorter (fillWith g mid) z (rw (fill-append g mid (d ∷ []), one-filled (both-acts z)) at p)
 
 -- Accesses that f is apart from
 

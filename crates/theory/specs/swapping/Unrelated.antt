@@ -1,15 +1,16 @@
--- F-11: which two records "may be written down either way round".
+-- F-11: which two records are unrelated, so that gateways "may write [them] down either way round".
 use Prim.Native.Nat.{ℕ}
 use mathlib.Core.Path.{_≡_}
-use mathlib.Core.Logic.{_≢_}
+use mathlib.Core.Bool.{Bool, _||_}
+use mathlib.Core.List.{[], _∷_}
+use lib.Dec.{T}
 use Rattle.theory.specs.declared.record.Record.{Record}
-use Rattle.theory.specs.order.Recording.{Op, read, write, take, give, look, set, start, join, fresh, miss, bump, Event, act, eventOf}
+use Rattle.theory.specs.order.Recording.{Op, read, write, take, give, look, set, start, join, fresh, miss, bump, Event, act, eventOf, ActsIn, Unmarked, _is_}
 
--- what the number of an act names: a task, a semaphore, a flag or a variable
+-- what the number of an act is the number of
 pub data Thing : Type 0 where
   task semaphore flag variable : ℕ → Thing
 
--- the table of ops: "fresh" has its variable, and "miss" its semaphore
 abbrev pub thing : Op → ℕ → Thing
 thing read n = variable n
 thing write n = variable n
@@ -23,30 +24,40 @@ thing fresh n = variable n
 thing miss n = semaphore n
 thing bump n = variable n
 
--- "except two reads or two bumps": the ops that may have a variable in common
-pub data MayShare : Op → Op → Type 0 where
-  two-reads : MayShare read read
-  two-bumps : MayShare bump bump
+-- the act names it
+pub data Names (x : Thing) : Event → Type 0 where
+  names : {o : Op} {t n : ℕ} → thing o n ≡ x → Names x (act o t n)
 
--- the premises, of an act of op o by task t with number n, and one of op p by task u with number m
-pub record UnrelatedActs (o : Op) (t n : ℕ) (p : Op) (u m : ℕ) : Type 0 where
-  -- "different tasks act"
-  pub actors-differ : t ≢ u
-  -- "neither names a task that acts in .. the other"
-  pub first-names-other : thing o n ≢ task u
-  pub second-names-other : thing p m ≢ task t
-  -- "or is named by the other"
-  pub no-task : (x : ℕ) → thing o n ≡ task x → thing p m ≢ task x
-  -- "they have no semaphore .. in common"
-  pub no-semaphore : (s : ℕ) → thing o n ≡ semaphore s → thing p m ≢ semaphore s
-  -- "no .. flag .. in common"
-  pub no-flag : (f : ℕ) → thing o n ≡ flag f → thing p m ≢ flag f
-  -- "no .. variable in common, except two reads or two bumps"
-  pub no-variable : (v : ℕ) → thing o n ≡ variable v → thing p m ≡ variable v → MayShare o p
+-- the ops of which two may have a variable in common: "two reads or two bumps"
+abbrev pub sharing : Op → Bool
+sharing o = o is read || o is bump
 
+pub data MayShare : Event → Event → Type 0 where
+  may-share : {o : Op} {t u n m : ℕ} → T (sharing o) → MayShare (act o t n) (act o u m)
+
+-- the premises, of two records
+pub data Premise : Type 0 where
+  two-acts actors-differ names-no-actor names-no-same no-semaphore no-flag no-variable : Premise
+
+abbrev pub Holds : Premise → Event → Event → Type 0
 -- "neither is a loss mark"
-pub data Unrelated : Event → Event → Type 0 where
-  unrelated : {o p : Op} {t u n m : ℕ} → UnrelatedActs o t n p u m → Unrelated (act o t n) (act p u m)
+Holds two-acts e f = Unmarked (e ∷ (f ∷ []))
+-- "different tasks act"
+Holds actors-differ e f = (t : ℕ) → ActsIn t e → ¬ ActsIn t f
+-- "neither names a task that acts in .. the other"
+Holds names-no-actor e f = (t : ℕ) → (Names (task t) e → ¬ ActsIn t f) × (Names (task t) f → ¬ ActsIn t e)
+-- "neither names a task that .. is named by the other"
+Holds names-no-same e f = (t : ℕ) → Names (task t) e → ¬ Names (task t) f
+-- "they have no semaphore .. in common"
+Holds no-semaphore e f = (s : ℕ) → Names (semaphore s) e → ¬ Names (semaphore s) f
+-- "no .. flag .. in common"
+Holds no-flag e f = (x : ℕ) → Names (flag x) e → ¬ Names (flag x) f
+-- "no .. variable in common, except two reads or two bumps"
+Holds no-variable e f = (v : ℕ) → Names (variable v) e → Names (variable v) f → MayShare e f
+
+-- all of them
+pub record Unrelated (e f : Event) : Type 0 where
+  pub holds : (q : Premise) → Holds q e f
 
 -- of records as they are fed
 abbrev pub UnrelatedRecords : Record → Record → Type 0
