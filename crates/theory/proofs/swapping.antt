@@ -6,3 +6,4 @@ pub mod Says
 pub mod Verdicts
 pub mod Totals
 pub mod Beside
+pub mod Examples

@@ -2,3 +2,4 @@
 pub mod Unrelated
 pub mod Swaps
 pub mod Compared
+pub mod Examples
