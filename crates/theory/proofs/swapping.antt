@@ -1,5 +1,5 @@
 -- Swaps of unrelated neighbours change neither acceptance nor a verdict nor a partner task
-pub mod Unrelated
+pub mod Independent
 pub mod Acceptance
 pub mod Candidates
 pub mod Says

@@ -13,14 +13,14 @@ use Rattle.theory.specs.declared.record.Record.{Record}
 use Rattle.theory.specs.order.Limits.{records}
 use Rattle.theory.specs.order.Recording.{Op, start, join, Event, act, lost, kind, lossMark, eventOf, acts}
 use Rattle.theory.specs.acceptance.Table.{Phase, isLive, isUnseen, nextPhase, phase, Standing, standing, firstRow, standingRefusal, refusal}
-use Rattle.theory.specs.swapping.Unrelated.{Thing, task, semaphore, flag, variable, thing, Names, names, names-no-actor, names-no-same, Unrelated, UnrelatedRecords}
+use Rattle.theory.specs.swapping.Unrelated.{Thing, task, semaphore, flag, variable, thing, Names, names}
 use Rattle.theory.specs.swapping.Swaps.{Swapped, these, later}
 use Rattle.theory.proofs.basics.Reflects.{Reflects, right, wrong, equal}
 use Rattle.theory.proofs.order.Ops.{Role, a-take, a-give, a-look, a-set, a-start, a-join, plain, role, same-op, no-mark, event-act}
 use Rattle.theory.proofs.acceptance.Rows.{OfAct, actRows, act-rows, Allowed, allowed}
 use Rattle.theory.proofs.acceptance.ControlTable.{phase-snoc}
 use Rattle.theory.proofs.feeding.Simulation.{Shape, an-act, a-mark, shape-of}
-use Rattle.theory.proofs.swapping.Unrelated.{TwoActs, two, both-acts, either-way, phase-kept}
+use Rattle.theory.proofs.swapping.Independent.{Separates, Independent, TwoActs, two, either-way, phase-kept}
 
 -- A list whose every record is accepted, after a recording
 
@@ -79,12 +79,12 @@ module _ (p : Op) (u m : ℕ) (es es′ : List Event) (room : length es < record
 -- Two unrelated acts
 
 -- the phases that the one looks at stand as they were after the other
-module _ {o p : Op} {t u n m : ℕ} (x : Unrelated (act o t n) (act p u m)) (es : List Event) where
+module _ {o p : Op} {t u n m : ℕ} (x : Independent (act o t n) (act p u m)) (es : List Event) where
   actor-kept : phase (es ++ (act o t n ∷ [])) u ≡ phase es u
-  actor-kept = phase-next es (act o t n) u ∙ phase-kept o t n u (phase es u) (λ y. x .holds names-no-actor u .0 y acts)
+  actor-kept = phase-next es (act o t n) u ∙ phase-kept o t n u (phase es u) (λ y. x .actor-unnamed u .0 y acts)
 
   named-kept : thing p m ≡ task m → phase (es ++ (act o t n ∷ [])) m ≡ phase es m
-  named-kept e = phase-next es (act o t n) m ∙ phase-kept o t n m (phase es m) (λ y. x .holds names-no-same m y (names e))
+  named-kept e = phase-next es (act o t n) m ∙ phase-kept o t n m (phase es m) (λ y. x .no-task m y (names e))
 
 -- an act names a task or it does not
 names-task : (o : Op) (t n x : ℕ) → Names (task x) (act o t n) ⊎ (¬ Names (task x) (act o t n))
@@ -107,7 +107,7 @@ names-task o t n x = of (thing o n) refl
     of (variable k) e = other (variable k) (λ q. let z : _≡_ {A = ℕ} 0 1 = cc in omega arith) e
 
 -- their phases come to the same in either order
-act-phases : {o p : Op} {t u n m : ℕ} → Unrelated (act o t n) (act p u m) → (x : ℕ) (q : Phase) →
+act-phases : {o p : Op} {t u n m : ℕ} → Independent (act o t n) (act p u m) → (x : ℕ) (q : Phase) →
     nextPhase (act o t n) x (nextPhase (act p u m) x q) ≡ nextPhase (act p u m) x (nextPhase (act o t n) x q)
 act-phases {o} {p} {t} {u} {n} {m} z x q = decided (names-task o t n x)
   where
@@ -115,19 +115,19 @@ act-phases {o} {p} {t} {u} {n} {m} z x q = decided (names-task o t n x)
         nextPhase (act o t n) x (nextPhase (act p u m) x q) ≡ nextPhase (act p u m) x (nextPhase (act o t n) x q)
     decided (inl y) =
         let k = phase-kept p u m x in
-        let a = z .holds names-no-same x y in
+        let a = z .no-task x y in
         ap (nextPhase (act o t n) x) (k q a) ∙ sym (k (nextPhase (act o t n) x q) a)
     decided (inr d) =
         let k = phase-kept o t n x in
         k (nextPhase (act p u m) x q) d ∙ ap (nextPhase (act p u m) x) (sym (k q d))
 
-phases-commute : {e f : Event} → Unrelated e f → (x : ℕ) (p : Phase) → nextPhase e x (nextPhase f x p) ≡ nextPhase f x (nextPhase e x p)
-phases-commute z x q = of (both-acts z) z
+phases-commute : {e f : Event} → Independent e f → (x : ℕ) (p : Phase) → nextPhase e x (nextPhase f x p) ≡ nextPhase f x (nextPhase e x p)
+phases-commute z x q = of (z .both) z
   where
-    of : {e f : Event} → TwoActs e f → Unrelated e f → nextPhase e x (nextPhase f x q) ≡ nextPhase f x (nextPhase e x q)
+    of : {e f : Event} → TwoActs e f → Independent e f → nextPhase e x (nextPhase f x q) ≡ nextPhase f x (nextPhase e x q)
     of two z = act-phases z x q
 
-pub standing-swapped : (es : List Event) {e f : Event} → Unrelated e f → SameStanding ((es ++ (e ∷ [])) ++ (f ∷ [])) ((es ++ (f ∷ [])) ++ (e ∷ []))
+pub standing-swapped : (es : List Event) {e f : Event} → Independent e f → SameStanding ((es ++ (e ∷ [])) ++ (f ∷ [])) ((es ++ (f ∷ [])) ++ (e ∷ []))
 standing-swapped es {e} {f} z =
     record {
       phases = λ t.
@@ -138,14 +138,14 @@ standing-swapped es {e} {f} z =
     }
 
 -- marks are never among them
-no-mark-first : {mask : ℕ} {f : Event} → ¬ Unrelated (lost mask) f
-no-mark-first x = of (both-acts x)
+no-mark-first : {mask : ℕ} {f : Event} → ¬ Independent (lost mask) f
+no-mark-first x = of (x .both)
   where
     of : {mask : ℕ} {f : Event} → ¬ TwoActs (lost mask) f
     of y = elim y [ ]
 
-no-mark-second : {mask : ℕ} {e : Event} → ¬ Unrelated e (lost mask)
-no-mark-second x = of (both-acts x)
+no-mark-second : {mask : ℕ} {e : Event} → ¬ Independent e (lost mask)
+no-mark-second x = of (x .both)
   where
     of : {mask : ℕ} {e : Event} → ¬ TwoActs e (lost mask)
     of y = elim y [ ]
@@ -154,7 +154,7 @@ is-no-mark : (o : Op) → kind o ≢ lossMark
 is-no-mark o e = eqb-false (kind o) lossMark (no-mark o) e
 
 -- the two are accepted in either order
-module _ {o p : Op} {t u n m : ℕ} (x : Unrelated (act o t n) (act p u m)) (es : List Event) where
+module _ {o p : Op} {t u n m : ℕ} (x : Independent (act o t n) (act p u m)) (es : List Event) where
   abbrev first : Record
   first = record { kind = kind o; task = t; on = n }
 
@@ -174,7 +174,7 @@ module _ {o p : Op} {t u n m : ℕ} (x : Unrelated (act o t n) (act p u m)) (es 
       )
 
 -- records as they are fed
-swap-accepted : {es : List Event} {r q : Record} → Shape es r → Shape (es ++ (eventOf r ∷ [])) q → UnrelatedRecords r q →
+swap-accepted : {es : List Event} {r q : Record} → Shape es r → Shape (es ++ (eventOf r ∷ [])) q → Independent (eventOf r) (eventOf q) →
     refusal es r ≡ 0 → refusal (es ++ (eventOf r ∷ [])) q ≡ 0 → (refusal es q ≡ 0) × (refusal (es ++ (eventOf q ∷ [])) r ≡ 0)
 swap-accepted {es} (an-act o t n _) (an-act p u m _) x a b = rw (event-act p u m) (other-accepted (rw (event-act o t n, event-act p u m) at x) es a (rw (event-act o t n) at b))
 swap-accepted (an-act o t n _) (a-mark u m _) x a b = absurd (no-mark-second x)
@@ -182,8 +182,9 @@ swap-accepted (a-mark t n _) k x a b = absurd (no-mark-first x)
 
 -- The whole list
 
-pub taken-swapped : {es : List Event} {rs rs′ : List Record} → Swapped UnrelatedRecords rs rs′ → Taken es rs → Taken es rs′
-taken-swapped {es} (these {x = r} {y = q} z) (and-taken a (and-taken b k)) =
+pub taken-swapped : {R : Record → Record → Type 0} {es : List Event} {rs rs′ : List Record} → Separates R → Swapped R rs rs′ → Taken es rs → Taken es rs′
+taken-swapped {es = es} i (these {x = r} {y = q} y) (and-taken a (and-taken b k)) =
+    let z = i .independent r q y in
     let (c, d) = swap-accepted (shape-of es r a) (shape-of (es ++ (eventOf r ∷ [])) q b) z a b in
     and-taken c (and-taken d (taken-same (standing-swapped es z) k))
-taken-swapped (later s) (and-taken a k) = and-taken a (taken-swapped s k)
+taken-swapped i (later s) (and-taken a k) = and-taken a (taken-swapped i s k)

@@ -34,6 +34,7 @@ use Rattle.theory.proofs.feeding.Matching.{after-one-more}
 use Rattle.theory.proofs.totals.Moved.{bool-false}
 use Rattle.theory.proofs.feeding.Demanded.{clocks-demanded}
 use Rattle.theory.proofs.entries.Known.{represents, faults-known}
+use Rattle.theory.proofs.swapping.Independent.{Separates, unrelated-separates}
 use Rattle.theory.proofs.swapping.Acceptance.{Taken, none-left, and-taken, taken-swapped}
 use Rattle.theory.proofs.swapping.Candidates.{HasCandidate}
 use Rattle.theory.proofs.swapping.Says.{Lowest, Says, says-known, says-race, says-doubt, says-clear, SaidTo, to-access, to-other, SaidAll, said-none, said-next, line-moved}
@@ -159,11 +160,11 @@ module _ (fs : List Fault) (fit : AllFit fs) (some-fault : 0 < length fs) (few :
   said-beside : (rs : List Record) → Taken [] rs → SaidAll (pairedOf fs) [] rs (linesBeside fs rs)
   said-beside rs k = said-from fs fit some-fault few rs {passed = []} (record { recorded = refl; state = refl; exact = represents fs fit some-fault few [] }) k refl
 
-  beside-taken : {rs rs′ : List Record} (s : Swaps UnrelatedRecords rs rs′) → Taken [] rs → (k : ℕ) → getElem? (linesBeside fs rs′) (movedBy s k) ≡ getElem? (linesBeside fs rs) k
-  beside-taken no-swap a k = refl
-  beside-taken (swap-then {xs = rs} {ys = rs′} s ss) a k =
-      let b = taken-swapped s a in
-      beside-taken ss b _ ∙ line-moved s (said-beside rs a) (said-beside rs′ b) k
+  beside-taken : {R : Record → Record → Type 0} {rs rs′ : List Record} → Separates R → (s : Swaps R rs rs′) → Taken [] rs → (k : ℕ) → getElem? (linesBeside fs rs′) (movedBy s k) ≡ getElem? (linesBeside fs rs) k
+  beside-taken i no-swap a k = refl
+  beside-taken i (swap-then {xs = rs} {ys = rs′} s ss) a k =
+      let b = taken-swapped i s a in
+      beside-taken i ss b _ ∙ line-moved i s (said-beside rs a) (said-beside rs′ b) k
 
-pub same-beside : SameBeside
-same-beside fs fit some-fault few rs rs′ s a k = beside-taken fs fit some-fault few s (taken-list fed (clocks-demanded .by-table) a) k
+pub same-beside : SameBeside UnrelatedRecords
+same-beside fs fit some-fault few rs rs′ s a k = beside-taken fs fit some-fault few unrelated-separates s (taken-list fed (clocks-demanded .by-table) a) k

@@ -14,10 +14,9 @@ use Rattle.theory.specs.order.Recording.{Event, eventOf}
 use Rattle.theory.specs.fillings.Completion.{nothing, rounds}
 use Rattle.theory.specs.verdicts.Verdict.{Race, Clear, Doubt}
 use Rattle.theory.specs.verdicts.Search.{isAccessEvent}
-use Rattle.theory.specs.swapping.Unrelated.{Unrelated, UnrelatedRecords}
 use Rattle.theory.specs.swapping.Swaps.{Swapped, these, later, moved}
 use Rattle.theory.specs.swapping.Compared.{Told, taken, judged, known, Line}
-use Rattle.theory.proofs.swapping.Unrelated.{either-way}
+use Rattle.theory.proofs.swapping.Independent.{Separates, Independent, either-way}
 use Rattle.theory.proofs.swapping.Candidates.{swapped-back, swapped-behind, swapped-before, HasCandidate, candidate-swapped, candidate-longer, candidate-shorter}
 
 -- Definition
@@ -86,28 +85,28 @@ module _ {paired : Event → ℕ → Bool} where
   pub said-once : {es : List Event} {e : Event} {x y : Told} → SaidTo paired es e x → SaidTo paired es e y → x ≡ y
   said-once = same-said (λ g u c. c) (λ g u c. c)
 
-  said-swapped : {es es′ : List Event} {e : Event} {x y : Told} → Swapped Unrelated es es′ → SaidTo paired es e x → SaidTo paired es′ e y → x ≡ y
+  said-swapped : {es es′ : List Event} {e : Event} {x y : Told} → Swapped Independent es es′ → SaidTo paired es e x → SaidTo paired es′ e y → x ≡ y
   said-swapped s = same-said (λ g u c. candidate-swapped s c) (λ g u c. candidate-swapped (swapped-back s) c)
 
-  pub said-longer : {es : List Event} {d e : Event} {x y : Told} → Unrelated d e → SaidTo paired es e x → SaidTo paired (es ++ (d ∷ [])) e y → x ≡ y
+  pub said-longer : {es : List Event} {d e : Event} {x y : Told} → Independent d e → SaidTo paired es e x → SaidTo paired (es ++ (d ∷ [])) e y → x ≡ y
   said-longer {es} z = same-said (λ g u c. candidate-longer es z c) (λ g u c. candidate-shorter es z c)
 
 -- Lists
 
-pub swapped-last : (es : List Event) {e f : Event} → Unrelated e f → Swapped Unrelated ((es ++ (e ∷ [])) ++ (f ∷ [])) ((es ++ (f ∷ [])) ++ (e ∷ []))
+pub swapped-last : (es : List Event) {e f : Event} → Independent e f → Swapped Independent ((es ++ (e ∷ [])) ++ (f ∷ [])) ((es ++ (f ∷ [])) ++ (e ∷ []))
 swapped-last [] z = these z
 swapped-last (d ∷ es) z = later (swapped-last es z)
 
 module _ {paired : Event → ℕ → Bool} where
-  pub all-swapped : {es es′ : List Event} {rs : List Record} {ls ls′ : List Line} → Swapped Unrelated es es′ → SaidAll paired es rs ls → SaidAll paired es′ rs ls′ → ls ≡ ls′
+  pub all-swapped : {es es′ : List Event} {rs : List Record} {ls ls′ : List Line} → Swapped Independent es es′ → SaidAll paired es rs ls → SaidAll paired es′ rs ls′ → ls ≡ ls′
   all-swapped s said-none said-none = refl
   all-swapped s (said-next {r = r} a k) (said-next b k′) = rw (said-swapped s a b, all-swapped (swapped-before (eventOf r ∷ []) s) k k′)
 
   -- the line at place k stands at the place that its record has come to
-  pub line-moved : {es : List Event} {rs rs′ : List Record} {ls ls′ : List Line} (s : Swapped UnrelatedRecords rs rs′) → SaidAll paired es rs ls → SaidAll paired es rs′ ls′ → (k : ℕ) →
+  pub line-moved : {R : Record → Record → Type 0} {es : List Event} {rs rs′ : List Record} {ls ls′ : List Line} → Separates R → (s : Swapped R rs rs′) → SaidAll paired es rs ls → SaidAll paired es rs′ ls′ → (k : ℕ) →
       getElem? ls′ (moved s k) ≡ getElem? ls k
-  line-moved (these z) (said-next a (said-next b m)) (said-next b′ (said-next a′ m′)) zero = rw (said-longer (either-way z) a a′)
-  line-moved (these z) (said-next a (said-next b m)) (said-next b′ (said-next a′ m′)) (suc zero) = rw (said-longer z b′ b)
-  line-moved {es} (these z) (said-next a (said-next b m)) (said-next b′ (said-next a′ m′)) (suc (suc k)) = rw (all-swapped (swapped-last es z) m m′)
-  line-moved (later s) (said-next a m) (said-next a′ m′) zero = rw (said-once a a′)
-  line-moved (later s) (said-next a m) (said-next a′ m′) (suc k) = line-moved s m m′ k
+  line-moved i (these {x = r} {y = q} z) (said-next a (said-next b m)) (said-next b′ (said-next a′ m′)) zero = rw (said-longer (either-way (i .independent r q z)) a a′)
+  line-moved i (these {x = r} {y = q} z) (said-next a (said-next b m)) (said-next b′ (said-next a′ m′)) (suc zero) = rw (said-longer (i .independent r q z) b′ b)
+  line-moved {es = es} i (these {x = r} {y = q} z) (said-next a (said-next b m)) (said-next b′ (said-next a′ m′)) (suc (suc k)) = rw (all-swapped (swapped-last es (i .independent r q z)) m m′)
+  line-moved i (later s) (said-next a m) (said-next a′ m′) zero = rw (said-once a a′)
+  line-moved i (later s) (said-next a m) (said-next a′ m′) (suc k) = line-moved i s m m′ k

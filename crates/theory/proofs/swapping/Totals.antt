@@ -15,14 +15,14 @@ use Rattle.theory.specs.feeding.Meaning.{Meaning, refuses, takes, judges
 use Rattle.theory.specs.feeding.Feeding.{Checker, replies, runs, AnswersByTable, byClocks, bySets}
 use Rattle.theory.specs.totals.Totals.{verdictPlace, total, anyRace}
 use Rattle.theory.specs.totals.Counting.{counts, given, isRace, SomeRace, KeepsTotals}
-use Rattle.theory.specs.swapping.Unrelated.{Unrelated, UnrelatedRecords}
+use Rattle.theory.specs.swapping.Unrelated.{UnrelatedRecords, MissedRecords}
 use Rattle.theory.specs.swapping.Swaps.{Swapped, these, later, Swaps, no-swap, swap-then}
 use Rattle.theory.specs.swapping.Compared.{Accepted, Told, refused, taken, judged, known, told, Line, linesOf, lines, controlAfterAll, SameTotals}
 use Rattle.theory.proofs.totals.Kept.{raceCount, some-race, clocks-keep-totals, sets-keep-totals}
 use Rattle.theory.proofs.feeding.Demanded.{clocks-demanded, sets-demanded}
 use Rattle.theory.proofs.swapping.Acceptance.{Taken, taken-swapped}
 use Rattle.theory.proofs.swapping.Says.{SaidAll, said-none, said-next, swapped-last, all-swapped, said-longer, said-once}
-use Rattle.theory.proofs.swapping.Unrelated.{either-way}
+use Rattle.theory.proofs.swapping.Independent.{Separates, unrelated-separates, missed-separates, either-way}
 use Rattle.theory.proofs.swapping.Verdicts.{unpaired, taken-list, said-list}
 
 -- Sums over lines
@@ -32,11 +32,12 @@ module _ (weight : Line → ℕ) where
   sum [] = 0
   sum (l ∷ ls) = weight l + sum ls
 
-  sum-moved : {paired : Event → ℕ → Bool} {es : List Event} {rs rs′ : List Record} {ls ls′ : List Line} → Swapped UnrelatedRecords rs rs′ → SaidAll paired es rs ls → SaidAll paired es rs′ ls′ →
+  sum-moved : {R : Record → Record → Type 0} {paired : Event → ℕ → Bool} {es : List Event} {rs rs′ : List Record} {ls ls′ : List Line} → Separates R → Swapped R rs rs′ → SaidAll paired es rs ls → SaidAll paired es rs′ ls′ →
       sum ls′ ≡ sum ls
-  sum-moved {es = es} (these z) (said-next a (said-next b m)) (said-next b′ (said-next a′ m′)) =
+  sum-moved {es = es} i (these {x = r} {y = q} y) (said-next a (said-next b m)) (said-next b′ (said-next a′ m′)) =
+      let z = i .independent r q y in
       rw (said-longer (either-way z) a a′, ← said-longer z b′ b, all-swapped (swapped-last es z) m m′) (omega arith)
-  sum-moved (later s) (said-next a m) (said-next a′ m′) = rw (said-once a a′, sum-moved s m m′)
+  sum-moved i (later s) (said-next a m) (said-next a′ m′) = rw (said-once a a′, sum-moved i s m m′)
 
 -- Totals as such sums
 
@@ -87,11 +88,11 @@ same-test {a = true} {b = b} x y = sym (y .1 (x .0 refl))
 same-test {a = false} {b = true} x y = x .1 (y .0 refl)
 same-test {a = false} {b = false} x y = refl
 
-module _ {S : Type 0} (c : Checker S) (right : AnswersByTable (runs c)) (keeps : KeepsTotals c) where
+module _ {S : Type 0} {R : Record → Record → Type 0} (i : Separates R) (c : Checker S) (right : AnswersByTable (runs c)) (keeps : KeepsTotals c) where
   -- one swap
-  module _ {rs rs′ : List Record} (s : Swapped UnrelatedRecords rs rs′) (k : Taken [] rs) where
+  module _ {rs rs′ : List Record} (s : Swapped R rs rs′) (k : Taken [] rs) where
     same-sum : (f : Line → ℕ) → sum f (lines (runs c) rs′) ≡ sum f (lines (runs c) rs)
-    same-sum f = sum-moved f s (said-list (runs c) right k) (said-list (runs c) right (taken-swapped s k))
+    same-sum f = sum-moved f i s (said-list (runs c) right k) (said-list (runs c) right (taken-swapped i s k))
 
     one-total : (w : Verdict) (v : ℕ) → v < variables → total w v (controlAfterAll c rs′) ≡ total w v (controlAfterAll c rs)
     one-total w v h =
@@ -111,21 +112,25 @@ module _ {S : Type 0} (c : Checker S) (right : AnswersByTable (runs c)) (keeps :
     one-race =
         same-test (λ e. some-same .0 (keeps rs′ .any-race .0 e), λ x. keeps rs′ .any-race .1 (some-same .1 x)) (keeps rs .any-race)
 
-  each : {rs rs′ : List Record} → Swaps UnrelatedRecords rs rs′ → Taken [] rs → (w : Verdict) (v : ℕ) → v < variables → total w v (controlAfterAll c rs′) ≡ total w v (controlAfterAll c rs)
+  each : {rs rs′ : List Record} → Swaps R rs rs′ → Taken [] rs → (w : Verdict) (v : ℕ) → v < variables → total w v (controlAfterAll c rs′) ≡ total w v (controlAfterAll c rs)
   each no-swap k w v h = refl
-  each (swap-then s ss) k w v h = each ss (taken-swapped s k) w v h ∙ one-total s k w v h
+  each (swap-then s ss) k w v h = each ss (taken-swapped i s k) w v h ∙ one-total s k w v h
 
-  any-race : {rs rs′ : List Record} → Swaps UnrelatedRecords rs rs′ → Taken [] rs → anyRace (controlAfterAll c rs′) ≡ anyRace (controlAfterAll c rs)
+  any-race : {rs rs′ : List Record} → Swaps R rs rs′ → Taken [] rs → anyRace (controlAfterAll c rs′) ≡ anyRace (controlAfterAll c rs)
   any-race no-swap k = refl
-  any-race (swap-then s ss) k = any-race ss (taken-swapped s k) ∙ one-race s k
+  any-race (swap-then s ss) k = any-race ss (taken-swapped i s k) ∙ one-race s k
 
-  same-totals : SameTotals c
+  pub same-totals : SameTotals R c
   same-totals = record { each = λ s a. each s (taken-list (runs c) right a); any-race = λ s a. any-race s (taken-list (runs c) right a) }
 
 -- of the step, which goes by the clocks
-pub clocks-same-totals : SameTotals byClocks
-clocks-same-totals = same-totals byClocks (clocks-demanded .by-table) clocks-keep-totals
+pub clocks-same-totals : SameTotals UnrelatedRecords byClocks
+clocks-same-totals = same-totals unrelated-separates byClocks (clocks-demanded .by-table) clocks-keep-totals
 
 -- of the sets
-pub sets-same-totals : SameTotals bySets
-sets-same-totals = same-totals bySets (sets-demanded .by-table) sets-keep-totals
+pub sets-same-totals : SameTotals UnrelatedRecords bySets
+sets-same-totals = same-totals unrelated-separates bySets (sets-demanded .by-table) sets-keep-totals
+
+-- with a miss
+pub clocks-missed-totals : SameTotals MissedRecords byClocks
+clocks-missed-totals = same-totals missed-separates byClocks (clocks-demanded .by-table) clocks-keep-totals

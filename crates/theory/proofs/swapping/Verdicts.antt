@@ -16,13 +16,14 @@ use Rattle.theory.specs.verdicts.Verdict.{Race, Clear, Doubt}
 use Rattle.theory.specs.verdicts.Search.{Found, partner, judgement, judge, isAccessEvent}
 use Rattle.theory.specs.feeding.Meaning.{Meaning, judges, takes, meaning, isRefusal}
 use Rattle.theory.specs.feeding.Feeding.{acceptedAnswer, answerUnless, answersFrom, AnswersByTable, Demanded, fed, setFed}
-use Rattle.theory.specs.swapping.Unrelated.{UnrelatedRecords}
+use Rattle.theory.specs.swapping.Unrelated.{UnrelatedRecords, MissedRecords}
 use Rattle.theory.specs.swapping.Swaps.{Swapped, Swaps, no-swap, swap-then, movedBy}
 use Rattle.theory.specs.swapping.Compared.{Accepted, none-left, and-accepted, Told, judged, taskOf, told, linesOf, lines, SameVerdicts}
 use Rattle.theory.proofs.basics.Reflects.{Reflects, right, wrong, by-test}
 use Rattle.theory.proofs.order.Places.{Occurs, first, next}
 use Rattle.theory.proofs.verdicts.Search.{Candidate, Outcome, nobody, somebody, partner-outcome}
 use Rattle.theory.proofs.feeding.Demanded.{accepted-taken, clocks-demanded, sets-demanded}
+use Rattle.theory.proofs.swapping.Independent.{Separates, unrelated-separates, missed-separates}
 use Rattle.theory.proofs.swapping.Acceptance.{Taken, none-left as no-record-left, and-taken, taken-swapped}
 use Rattle.theory.proofs.swapping.Candidates.{HasCandidate}
 use Rattle.theory.proofs.swapping.Says.{Says, says-race, says-doubt, says-clear, Lowest, SaidTo, to-access, to-other, SaidAll, said-none, said-next, line-moved}
@@ -103,23 +104,28 @@ module _ (answers : List Record → List Answer) (right : AnswersByTable answers
   pub said-list : {rs : List Record} → Taken [] rs → SaidAll unpaired [] rs (lines answers rs)
   said-list {rs} k = rw (right rs) (said-lines rs k refl)
 
-  accepted : {rs rs′ : List Record} → Swaps UnrelatedRecords rs rs′ → Accepted (map meaning (answers rs)) → Accepted (map meaning (answers rs′))
-  accepted no-swap a = a
-  accepted (swap-then {ys = rs′} s ss) a = accepted ss (subst Accepted (sym (right rs′)) (all-accepted (taken-swapped s (taken-list a))))
+  module _ {R : Record → Record → Type 0} (i : Separates R) where
+    accepted : {rs rs′ : List Record} → Swaps R rs rs′ → Accepted (map meaning (answers rs)) → Accepted (map meaning (answers rs′))
+    accepted no-swap a = a
+    accepted (swap-then {ys = rs′} s ss) a = accepted ss (subst Accepted (sym (right rs′)) (all-accepted (taken-swapped i s (taken-list a))))
 
-  same-taken : {rs rs′ : List Record} (s : Swaps UnrelatedRecords rs rs′) → Taken [] rs → (k : ℕ) → getElem? (lines answers rs′) (movedBy s k) ≡ getElem? (lines answers rs) k
-  same-taken no-swap a k = refl
-  same-taken (swap-then s ss) a k =
-      let b = taken-swapped s a in
-      same-taken ss b _ ∙ line-moved s (said-list a) (said-list b) k
+    same-taken : {rs rs′ : List Record} (s : Swaps R rs rs′) → Taken [] rs → (k : ℕ) → getElem? (lines answers rs′) (movedBy s k) ≡ getElem? (lines answers rs) k
+    same-taken no-swap a k = refl
+    same-taken (swap-then s ss) a k =
+        let b = taken-swapped i s a in
+        same-taken ss b _ ∙ line-moved i s (said-list a) (said-list b) k
 
-  pub same-verdicts : SameVerdicts answers
-  same-verdicts = record { accepted = accepted; same = λ s a k. same-taken s (taken-list a) k }
+    pub same-verdicts : SameVerdicts R answers
+    same-verdicts = record { accepted = accepted; same = λ s a k. same-taken s (taken-list a) k }
 
 -- of the step, which goes by the clocks
-pub clocks-same-verdicts : SameVerdicts fed
-clocks-same-verdicts = same-verdicts fed (clocks-demanded .by-table)
+pub clocks-same-verdicts : SameVerdicts UnrelatedRecords fed
+clocks-same-verdicts = same-verdicts fed (clocks-demanded .by-table) unrelated-separates
 
 -- of the sets
-pub sets-same-verdicts : SameVerdicts setFed
-sets-same-verdicts = same-verdicts setFed (sets-demanded .by-table)
+pub sets-same-verdicts : SameVerdicts UnrelatedRecords setFed
+sets-same-verdicts = same-verdicts setFed (sets-demanded .by-table) unrelated-separates
+
+-- with a miss
+pub clocks-missed-verdicts : SameVerdicts MissedRecords fed
+clocks-missed-verdicts = same-verdicts fed (clocks-demanded .by-table) missed-separates

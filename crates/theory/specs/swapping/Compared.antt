@@ -17,7 +17,6 @@ use Rattle.theory.specs.feeding.Feeding.{Checker, runs, afterAll, byCloc
 use Rattle.theory.specs.totals.Totals.{total, anyRace}
 use Rattle.theory.specs.entries.Table.{excuse}
 use Rattle.theory.specs.entries.Known.{Fault, AllFit, startWith}
-use Rattle.theory.specs.swapping.Unrelated.{UnrelatedRecords}
 use Rattle.theory.specs.swapping.Swaps.{Swaps, movedBy}
 
 -- "Take a list whose every record is accepted": no answer is a refusal
@@ -60,13 +59,13 @@ linesOf rs (r ∷ left) (m ∷ answers) = record { of = r; told = told rs m } �
 abbrev pub lines : (List Record → List Answer) → List Record → List Line
 lines answers rs = linesOf rs rs (map meaning (answers rs))
 
--- The claim, of whatever answers lists of records
+-- The claim, of whatever answers lists of records, for swaps of neighbours as R has them: of unrelated ones
 
-pub record SameVerdicts (answers : List Record → List Answer) : Type 0 where
+pub record SameVerdicts (R : Record → Record → Type 0) (answers : List Record → List Answer) : Type 0 where
   -- "Then the swapped list is accepted"
-  pub accepted : {rs rs′ : List Record} → Swaps UnrelatedRecords rs rs′ → Accepted (map meaning (answers rs)) → Accepted (map meaning (answers rs′))
+  pub accepted : {rs rs′ : List Record} → Swaps R rs rs′ → Accepted (map meaning (answers rs)) → Accepted (map meaning (answers rs′))
   -- "and each access has the same verdict and the same partner task": the line at place k stands, as it is, at the place that the record has come to
-  pub same : {rs rs′ : List Record} (s : Swaps UnrelatedRecords rs rs′) → Accepted (map meaning (answers rs)) → (k : ℕ) →
+  pub same : {rs rs′ : List Record} (s : Swaps R rs rs′) → Accepted (map meaning (answers rs)) → (k : ℕ) →
       getElem? (lines answers rs′) (movedBy s k) ≡ getElem? (lines answers rs) k
 
 -- The totals of F-2, of a checker: the same for every variable, and so is whether there is a Race anywhere
@@ -74,18 +73,19 @@ pub record SameVerdicts (answers : List Record → List Answer) : Type 0 where
 abbrev pub controlAfterAll : {S : Type 0} → Checker S → List Record → List ℕ
 controlAfterAll c rs = c .control (afterAll c (c .fresh) rs)
 
-pub record SameTotals {S : Type 0} (c : Checker S) : Type 0 where
-  pub each : {rs rs′ : List Record} → Swaps UnrelatedRecords rs rs′ → Accepted (map meaning (runs c rs)) → (w : Verdict) (v : ℕ) → v < variables →
+pub record SameTotals {S : Type 0} (R : Record → Record → Type 0) (c : Checker S) : Type 0 where
+  pub each : {rs rs′ : List Record} → Swaps R rs rs′ → Accepted (map meaning (runs c rs)) → (w : Verdict) (v : ℕ) → v < variables →
       total w v (controlAfterAll c rs′) ≡ total w v (controlAfterAll c rs)
-  pub any-race : {rs rs′ : List Record} → Swaps UnrelatedRecords rs rs′ → Accepted (map meaning (runs c rs)) →
+  pub any-race : {rs rs′ : List Record} → Swaps R rs rs′ → Accepted (map meaning (runs c rs)) →
       anyRace (controlAfterAll c rs′) ≡ anyRace (controlAfterAll c rs)
 
--- The faults already accepted of F-7: a Race beside the entries
+-- The faults already accepted of F-7
 
--- the state s being the one that the access r left
+-- a Race beside the entries
 abbrev pub excused : List Record → Excuse → Told
 excused rs x = cond (x .known) (known (taskOf rs (x .partner .0))) (judged Race (taskOf rs (x .partner .0)))
 
+-- what the record r is told that left the state s
 abbrev pub toldBeside : List Record → State → Record → Meaning → Told
 toldBeside rs s r (refuses n) = refused n
 toldBeside rs s r (takes n) = taken
@@ -103,8 +103,8 @@ abbrev pub linesBeside : List Fault → List Record → List Line
 linesBeside fs rs = linesFrom rs (startWith fs) rs
 
 -- "With entries" `known`, verdicts and partner tasks are the same too, for any entries, one at least and no more than are taken in
-abbrev pub SameBeside : Type 0
-SameBeside =
+abbrev pub SameBeside : (Record → Record → Type 0) → Type 0
+SameBeside R =
     (fs : List Fault) → AllFit fs → 0 < length fs → length fs ≤ entries →
-    (rs rs′ : List Record) (s : Swaps UnrelatedRecords rs rs′) → Accepted (map meaning (runs byClocks rs)) → (k : ℕ) →
+    (rs rs′ : List Record) (s : Swaps R rs rs′) → Accepted (map meaning (runs byClocks rs)) → (k : ℕ) →
     getElem? (linesBeside fs rs′) (movedBy s k) ≡ getElem? (linesBeside fs rs) k

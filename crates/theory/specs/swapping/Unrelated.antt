@@ -2,6 +2,7 @@
 use Prim.Native.Nat.{ℕ}
 use mathlib.Core.Path.{_≡_}
 use mathlib.Core.Bool.{Bool, _||_}
+use mathlib.Core.Logic.{_≢_}
 use mathlib.Core.List.{[], _∷_}
 use lib.Dec.{T}
 use Rattle.theory.specs.declared.record.Record.{Record}
@@ -62,3 +63,16 @@ pub record Unrelated (e f : Event) : Type 0 where
 -- of records as they are fed
 abbrev pub UnrelatedRecords : Record → Record → Type 0
 UnrelatedRecords r q = Unrelated (eventOf r) (eventOf q)
+
+-- The premise about semaphores is document 02's, and is needed (Examples.antt). Only where one of the two is a miss it is not: "A miss makes no step 2 ..
+-- It leaves the semaphore as it was." Such records meet the other premises, and swaps of them change nothing either
+pub data OneMisses : Event → Event → Type 0 where
+  first-misses : {t s : ℕ} {f : Event} → OneMisses (act miss t s) f
+  second-misses : {e : Event} {t s : ℕ} → OneMisses e (act miss t s)
+
+pub record UnrelatedByMiss (e f : Event) : Type 0 where
+  pub misses : OneMisses e f
+  pub others : (q : Premise) → q ≢ no-semaphore → Holds q e f
+
+abbrev pub MissedRecords : Record → Record → Type 0
+MissedRecords r q = UnrelatedByMiss (eventOf r) (eventOf q)
