@@ -17,13 +17,15 @@ use Rattle.theory.specs.fillings.Completion.{nothing, rounds}
 use Rattle.theory.specs.acceptance.Table.{refusal, appendUnless, extended, recording}
 use Rattle.theory.specs.verdicts.Verdict.{Race, Clear, Doubt, Latest, ApartInAll}
 use Rattle.theory.specs.verdicts.Search.{Found, judgement, judge, isAccessEvent}
-use Rattle.theory.specs.feeding.Meaning.{Meaning, judges, takes, meaning}
-use Rattle.theory.specs.feeding.Feeding.{byClocks, fed, afterAll, acceptedAnswer, answerUnless, answerTo}
-use Rattle.theory.specs.entries.Table.{excuse}
+use Rattle.theory.specs.feeding.Meaning.{Meaning, refuses, judges, takes, meaning}
+use Rattle.theory.specs.feeding.Feeding.{byClocks, fed, replies, afterAll, acceptedAnswer, answerUnless}
+use Rattle.theory.specs.feeding.Step.{freshState}
+use Rattle.theory.specs.totals.Totals.{entriesAt}
+use Rattle.theory.specs.entries.Table.{takenIn, excuse}
 use Rattle.theory.specs.entries.Known.{Fault, AllFit, paired, startWith, Reported}
-use Rattle.theory.specs.swapping.Unrelated.{UnrelatedRecords}
+use Rattle.theory.specs.swapping.Unrelated.{UnrelatedRecords, MissedRecords}
 use Rattle.theory.specs.swapping.Swaps.{Swaps, no-swap, swap-then, movedBy}
-use Rattle.theory.specs.swapping.Compared.{Accepted, Told, judged, known, taskOf, excused, toldBeside, linesFrom, linesBeside, SameBeside}
+use Rattle.theory.specs.swapping.Compared.{judged, known, taskOf, told, linesOf, lines, excused, toldBeside, linesFrom, linesBeside, SameBeside}
 use Rattle.theory.proofs.basics.Reflects.{Reflects, right, wrong, by-test, is-true}
 use Rattle.theory.proofs.order.Ops.{event-act, access-tests}
 use Rattle.theory.proofs.fillings.Bounds.{apart-in-all}
@@ -32,13 +34,15 @@ use Rattle.theory.proofs.verdicts.Examples.{ends-middle}
 use Rattle.theory.proofs.feeding.Simulation.{Shape, an-act, a-mark, shape-of, Represents, clocks-simulate}
 use Rattle.theory.proofs.feeding.Matching.{after-one-more}
 use Rattle.theory.proofs.totals.Moved.{bool-false}
+use Rattle.theory.proofs.totals.Kept.{fresh-cell}
+use Rattle.theory.proofs.entries.Kept.{taken-kept, no-excuse}
 use Rattle.theory.proofs.feeding.Demanded.{clocks-demanded}
 use Rattle.theory.proofs.entries.Known.{represents, faults-known}
-use Rattle.theory.proofs.swapping.Independent.{Separates, unrelated-separates}
+use Rattle.theory.proofs.swapping.Independent.{Separates, unrelated-separates, missed-separates}
 use Rattle.theory.proofs.swapping.Acceptance.{Taken, none-left, and-taken, taken-swapped}
 use Rattle.theory.proofs.swapping.Candidates.{HasCandidate}
 use Rattle.theory.proofs.swapping.Says.{Lowest, Says, says-known, says-race, says-doubt, says-clear, SaidTo, to-access, to-other, SaidAll, said-none, said-next, line-moved}
-use Rattle.theory.proofs.swapping.Verdicts.{candidate-task, taken-list}
+use Rattle.theory.proofs.swapping.Verdicts.{candidate-task, taken-list, same-verdicts}
 
 -- the tasks that are paired with that of an access
 abbrev pairedOf : List Fault → Event → ℕ → Bool
@@ -166,5 +170,33 @@ module _ (fs : List Fault) (fit : AllFit fs) (some-fault : 0 < length fs) (few :
       let b = taken-swapped i s a in
       beside-taken i ss b _ ∙ line-moved i s (said-beside rs a) (said-beside rs′ b) k
 
-pub same-beside : SameBeside UnrelatedRecords
-same-beside fs fit some-fault few rs rs′ s a k = beside-taken fs fit some-fault few unrelated-separates s (taken-list fed (clocks-demanded .by-table) a) k
+-- Without entries a Race is told as by document 01
+
+told-without : (all : List Record) (s : State) (r : Record) (m : Meaning) → takenIn (s .control) ≡ 0 → toldBeside all s r m ≡ told all m
+told-without all s r (refuses n) e = refl
+told-without all s r (takes n) e = refl
+told-without all s r (judges n Race w) e = rw (no-excuse s r w e)
+told-without all s r (judges n Clear w) e = refl
+told-without all s r (judges n Doubt w) e = refl
+
+lines-without : (all : List Record) (s : State) (rs : List Record) → takenIn (s .control) ≡ 0 → linesFrom all s rs ≡ linesOf all rs (map meaning (replies byClocks s rs))
+lines-without all s [] e = refl
+lines-without all s (r ∷ rs) e =
+    let z : takenIn ((byClocks .next s r) .control) ≡ 0 = taken-kept s r ∙ e in
+    rw (told-without all (byClocks .next s r) r (meaning (byClocks .answer s r)) z, lines-without all (byClocks .next s r) rs z)
+
+beside-none : (rs : List Record) → linesBeside [] rs ≡ lines fed rs
+unfolding freshState
+beside-none rs = lines-without rs freshState rs (fresh-cell entriesAt (omega arith) (omega arith))
+
+pub same-beside : {R : Record → Record → Type 0} → Separates R → SameBeside R
+same-beside i [] fit few rs rs′ s a k = rw (beside-none rs, beside-none rs′) (same-verdicts fed (clocks-demanded .by-table) i .same s a k)
+same-beside i (f ∷ fs) fit few rs rs′ s a k = beside-taken (f ∷ fs) fit (omega arith) few i s (taken-list fed (clocks-demanded .by-table) a) k
+
+-- of unrelated neighbours
+pub unrelated-beside : SameBeside UnrelatedRecords
+unrelated-beside = same-beside unrelated-separates
+
+-- with a miss
+pub missed-beside : SameBeside MissedRecords
+missed-beside = same-beside missed-separates

@@ -21,7 +21,7 @@ use Rattle.theory.specs.feeding.Meaning.{Meaning, isRefusal}
 use Rattle.theory.specs.feeding.Feeding.{answersFrom, eventRecord}
 use Rattle.theory.specs.swapping.Unrelated.{Thing, task, semaphore, flag, variable, thing, Names, names, sharing, MayShare, may-share, Premise, two-acts, actors-differ, names-no-actor, names-no-same, no-semaphore, no-flag, no-variable, Holds}
 use Rattle.theory.specs.swapping.Compared.{Accepted, none-left, and-accepted, Told, refused, taken, judged, known}
-use Rattle.theory.specs.swapping.Examples.{Related, recorded, exchanged, newPlace, toldAt, Changes, AllChange, EachNeeded, related}
+use Rattle.theory.specs.swapping.Examples.{Related, recorded, exchanged, newPlace, toldAt, Changes, AllChange, EachNeeded, related, Pair, AllUnrelated, unrelatedPairs}
 use Rattle.theory.proofs.basics.Reflects.{fails, equal, passed}
 use Rattle.theory.proofs.order.Ops.{same-op}
 
@@ -255,3 +255,20 @@ each-needed names-no-same = (_, refl, all-change .1 .1 .1 .1 .0)
 each-needed no-semaphore = (_, refl, all-change .1 .1 .1 .1 .1 .0)
 each-needed no-flag = (_, refl, all-change .1 .1 .1 .1 .1 .1 .0)
 each-needed no-variable = (_, refl, all-change .1 .1 .1 .1 .1 .1 .1 .0)
+
+-- The pairs
+
+abbrev allMet : List Pair → Bool
+allMet [] = true
+allMet (x ∷ xs) = allOf (λ q. holdsTest q (x .one) (x .other)) premises && allMet xs
+
+pairs-met : (xs : List Pair) → allMet xs ≡ true → AllUnrelated xs
+pairs-met [] e = tt
+pairs-met (x ∷ xs) e =
+    let met = and-elim-left (allOf (λ q. holdsTest q (x .one) (x .other)) premises) (allMet xs) e in (
+      record { holds = λ q. test-holds q (x .one) (x .other) (subst T (sym (each-premise (λ q. holdsTest q (x .one) (x .other)) met q)) tt) },
+      pairs-met xs (and-elim-right (allOf (λ q. holdsTest q (x .one) (x .other)) premises) (allMet xs) e),
+    )
+
+pub pairs-unrelated : AllUnrelated unrelatedPairs
+pairs-unrelated = pairs-met unrelatedPairs refl

@@ -102,9 +102,9 @@ linesFrom rs s (r ∷ left) =
 abbrev pub linesBeside : List Fault → List Record → List Line
 linesBeside fs rs = linesFrom rs (startWith fs) rs
 
--- "With entries" `known`, verdicts and partner tasks are the same too, for any entries, one at least and no more than are taken in
+-- `known`, verdicts and partner tasks are the same beside any entries, no more than are taken in
 abbrev pub SameBeside : (Record → Record → Type 0) → Type 0
 SameBeside R =
-    (fs : List Fault) → AllFit fs → 0 < length fs → length fs ≤ entries →
+    (fs : List Fault) → AllFit fs → length fs ≤ entries →
     (rs rs′ : List Record) (s : Swaps R rs rs′) → Accepted (map meaning (runs byClocks rs)) → (k : ℕ) →
     getElem? (linesBeside fs rs′) (movedBy s k) ≡ getElem? (linesBeside fs rs) k

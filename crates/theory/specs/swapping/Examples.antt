@@ -11,7 +11,7 @@ use Rattle.theory.specs.order.Recording.{read, write, take, give, look, 
 use Rattle.theory.specs.verdicts.Verdict.{Race, Clear, Doubt}
 use Rattle.theory.specs.verdicts.Examples.{w0, w1, r0, r1, b0, b1}
 use Rattle.theory.specs.feeding.Feeding.{answersFrom, eventRecord}
-use Rattle.theory.specs.swapping.Unrelated.{Premise, two-acts, actors-differ, names-no-actor, names-no-same, no-semaphore, no-flag, no-variable, Holds}
+use Rattle.theory.specs.swapping.Unrelated.{Premise, two-acts, actors-differ, names-no-actor, names-no-same, no-semaphore, no-flag, no-variable, Holds, Unrelated}
 use Rattle.theory.specs.swapping.Swaps.{Swapped, these, later, moved}
 use Rattle.theory.specs.swapping.Compared.{Accepted, Told, refused, taken, judged, linesOf}
 
@@ -112,4 +112,41 @@ related =
     ∷ row no-variable (act start 0 1 ∷ []) w0 (act fresh 1 5) (w1 ∷ []) 3 clear (race 0)
     ∷ row no-variable (act start 0 1 ∷ []) r0 (act fresh 1 5) (w1 ∷ []) 3 clear (race 0)
     ∷ row no-variable (act start 0 1 ∷ []) b0 (act fresh 1 5) (w1 ∷ []) 3 clear (race 0)
+    ∷ []
+
+-- And records that meet every premise, so that they may be swapped wherever they stand side by side
+
+pub record Pair : Type 0 where
+  pub one : Event
+  pub other : Event
+
+infix 30 _beside_
+abbrev pub _beside_ : Event → Event → Pair
+e beside f = record { one = e; other = f }
+
+abbrev pub AllUnrelated : List Pair → Type 0
+AllUnrelated [] = Unit
+AllUnrelated (x ∷ xs) = Unrelated (x .one) (x .other) × AllUnrelated xs
+
+abbrev pub unrelatedPairs : List Pair
+unrelatedPairs =
+    -- two reads and two bumps of one variable
+    (r0 beside r1)
+    ∷ (b0 beside b1)
+    -- two writes of two variables
+    ∷ (w0 beside act write 1 6)
+    -- a fresh and an access of another variable
+    ∷ (act fresh 0 6 beside w1)
+    -- a give and a take of two semaphores, a set and a look of two flags, and a miss
+    ∷ (act give 0 4 beside act take 1 5)
+    ∷ (act set 0 3 beside act look 1 4)
+    ∷ (act give 0 4 beside act miss 1 5)
+    -- a start and a join of two other tasks
+    ∷ (act start 0 2 beside act join 1 3)
+    -- the same number in other series: semaphore and flag 3, variable and semaphore 5, task and variable 5
+    ∷ (act give 0 3 beside act set 1 3)
+    ∷ (w0 beside act take 1 5)
+    ∷ (act start 0 5 beside w1)
+    -- a variable that has the number of a task that acts
+    ∷ (act write 0 1 beside act read 1 0)
     ∷ []
