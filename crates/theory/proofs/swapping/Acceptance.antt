@@ -1,23 +1,23 @@
 -- The swapped list is accepted: the two records leave the phases that the other looks at, and after both the standing is the same.
 -- Assumes nothing.
 use mathlib.Core.Path.{_≡_, refl, sym, _∙_, ap, subst}
-use mathlib.Core.Bool.{Bool, true, false, cond, not, _&&_}
+use mathlib.Core.Bool.{Bool, cond, not, _&&_}
 use mathlib.Core.Logic.{_≢_, _⊎_, inl, inr}
 use mathlib.Core.List.{List, [], _∷_, _++_}
-use Prim.Native.Nat.{ℕ, zero, suc, _+_, _≤_, _<_}
+use Prim.Native.Nat.{ℕ, zero, suc, _+_, _<_}
 use native.Mathlib.Omega.{arith}
 use borrow.Author.Tests.{lt-leb, eqb-false}
-use lib.Dec.{leb, eqb}
+use lib.Dec.{eqb}
 use lib.ListN.{length, length-append}
 use Rattle.theory.specs.declared.record.Record.{Record}
 use Rattle.theory.specs.order.Limits.{records}
 use Rattle.theory.specs.order.Recording.{Op, start, join, Event, act, lost, kind, lossMark, eventOf, acts}
-use Rattle.theory.specs.acceptance.Table.{Phase, isLive, isUnseen, nextPhase, phase, Standing, standing, firstRow, standingRefusal, refusal}
+use Rattle.theory.specs.acceptance.Table.{Phase, isLive, isUnseen, nextPhase, phase, standing, firstRow, standingRefusal, refusal}
 use Rattle.theory.specs.swapping.Unrelated.{Thing, task, semaphore, flag, variable, thing, Names, names}
 use Rattle.theory.specs.swapping.Swaps.{Swapped, these, later}
 use Rattle.theory.proofs.basics.Reflects.{Reflects, right, wrong, equal}
-use Rattle.theory.proofs.order.Ops.{Role, a-take, a-give, a-look, a-set, a-start, a-join, plain, role, same-op, no-mark, event-act}
-use Rattle.theory.proofs.acceptance.Rows.{OfAct, actRows, act-rows, Allowed, allowed}
+use Rattle.theory.proofs.order.Ops.{same-op, no-mark, event-act}
+use Rattle.theory.proofs.acceptance.Rows.{OfAct, actRows, act-rows, allowed}
 use Rattle.theory.proofs.acceptance.ControlTable.{phase-snoc}
 use Rattle.theory.proofs.feeding.Simulation.{Shape, an-act, a-mark, shape-of}
 use Rattle.theory.proofs.swapping.Independent.{Separates, Independent, TwoActs, two, either-way, phase-kept}

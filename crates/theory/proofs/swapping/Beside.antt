@@ -1,10 +1,9 @@
 -- With faults already accepted, too, swaps of unrelated neighbours change neither what is known nor a partner task. Assumes nothing.
 use mathlib.Core.Path.{_≡_, refl, sym, _∙_, ap, subst}
 use mathlib.Core.Bool.{Bool, true, false, cond}
-use mathlib.Core.Logic.{_↔_}
 use mathlib.Core.List.{List, [], _∷_, _++_, map, append-assoc}
-use mathlib.Core.Option.{Option, none, some}
-use Prim.Native.Nat.{ℕ, zero, suc, _+_, _≤_, _<_}
+use mathlib.Core.Option.{Option}
+use Prim.Native.Nat.{ℕ, suc, _+_, _≤_, _<_}
 use native.Mathlib.Omega.{arith}
 use lib.Dec.{T}
 use lib.ListN.{length, getElem?}
@@ -16,7 +15,7 @@ use Rattle.theory.specs.order.Recording.{Op, Event, act, lost, kind, los
 use Rattle.theory.specs.fillings.Completion.{nothing, rounds}
 use Rattle.theory.specs.acceptance.Table.{refusal, appendUnless, extended, recording}
 use Rattle.theory.specs.verdicts.Verdict.{Race, Clear, Doubt, Latest, ApartInAll}
-use Rattle.theory.specs.verdicts.Search.{Found, judgement, judge, isAccessEvent}
+use Rattle.theory.specs.verdicts.Search.{Found, judgement, judge}
 use Rattle.theory.specs.feeding.Meaning.{Meaning, refuses, judges, takes, meaning}
 use Rattle.theory.specs.feeding.Feeding.{byClocks, fed, replies, afterAll, acceptedAnswer, answerUnless}
 use Rattle.theory.specs.feeding.Step.{freshState}
@@ -41,7 +40,7 @@ use Rattle.theory.proofs.entries.Known.{represents, faults-known}
 use Rattle.theory.proofs.swapping.Independent.{Separates, unrelated-separates, missed-separates}
 use Rattle.theory.proofs.swapping.Acceptance.{Taken, none-left, and-taken, taken-swapped}
 use Rattle.theory.proofs.swapping.Candidates.{HasCandidate}
-use Rattle.theory.proofs.swapping.Says.{Lowest, Says, says-known, says-race, says-doubt, says-clear, SaidTo, to-access, to-other, SaidAll, said-none, said-next, line-moved}
+use Rattle.theory.proofs.swapping.Says.{Says, says-known, says-race, says-doubt, says-clear, SaidTo, to-access, to-other, SaidAll, said-none, said-next, line-moved}
 use Rattle.theory.proofs.swapping.Verdicts.{candidate-task, taken-list, same-verdicts}
 
 -- the tasks that are paired with that of an access

@@ -1,15 +1,13 @@
 -- The tasks that an access is apart from are the same when unrelated neighbours before it are swapped, and when an unrelated record stands before it or
 -- does not. Assumes nothing.
-use mathlib.Core.Path.{_≡_, refl, sym, ap, subst}
+use mathlib.Core.Path.{_≡_, refl}
 use mathlib.Core.Logic.{_↔_, _⊎_, inl, inr, ⊎-elim}
 use mathlib.Core.List.{List, [], _∷_, _++_}
-use Prim.Native.Nat.{ℕ, zero, suc}
-use Rattle.theory.specs.order.Recording.{Op, Event, act, lost, Every, no-more, and-more, ActsIn, acts}
-use Rattle.theory.specs.order.Path.{Step, Conflict, Empties, Against}
+use Prim.Native.Nat.{ℕ}
+use Rattle.theory.specs.order.Recording.{Event, act, lost, Every, and-more, ActsIn}
 use Rattle.theory.specs.fillings.Completion.{fillWith}
 use Rattle.theory.specs.swapping.Swaps.{Swapped, these, later}
 use Rattle.theory.proofs.order.Leads.{Leads, last, over, via}
-use Rattle.theory.proofs.order.Places.{Occurs, first, next}
 use Rattle.theory.proofs.order.Tests.{Some, this, further, Again, some-snoc, snoc-some, every-snoc, snoc-every}
 use Rattle.theory.proofs.fillings.Came.{Snoc, old, new, occurs-snoc, occurs-old}
 use Rattle.theory.proofs.fillings.Reach.{fill-append}

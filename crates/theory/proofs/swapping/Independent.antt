@@ -1,17 +1,17 @@
 -- What the proofs ask of two neighbours that may be swapped: they are independent. No step and no conflict is between them, neither empties the other's
 -- history, and neither changes a phase that the other looks at. Unrelated records are independent; so is a miss of those that have its semaphore.
 -- Assumes nothing.
-use mathlib.Core.Path.{_≡_, refl, sym, _∙_, ap, subst}
+use mathlib.Core.Path.{_≡_, refl, sym, ap, subst}
 use mathlib.Core.Bool.{Bool, true, false, cond, not, _&&_, _||_, true≢false}
 use mathlib.Core.Logic.{_≢_}
-use mathlib.Core.List.{List, [], _∷_}
+use mathlib.Core.List.{[], _∷_}
 use Prim.Native.Nat.{ℕ}
 use lib.Dec.{T, eqb}
 use Rattle.theory.specs.declared.record.Record.{Record}
-use Rattle.theory.specs.order.Recording.{Op, read, write, take, give, look, set, start, join, fresh, miss, bump, about, Event, act, ActsIn, acts, Unmarked, no-events, an-act, isAccess, eventOf, Kind, of-op, of-mark, kinds}
-use Rattle.theory.specs.order.Path.{Step, same-task, gives-takes, sets-looks, starts, joins, clashes, rule, Conflict, conflict, Empties, empties}
-use Rattle.theory.specs.acceptance.Table.{Phase, applyEffect, nextPhase}
-use Rattle.theory.specs.swapping.Unrelated.{Thing, task, variable, thing, Names, names, sharing, MayShare, may-share, Premise, two-acts, actors-differ, names-no-actor, names-no-same, no-semaphore, no-flag, no-variable, Holds, Unrelated, UnrelatedRecords, OneMisses, first-misses, second-misses, UnrelatedByMiss, MissedRecords}
+use Rattle.theory.specs.order.Recording.{Op, read, write, take, give, look, set, start, join, fresh, miss, bump, Event, act, acts, Unmarked, no-events, an-act, isAccess, eventOf, Kind, of-op, of-mark, kinds}
+use Rattle.theory.specs.order.Path.{Step, same-task, gives-takes, sets-looks, starts, joins, rule, Conflict, conflict, Empties, empties}
+use Rattle.theory.specs.acceptance.Table.{Phase, nextPhase}
+use Rattle.theory.specs.swapping.Unrelated.{task, variable, thing, Names, names, sharing, MayShare, may-share, Premise, two-acts, actors-differ, names-no-actor, names-no-same, no-semaphore, no-flag, no-variable, Holds, Unrelated, UnrelatedRecords, OneMisses, first-misses, second-misses, UnrelatedByMiss, MissedRecords}
 use Rattle.theory.proofs.basics.Reflects.{Reflects, right, wrong, equal}
 use Rattle.theory.proofs.order.Ops.{all, each-op, Role, a-take, a-give, a-look, a-set, a-start, a-join, plain, role, keeps-phases}
 

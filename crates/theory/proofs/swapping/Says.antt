@@ -1,10 +1,9 @@
 -- What a record is told, by the tasks that it is apart from: it is determined by them, so that swapped lists of records have swapped lines. With faults
 -- already accepted and without them. Assumes nothing.
-use mathlib.Core.Path.{_≡_, refl, sym, _∙_, ap, subst}
+use mathlib.Core.Path.{_≡_, refl, sym, _∙_, ap}
 use mathlib.Core.Bool.{Bool, true, false, true≢false}
-use mathlib.Core.Logic.{_↔_}
 use mathlib.Core.List.{List, [], _∷_, _++_}
-use mathlib.Core.Option.{Option, none, some}
+use mathlib.Core.Option.{none, some}
 use Prim.Native.Nat.{ℕ, zero, suc, _+_, _≤_}
 use native.Mathlib.Omega.{arith}
 use lib.Dec.{T}
@@ -17,7 +16,7 @@ use Rattle.theory.specs.verdicts.Search.{isAccessEvent}
 use Rattle.theory.specs.swapping.Swaps.{Swapped, these, later, moved}
 use Rattle.theory.specs.swapping.Compared.{Told, taken, judged, known, Line}
 use Rattle.theory.proofs.swapping.Independent.{Separates, Independent, either-way}
-use Rattle.theory.proofs.swapping.Candidates.{swapped-back, swapped-behind, swapped-before, HasCandidate, candidate-swapped, candidate-longer, candidate-shorter}
+use Rattle.theory.proofs.swapping.Candidates.{swapped-back, swapped-before, HasCandidate, candidate-swapped, candidate-longer, candidate-shorter}
 
 -- Definition
 

@@ -1,14 +1,14 @@
 -- Swaps of unrelated neighbours change no total, and not whether there is a Race anywhere. Assumes nothing.
-use mathlib.Core.Path.{_≡_, refl, sym, _∙_, ap, subst}
-use mathlib.Core.Bool.{Bool, true, false, _&&_, true≢false}
+use mathlib.Core.Path.{_≡_, refl, sym, _∙_}
+use mathlib.Core.Bool.{Bool, true, false, _&&_}
 use mathlib.Core.Logic.{_↔_}
-use mathlib.Core.List.{List, [], _∷_, _++_, map}
-use Prim.Native.Nat.{ℕ, zero, suc, _+_, _<_}
+use mathlib.Core.List.{List, [], _∷_, map}
+use Prim.Native.Nat.{ℕ, _+_, _<_}
 use native.Mathlib.Omega.{arith}
 use lib.Dec.{eqb}
 use Rattle.theory.specs.declared.record.Record.{Record}
 use Rattle.theory.specs.order.Limits.{variables}
-use Rattle.theory.specs.order.Recording.{Event, eventOf}
+use Rattle.theory.specs.order.Recording.{Event}
 use Rattle.theory.specs.verdicts.Verdict.{Verdict, Race}
 use Rattle.theory.specs.tables.Reckonings.{indicator}
 use Rattle.theory.specs.feeding.Meaning.{Meaning, refuses, takes, judges, meaning}
@@ -17,13 +17,13 @@ use Rattle.theory.specs.totals.Totals.{verdictPlace, total, anyRace}
 use Rattle.theory.specs.totals.Counting.{counts, given, isRace, SomeRace, KeepsTotals}
 use Rattle.theory.specs.swapping.Unrelated.{UnrelatedRecords, MissedRecords}
 use Rattle.theory.specs.swapping.Swaps.{Swapped, these, later, Swaps, no-swap, swap-then}
-use Rattle.theory.specs.swapping.Compared.{Accepted, Told, refused, taken, judged, known, told, Line, linesOf, lines, controlAfterAll, SameTotals}
+use Rattle.theory.specs.swapping.Compared.{Told, refused, taken, judged, known, told, Line, linesOf, lines, controlAfterAll, SameTotals}
 use Rattle.theory.proofs.totals.Kept.{raceCount, some-race, clocks-keep-totals, sets-keep-totals}
 use Rattle.theory.proofs.feeding.Demanded.{clocks-demanded, sets-demanded}
 use Rattle.theory.proofs.swapping.Acceptance.{Taken, taken-swapped}
-use Rattle.theory.proofs.swapping.Says.{SaidAll, said-none, said-next, swapped-last, all-swapped, said-longer, said-once}
+use Rattle.theory.proofs.swapping.Says.{SaidAll, said-next, swapped-last, all-swapped, said-longer, said-once}
 use Rattle.theory.proofs.swapping.Independent.{Separates, unrelated-separates, missed-separates, either-way}
-use Rattle.theory.proofs.swapping.Verdicts.{unpaired, taken-list, said-list}
+use Rattle.theory.proofs.swapping.Verdicts.{taken-list, said-list}
 
 -- Sums over lines
 

@@ -2,7 +2,7 @@
 use mathlib.Core.Path.{_≡_, refl, sym, _∙_, ap, subst}
 use mathlib.Core.Bool.{Bool, true, false, cond, true≢false}
 use mathlib.Core.List.{List, [], _∷_, _++_, map, append-assoc, nil≢cons, head-eq-of-cons-eq, tail-eq-of-cons-eq}
-use mathlib.Core.Option.{Option, none, some}
+use mathlib.Core.Option.{Option, some}
 use Prim.Native.Nat.{ℕ, zero, suc, _+_}
 use native.Mathlib.Omega.{arith}
 use lib.Dec.{T, eqb}
@@ -12,13 +12,12 @@ use Rattle.theory.specs.declared.answer.Answer.{Answer}
 use Rattle.theory.specs.order.Recording.{Op, Event, act, lost, lossMark, opOf, eventOf, ActsIn, acts}
 use Rattle.theory.specs.fillings.Completion.{nothing, rounds}
 use Rattle.theory.specs.acceptance.Table.{refusal, appendUnless}
-use Rattle.theory.specs.verdicts.Verdict.{Race, Clear, Doubt}
 use Rattle.theory.specs.verdicts.Search.{Found, partner, judgement, judge, isAccessEvent}
-use Rattle.theory.specs.feeding.Meaning.{Meaning, judges, takes, meaning, isRefusal}
-use Rattle.theory.specs.feeding.Feeding.{acceptedAnswer, answerUnless, answersFrom, AnswersByTable, Demanded, fed, setFed}
+use Rattle.theory.specs.feeding.Meaning.{judges, takes, meaning}
+use Rattle.theory.specs.feeding.Feeding.{acceptedAnswer, answerUnless, answersFrom, AnswersByTable, fed, setFed}
 use Rattle.theory.specs.swapping.Unrelated.{UnrelatedRecords, MissedRecords}
-use Rattle.theory.specs.swapping.Swaps.{Swapped, Swaps, no-swap, swap-then, movedBy}
-use Rattle.theory.specs.swapping.Compared.{Accepted, none-left, and-accepted, Told, judged, taskOf, told, linesOf, lines, SameVerdicts}
+use Rattle.theory.specs.swapping.Swaps.{Swaps, no-swap, swap-then, movedBy}
+use Rattle.theory.specs.swapping.Compared.{Accepted, none-left, and-accepted, judged, taskOf, told, linesOf, lines, SameVerdicts}
 use Rattle.theory.proofs.basics.Reflects.{Reflects, right, wrong, by-test}
 use Rattle.theory.proofs.order.Places.{Occurs, first, next}
 use Rattle.theory.proofs.verdicts.Search.{Candidate, Outcome, nobody, somebody, partner-outcome}
@@ -26,7 +25,7 @@ use Rattle.theory.proofs.feeding.Demanded.{accepted-taken, clocks-deman
 use Rattle.theory.proofs.swapping.Independent.{Separates, unrelated-separates, missed-separates}
 use Rattle.theory.proofs.swapping.Acceptance.{Taken, none-left as no-record-left, and-taken, taken-swapped}
 use Rattle.theory.proofs.swapping.Candidates.{HasCandidate}
-use Rattle.theory.proofs.swapping.Says.{Says, says-race, says-doubt, says-clear, Lowest, SaidTo, to-access, to-other, SaidAll, said-none, said-next, line-moved}
+use Rattle.theory.proofs.swapping.Says.{Says, says-race, says-doubt, says-clear, SaidTo, to-access, to-other, SaidAll, said-none, said-next, line-moved}
 
 -- Accepted lists
 

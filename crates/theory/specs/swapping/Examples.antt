@@ -7,7 +7,7 @@ use mathlib.Core.List.{List, [], _∷_, _++_, map}
 use mathlib.Core.Option.{Option, none, some, Option·map}
 use lib.ListN.{getElem?}
 use Rattle.theory.specs.declared.record.Record.{Record}
-use Rattle.theory.specs.order.Recording.{read, write, take, give, look, set, start, join, fresh, miss, bump, Event, act, lost}
+use Rattle.theory.specs.order.Recording.{read, write, take, give, look, set, start, join, fresh, miss, Event, act, lost}
 use Rattle.theory.specs.verdicts.Verdict.{Race, Clear, Doubt}
 use Rattle.theory.specs.verdicts.Examples.{w0, w1, r0, r1, b0, b1}
 use Rattle.theory.specs.feeding.Feeding.{answersFrom, eventRecord}
@@ -54,6 +54,7 @@ pub record Changes (x : Related) : Type 0 where
   pub others : (p : Premise) → p ≢ x .premise → Holds p (x .one) (x .other)
   -- every record of the recording is accepted
   pub accepted : Accepted (answersFrom [] (map eventRecord (recorded x)))
+  -- what the record is told as it is, and with the two swapped
   pub before : toldAt (recorded x) (x .place) ≡ some (x .was)
   pub after : toldAt (exchanged x) (newPlace x) ≡ some (x .becomes)
   pub differ : x .was ≢ x .becomes

@@ -1,4 +1,4 @@
--- F-11: which two records are unrelated, so that gateways "may write [them] down either way round".
+-- F-11: which two records are unrelated: "Two gateways may write down unrelated records either way round".
 use Prim.Native.Nat.{ℕ}
 use mathlib.Core.Path.{_≡_}
 use mathlib.Core.Bool.{Bool, _||_}
@@ -8,7 +8,7 @@ use lib.Dec.{T}
 use Rattle.theory.specs.declared.record.Record.{Record}
 use Rattle.theory.specs.order.Recording.{Op, read, write, take, give, look, set, start, join, fresh, miss, bump, Event, act, eventOf, ActsIn, Unmarked, _is_}
 
--- what the number of an act is the number of
+-- what the number of an act is the number of; the four are separate series
 pub data Thing : Type 0 where
   task semaphore flag variable : ℕ → Thing
 
@@ -25,7 +25,7 @@ thing fresh n = variable n
 thing miss n = semaphore n
 thing bump n = variable n
 
--- the act names it
+-- the record is an act and has that thing; a fresh has its variable, and a miss its semaphore
 pub data Names (x : Thing) : Event → Type 0 where
   names : {o : Op} {t n : ℕ} → thing o n ≡ x → Names x (act o t n)
 
@@ -36,7 +36,7 @@ sharing o = o is read || o is bump
 pub data MayShare : Event → Event → Type 0 where
   may-share : {o : Op} {t u n m : ℕ} → T (sharing o) → MayShare (act o t n) (act o u m)
 
--- the premises, of two records
+-- the premises, by name, and what each says of two records
 pub data Premise : Type 0 where
   two-acts actors-differ names-no-actor names-no-same no-semaphore no-flag no-variable : Premise
 
