@@ -13,7 +13,7 @@ use Rattle.theory.specs.declared.record.Record.{Record}
 use Rattle.theory.specs.order.Limits.{records}
 use Rattle.theory.specs.order.Recording.{Op, start, join, Event, act, lost, kind, lossMark, eventOf, acts}
 use Rattle.theory.specs.acceptance.Table.{Phase, isLive, isUnseen, nextPhase, phase, standing, firstRow, standingRefusal, refusal}
-use Rattle.theory.specs.swapping.Unrelated.{Thing, task, semaphore, flag, variable, thing, Names, names}
+use Rattle.theory.specs.swapping.Unrelated.{Series, task, semaphore, flag, variable, seriesOf, Names, names}
 use Rattle.theory.specs.swapping.Swaps.{Swapped, these, later}
 use Rattle.theory.proofs.basics.Reflects.{Reflects, right, wrong, equal}
 use Rattle.theory.proofs.order.Ops.{same-op, no-mark, event-act}
@@ -58,13 +58,13 @@ taken-same s (and-taken {r = r} z k) = and-taken (sym (same-refusal s r) ∙ z) 
 -- An act is refused alike after two recordings that have room and agree on the task that acts and the task that it names
 
 module _ (p : Op) (u m : ℕ) (es es′ : List Event) (room : length es < records) (room′ : length es′ < records)
-    (actor : phase es u ≡ phase es′ u) (named : thing p m ≡ task m → phase es m ≡ phase es′ m) where
+    (actor : phase es u ≡ phase es′ u) (named : seriesOf p ≡ task → phase es m ≡ phase es′ m) where
   names-start : {b : Bool} → Reflects (p ≡ start) b → (b && not (isUnseen (phase es m))) ≡ (b && not (isUnseen (phase es′ m)))
-  names-start (right e) = ap (λ (x : Phase). not (isUnseen x)) (named (ap (λ (o : Op). thing o m) e))
+  names-start (right e) = ap (λ (x : Phase). not (isUnseen x)) (named (ap seriesOf e))
   names-start (wrong f) = refl
 
   names-join : {b : Bool} → Reflects (p ≡ join) b → (b && not (isLive (phase es m))) ≡ (b && not (isLive (phase es′ m)))
-  names-join (right e) = ap (λ (x : Phase). not (isLive x)) (named (ap (λ (o : Op). thing o m) e))
+  names-join (right e) = ap (λ (x : Phase). not (isLive x)) (named (ap seriesOf e))
   names-join (wrong f) = refl
 
   abbrev r : Record
@@ -83,35 +83,32 @@ module _ {o p : Op} {t u n m : ℕ} (x : Independent (act o t n) (act p u m)) (e
   actor-kept : phase (es ++ (act o t n ∷ [])) u ≡ phase es u
   actor-kept = phase-next es (act o t n) u ∙ phase-kept o t n u (phase es u) (λ y. x .actor-unnamed u .0 y acts)
 
-  named-kept : thing p m ≡ task m → phase (es ++ (act o t n ∷ [])) m ≡ phase es m
+  named-kept : seriesOf p ≡ task → phase (es ++ (act o t n ∷ [])) m ≡ phase es m
   named-kept e = phase-next es (act o t n) m ∙ phase-kept o t n m (phase es m) (λ y. x .no-task m y (names e))
 
 -- an act names a task or it does not
-names-task : (o : Op) (t n x : ℕ) → Names (task x) (act o t n) ⊎ (¬ Names (task x) (act o t n))
-names-task o t n x = of (thing o n) refl
+names-task : (o : Op) (t n x : ℕ) → Names task x (act o t n) ⊎ (¬ Names task x (act o t n))
+names-task o t n x = decided (equal n x) (seriesOf o) refl
   where
-    other : (y : Thing) → y ≢ task x → thing o n ≡ y → Names (task x) (act o t n) ⊎ (¬ Names (task x) (act o t n))
-    other y d e = inr (λ a. away a)
-      where
-        away : ¬ Names (task x) (act o t n)
-        away (names q) = d (sym e ∙ q)
+    number : {n : ℕ} → Names task x (act o t n) → n ≡ x
+    number (names e) = refl
 
-    decided : (k : ℕ) {b : Bool} → Reflects (k ≡ x) b → thing o n ≡ task k → Names (task x) (act o t n) ⊎ (¬ Names (task x) (act o t n))
-    decided k (right q) e = inl (names (e ∙ ap task q))
-    decided k (wrong f) e = other (task k) (λ q. f (cc)) e
+    series : {n : ℕ} → Names task x (act o t n) → seriesOf o ≡ task
+    series (names e) = e
 
-    of : (y : Thing) → thing o n ≡ y → Names (task x) (act o t n) ⊎ (¬ Names (task x) (act o t n))
-    of (task k) e = decided k (equal k x) e
-    of (semaphore k) e = other (semaphore k) (λ q. let z : _≡_ {A = ℕ} 0 1 = cc in omega arith) e
-    of (flag k) e = other (flag k) (λ q. let z : _≡_ {A = ℕ} 0 1 = cc in omega arith) e
-    of (variable k) e = other (variable k) (λ q. let z : _≡_ {A = ℕ} 0 1 = cc in omega arith) e
+    decided : {b : Bool} → Reflects (n ≡ x) b → (y : Series) → seriesOf o ≡ y → Names task x (act o t n) ⊎ (¬ Names task x (act o t n))
+    decided (wrong f) y e = inr (λ a. f (number a))
+    decided (right q) task e = inl (subst (λ (k : ℕ). Names task x (act o t k)) (sym q) (names e))
+    decided (right q) semaphore e = inr (λ a. let s = series a in let z : _≡_ {A = ℕ} 0 1 = cc in omega arith)
+    decided (right q) flag e = inr (λ a. let s = series a in let z : _≡_ {A = ℕ} 0 1 = cc in omega arith)
+    decided (right q) variable e = inr (λ a. let s = series a in let z : _≡_ {A = ℕ} 0 1 = cc in omega arith)
 
 -- their phases come to the same in either order
 act-phases : {o p : Op} {t u n m : ℕ} → Independent (act o t n) (act p u m) → (x : ℕ) (q : Phase) →
     nextPhase (act o t n) x (nextPhase (act p u m) x q) ≡ nextPhase (act p u m) x (nextPhase (act o t n) x q)
 act-phases {o} {p} {t} {u} {n} {m} z x q = decided (names-task o t n x)
   where
-    decided : Names (task x) (act o t n) ⊎ (¬ Names (task x) (act o t n)) →
+    decided : Names task x (act o t n) ⊎ (¬ Names task x (act o t n)) →
         nextPhase (act o t n) x (nextPhase (act p u m) x q) ≡ nextPhase (act p u m) x (nextPhase (act o t n) x q)
     decided (inl y) =
         let k = phase-kept p u m x in

@@ -18,7 +18,7 @@ use Rattle.theory.specs.verdicts.Search.{judge}
 use Rattle.theory.specs.totals.Totals.{verdictPlace}
 use Rattle.theory.specs.feeding.Meaning.{Meaning, isRefusal}
 use Rattle.theory.specs.feeding.Feeding.{answersFrom, eventRecord}
-use Rattle.theory.specs.swapping.Unrelated.{Thing, task, semaphore, flag, variable, thing, Names, names, sharing, MayShare, may-share, Premise, two-acts, actors-differ, names-no-actor, names-no-same, no-semaphore, no-flag, no-variable, Holds}
+use Rattle.theory.specs.swapping.Unrelated.{Series, task, semaphore, flag, variable, seriesOf, Names, names, sharing, MayShare, may-share, Premise, two-acts, actors-differ, names-no-actor, names-no-same, no-semaphore, no-flag, no-variable, Holds}
 use Rattle.theory.specs.swapping.Compared.{Accepted, none-left, and-accepted, Told, refused, taken, judged, known}
 use Rattle.theory.specs.swapping.Examples.{Related, recorded, exchanged, newPlace, toldAt, Changes, AllChange, EachNeeded, related, Pair, AllUnrelated, unrelatedPairs}
 use Rattle.theory.proofs.basics.Reflects.{fails, equal, passed}
@@ -26,33 +26,27 @@ use Rattle.theory.proofs.order.Ops.{same-op}
 
 -- A test of each premise
 
-abbrev tag : Thing → ℕ
-tag (task n) = 0
-tag (semaphore n) = 1
-tag (flag n) = 2
-tag (variable n) = 3
+abbrev tag : Series → ℕ
+tag task = 0
+tag semaphore = 1
+tag flag = 2
+tag variable = 3
 
-abbrev number : Thing → ℕ
-number (task n) = n
-number (semaphore n) = n
-number (flag n) = n
-number (variable n) = n
+abbrev isOf : Series → Op → Bool
+isOf x o = eqb (tag (seriesOf o)) (tag x)
 
--- both are the thing x, by its tag
-abbrev bothAre : ℕ → Thing → Thing → Bool
-bothAre k x y = eqb (tag x) k && (eqb (tag y) k && eqb (number x) (number y))
-
-abbrev isTask : ℕ → Thing → Bool
-isTask t x = eqb (tag x) 0 && eqb (number x) t
+-- both acts name one number of the series
+abbrev bothName : Series → Op → ℕ → Op → ℕ → Bool
+bothName x o n p m = isOf x o && (isOf x p && eqb n m)
 
 abbrev holdsOfActs : Premise → Op → ℕ → ℕ → Op → ℕ → ℕ → Bool
 holdsOfActs two-acts o t n p u m = true
 holdsOfActs actors-differ o t n p u m = not (eqb t u)
-holdsOfActs names-no-actor o t n p u m = not (isTask u (thing o n)) && not (isTask t (thing p m))
-holdsOfActs names-no-same o t n p u m = not (bothAre 0 (thing o n) (thing p m))
-holdsOfActs no-semaphore o t n p u m = not (bothAre 1 (thing o n) (thing p m))
-holdsOfActs no-flag o t n p u m = not (bothAre 2 (thing o n) (thing p m))
-holdsOfActs no-variable o t n p u m = not (bothAre 3 (thing o n) (thing p m)) || (o is p && sharing o)
+holdsOfActs names-no-actor o t n p u m = not (isOf task o && eqb n u) && not (isOf task p && eqb m t)
+holdsOfActs names-no-same o t n p u m = not (bothName task o n p m)
+holdsOfActs no-semaphore o t n p u m = not (bothName semaphore o n p m)
+holdsOfActs no-flag o t n p u m = not (bothName flag o n p m)
+holdsOfActs no-variable o t n p u m = not (bothName variable o n p m) || (o is p && sharing o)
 
 -- with a mark among the two
 abbrev holdsOfMark : Premise → Bool
@@ -78,19 +72,22 @@ self-test n = eq-eqb n n refl
 actor-is : {o : Op} {x t n : ℕ} → ActsIn x (act o t n) → x ≡ t
 actor-is acts = refl
 
-named-is : {x : Thing} {o : Op} {t n : ℕ} → Names x (act o t n) → thing o n ≡ x
-named-is (names e) = e
+number-is : {x : Series} {k : ℕ} {o : Op} {t n : ℕ} → Names x k (act o t n) → n ≡ k
+number-is (names e) = refl
 
-not-both : (z : Thing) {o p : Op} {t u n m : ℕ} → T (not (bothAre (tag z) (thing o n) (thing p m))) → Names z (act o t n) → ¬ Names z (act p u m)
-not-both z h a b = rw (named-is a, named-is b, self-test (tag z), self-test (number z)) at h
+series-is : {x : Series} {k : ℕ} {o : Op} {t n : ℕ} → Names x k (act o t n) → isOf x o ≡ true
+series-is {x} (names e) = rw e (self-test (tag x))
 
-not-task : (x : ℕ) {o p : Op} {t u n m : ℕ} → T (not (isTask u (thing o n))) → Names (task x) (act o t n) → ¬ ActsIn x (act p u m)
-not-task x {u = u} h a b = rw (named-is a, actor-is b, self-test u) at h
+not-both : (x : Series) (k : ℕ) {o p : Op} {t u n m : ℕ} → T (not (bothName x o n p m)) → Names x k (act o t n) → ¬ Names x k (act p u m)
+not-both x k h a b = rw (series-is a, series-is b, number-is a, number-is b, self-test k) at h
+
+not-task : (x : ℕ) {o p : Op} {t u n m : ℕ} → T (not (isOf task o && eqb n u)) → Names task x (act o t n) → ¬ ActsIn x (act p u m)
+not-task x {u = u} h a b = rw (series-is a, number-is a, actor-is b, self-test u) at h
 
 no-actor : {t mask : ℕ} → ¬ ActsIn t (lost mask)
 no-actor a = elim a [ ]
 
-no-name : {x : Thing} {mask : ℕ} → ¬ Names x (lost mask)
+no-name : {x : Series} {n mask : ℕ} → ¬ Names x n (lost mask)
 no-name a = elim a [ ]
 
 split : (a b : Bool) → T (a && b) → T a × T b
@@ -111,28 +108,28 @@ module _ (o : Op) (t n : ℕ) (p : Op) (u m : ℕ) where
   acts-hold : (q : Premise) → T (holdsOfActs q o t n p u m) → Holds q (act o t n) (act p u m)
   acts-hold two-acts h = an-act (an-act no-events)
   acts-hold actors-differ h = λ x a b. passed (fails (equal t u)) h (sym (actor-is a) ∙ actor-is b)
-  acts-hold names-no-actor h = λ x. let (a, b) = split (not (isTask u (thing o n))) (not (isTask t (thing p m))) h in (not-task x a, not-task x b)
-  acts-hold names-no-same h = λ x. not-both (task x) h
-  acts-hold no-semaphore h = λ x. not-both (semaphore x) h
-  acts-hold no-flag h = λ x. not-both (flag x) h
-  acts-hold no-variable h = λ v a b. may-both (or-else (bothAre 3 (thing o n) (thing p m)) (o is p && sharing o) h (λ z. not-both (variable v) z a b))
+  acts-hold names-no-actor h = λ x. let (a, b) = split (not (isOf task o && eqb n u)) (not (isOf task p && eqb m t)) h in (not-task x a, not-task x b)
+  acts-hold names-no-same h = λ x. not-both task x h
+  acts-hold no-semaphore h = λ x. not-both semaphore x h
+  acts-hold no-flag h = λ x. not-both flag x h
+  acts-hold no-variable h = λ v a b. may-both (or-else (bothName variable o n p m) (o is p && sharing o) h (λ z. not-both variable v z a b))
 
 -- with a mark there is nobody who acts and nothing that is named
-mark-holds : {e f : Event} → ((t : ℕ) → ActsIn t e → ¬ ActsIn t f) → ((x : Thing) (y : Thing) → Names x e → ¬ Names y f) → ((t : ℕ) (x : Thing) → Names x e → ¬ ActsIn t f) → ((t : ℕ) (x : Thing) → Names x f → ¬ ActsIn t e) →
+mark-holds : {e f : Event} → ((t : ℕ) → ActsIn t e → ¬ ActsIn t f) → ((x : Series) (n : ℕ) → Names x n e → ¬ Names x n f) → ((t : ℕ) → Names task t e → ¬ ActsIn t f) → ((t : ℕ) → Names task t f → ¬ ActsIn t e) →
     (q : Premise) → T (holdsOfMark q) → Holds q e f
 mark-holds a b c d two-acts h = absurd h
 mark-holds a b c d actors-differ h = a
-mark-holds a b c d names-no-actor h = λ t. (c t (task t), d t (task t))
-mark-holds a b c d names-no-same h = λ t. b (task t) (task t)
-mark-holds a b c d no-semaphore h = λ x. b (semaphore x) (semaphore x)
-mark-holds a b c d no-flag h = λ x. b (flag x) (flag x)
-mark-holds a b c d no-variable h = λ v k l. absurd (b (variable v) (variable v) k l)
+mark-holds a b c d names-no-actor h = λ t. (c t, d t)
+mark-holds a b c d names-no-same h = λ t. b task t
+mark-holds a b c d no-semaphore h = λ x. b semaphore x
+mark-holds a b c d no-flag h = λ x. b flag x
+mark-holds a b c d no-variable h = λ v k l. absurd (b variable v k l)
 
 test-holds : (q : Premise) (e f : Event) → T (holdsTest q e f) → Holds q e f
 test-holds q (act o t n) (act p u m) h = acts-hold o t n p u m q h
-test-holds q (act o t n) (lost mask) h = mark-holds (λ t a b. no-actor b) (λ x y a b. no-name b) (λ t x a b. no-actor b) (λ t x a b. no-name a) q h
-test-holds q (lost mask) (act p u m) h = mark-holds (λ t a b. no-actor a) (λ x y a b. no-name a) (λ t x a b. no-name a) (λ t x a b. no-actor b) q h
-test-holds q (lost mask) (lost mask′) h = mark-holds (λ t a b. no-actor a) (λ x y a b. no-name a) (λ t x a b. no-name a) (λ t x a b. no-actor b) q h
+test-holds q (act o t n) (lost mask) h = mark-holds (λ t a b. no-actor b) (λ x n a b. no-name b) (λ t a b. no-actor b) (λ t a b. no-name a) q h
+test-holds q (lost mask) (act p u m) h = mark-holds (λ t a b. no-actor a) (λ x n a b. no-name a) (λ t a b. no-name a) (λ t a b. no-actor b) q h
+test-holds q (lost mask) (lost mask′) h = mark-holds (λ t a b. no-actor a) (λ x n a b. no-name a) (λ t a b. no-name a) (λ t a b. no-actor b) q h
 
 -- Every premise but one
 

@@ -8,11 +8,11 @@ use mathlib.Core.List.{[], _∷_}
 use Prim.Native.Nat.{ℕ}
 use lib.Dec.{T, eqb}
 use Rattle.theory.specs.declared.record.Record.{Record}
-use Rattle.theory.specs.order.Recording.{Op, read, write, take, give, look, set, start, join, fresh, miss, bump, Event, act, acts, Unmarked, no-events, an-act, isAccess, eventOf, Kind, of-op, of-mark, kinds}
+use Rattle.theory.specs.order.Recording.{Op, take, give, fresh, miss, Event, act, acts, Unmarked, no-events, an-act, isAccess, eventOf, Kind, of-op, of-mark, kinds}
 use Rattle.theory.specs.order.Path.{Step, same-task, gives-takes, sets-looks, starts, joins, rule, Conflict, conflict, Empties, empties}
 use Rattle.theory.specs.acceptance.Table.{Phase, nextPhase}
-use Rattle.theory.specs.swapping.Unrelated.{task, variable, thing, Names, names, sharing, MayShare, may-share, Premise, two-acts, actors-differ, names-no-actor, names-no-same, no-semaphore, no-flag, no-variable, Holds, Unrelated, UnrelatedRecords, OneMisses, first-misses, second-misses, UnrelatedByMiss, MissedRecords}
-use Rattle.theory.proofs.basics.Reflects.{Reflects, right, wrong, equal}
+use Rattle.theory.specs.swapping.Unrelated.{Series, task, semaphore, flag, variable, seriesOf, Names, names, sharing, MayShare, may-share, Premise, two-acts, actors-differ, names-no-actor, names-no-same, no-semaphore, no-flag, no-variable, Holds, Unrelated, UnrelatedRecords, OneMisses, first-misses, second-misses, UnrelatedByMiss, MissedRecords}
+use Rattle.theory.proofs.basics.Reflects.{Reflects, right, wrong, by-test, is-true, equal}
 use Rattle.theory.proofs.order.Ops.{all, each-op, Role, a-take, a-give, a-look, a-set, a-start, a-join, plain, role, keeps-phases}
 
 -- Definition
@@ -123,19 +123,26 @@ missed-separates = record { independent = λ r q z. missed-independent z }
 
 -- No conflict, and no history emptied
 
--- the number of an access is a variable
-accessed : (o : Op) (n : ℕ) → T (isAccess o) → thing o n ≡ variable n
-accessed read n a = refl
-accessed write n a = refl
-accessed take n a = absurd a
-accessed give n a = absurd a
-accessed look n a = absurd a
-accessed set n a = absurd a
-accessed start n a = absurd a
-accessed join n a = absurd a
-accessed fresh n a = absurd a
-accessed miss n a = absurd a
-accessed bump n a = refl
+-- the number of an access is a variable: tried out
+isVariable : Series → Bool
+isVariable task = false
+isVariable semaphore = false
+isVariable flag = false
+isVariable variable = true
+
+of-variable : Kind → Bool
+of-variable (of-op o) = not (isAccess o) || isVariable (seriesOf o)
+of-variable of-mark = true
+
+accessed : (o : Op) → T (isAccess o) → seriesOf o ≡ variable
+unfolding isVariable of-variable
+accessed o a = is (seriesOf o) (rw (is-true (by-test (isAccess o)) a) at (each-op of-variable refl refl o))
+  where
+    is : (x : Series) → isVariable x ≡ true → x ≡ variable
+    is task e = absurd (true≢false (sym e))
+    is semaphore e = absurd (true≢false (sym e))
+    is flag e = absurd (true≢false (sym e))
+    is variable e = refl
 
 both-true : (a b c : Bool) → T (a && (b && c)) → T a × T b × T c
 both-true true true true x = (tt, tt, tt)
@@ -164,7 +171,7 @@ share-nothing (may-share {o = o} s) c = of (sharing o) (rule o o) (each-op share
 pub no-conflict : {e f : Event} → Independent e f → ¬ Conflict e f
 no-conflict z (conflict {o = o} {p = p} {v = v} d c) =
     let (a, b, r) = both-true (isAccess o) (isAccess p) (rule o p) c in
-    share-nothing (z .variables v (names (accessed o v a)) (names (accessed p v b))) r
+    share-nothing (z .variables v (names (accessed o a)) (names (accessed p b))) r
 
 shares-fresh : {e : Event} {u m : ℕ} → ¬ MayShare e (act fresh u m)
 shares-fresh (may-share s) = s
@@ -172,12 +179,12 @@ shares-fresh (may-share s) = s
 -- what conflicts with an access keeps counting when the other record stands behind it
 pub empties-nothing : {e d f : Event} → Independent e d → Conflict e f → ¬ Empties d f
 empties-nothing z (conflict {o = o} {p = p} {v = v} d c) empties =
-    shares-fresh (z .variables v (names (accessed o v (both-true (isAccess o) (isAccess p) (rule o p) c .0))) (names refl))
+    shares-fresh (z .variables v (names (accessed o (both-true (isAccess o) (isAccess p) (rule o p) c .0))) (names refl))
 
 -- and the history of an access when the other record stands before it
 pub never-empties : {e d f : Event} → Independent d f → Conflict e f → ¬ Empties d f
 never-empties z (conflict {o = o} {p = p} {v = v} d c) empties =
-    shares-fresh (either-shares (z .variables v (names refl) (names (accessed p v (both-true (isAccess o) (isAccess p) (rule o p) c .1)))))
+    shares-fresh (either-shares (z .variables v (names refl) (names (accessed p (both-true (isAccess o) (isAccess p) (rule o p) c .1)))))
 
 -- Phases
 
@@ -186,18 +193,21 @@ cond-same true x = refl
 cond-same false x = refl
 
 -- an act leaves the phase of a task that it does not name
-pub phase-kept : (o : Op) (t n x : ℕ) (p : Phase) → ¬ Names (task x) (act o t n) → nextPhase (act o t n) x p ≡ p
-phase-kept o t n x p h = by-role (role o) (λ e. h (names e))
+pub phase-kept : (o : Op) (t n x : ℕ) (p : Phase) → ¬ Names task x (act o t n) → nextPhase (act o t n) x p ≡ p
+phase-kept o t n x p h = by-role (role o) (λ e q. h (named q e))
   where
+    named : {n : ℕ} → n ≡ x → seriesOf o ≡ task → Names task x (act o t n)
+    named q e = subst (λ (k : ℕ). Names task x (act o t k)) (sym q) (names e)
+
     other : {b : Bool} (q : Phase) → Reflects (n ≡ x) b → n ≢ x → cond b q p ≡ p
     other q (right e) d = absurd (d e)
     other q (wrong f) d = refl
 
-    by-role : {o : Op} → Role o → thing o n ≢ task x → nextPhase (act o t n) x p ≡ p
+    by-role : {o : Op} → Role o → (seriesOf o ≡ task → n ≢ x) → nextPhase (act o t n) x p ≡ p
     by-role a-take h = cond-same (eqb n x) p
     by-role a-give h = cond-same (eqb n x) p
     by-role a-look h = cond-same (eqb n x) p
     by-role a-set h = cond-same (eqb n x) p
-    by-role a-start h = other Phase.live (equal n x) (λ e. h (ap task e))
-    by-role a-join h = other Phase.ended (equal n x) (λ e. h (ap task e))
+    by-role a-start h = other Phase.live (equal n x) (h refl)
+    by-role a-join h = other Phase.ended (equal n x) (h refl)
     by-role {o} (plain y) h = rw (keeps-phases o (y .not-start) (y .not-join)) (cond-same (eqb n x) p)

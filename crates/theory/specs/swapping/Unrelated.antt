@@ -8,26 +8,26 @@ use lib.Dec.{T}
 use Rattle.theory.specs.declared.record.Record.{Record}
 use Rattle.theory.specs.order.Recording.{Op, read, write, take, give, look, set, start, join, fresh, miss, bump, Event, act, eventOf, ActsIn, Unmarked, _is_}
 
--- what the number of an act is the number of; the four are separate series
-pub data Thing : Type 0 where
-  task semaphore flag variable : ℕ → Thing
+-- the series that the number of an act is of: "Task numbers, semaphore numbers and variable numbers are separate series; so are flag numbers"
+pub data Series : Type 0 where
+  task semaphore flag variable : Series
 
-abbrev pub thing : Op → ℕ → Thing
-thing read n = variable n
-thing write n = variable n
-thing take n = semaphore n
-thing give n = semaphore n
-thing look n = flag n
-thing set n = flag n
-thing start n = task n
-thing join n = task n
-thing fresh n = variable n
-thing miss n = semaphore n
-thing bump n = variable n
+abbrev pub seriesOf : Op → Series
+seriesOf read = variable
+seriesOf write = variable
+seriesOf take = semaphore
+seriesOf give = semaphore
+seriesOf look = flag
+seriesOf set = flag
+seriesOf start = task
+seriesOf join = task
+seriesOf fresh = variable
+seriesOf miss = semaphore
+seriesOf bump = variable
 
--- the record is an act and has that thing; a fresh has its variable, and a miss its semaphore
-pub data Names (x : Thing) : Event → Type 0 where
-  names : {o : Op} {t n : ℕ} → thing o n ≡ x → Names x (act o t n)
+-- the record is an act that names number n of the series
+pub data Names (x : Series) (n : ℕ) : Event → Type 0 where
+  names : {o : Op} {t : ℕ} → seriesOf o ≡ x → Names x n (act o t n)
 
 -- the ops of which two may have a variable in common: "two reads or two bumps"
 abbrev pub sharing : Op → Bool
@@ -46,15 +46,15 @@ Holds two-acts e f = Unmarked (e ∷ (f ∷ []))
 -- "different tasks act"
 Holds actors-differ e f = (t : ℕ) → ActsIn t e → ¬ ActsIn t f
 -- "neither names a task that acts in .. the other"
-Holds names-no-actor e f = (t : ℕ) → (Names (task t) e → ¬ ActsIn t f) × (Names (task t) f → ¬ ActsIn t e)
+Holds names-no-actor e f = (t : ℕ) → (Names task t e → ¬ ActsIn t f) × (Names task t f → ¬ ActsIn t e)
 -- "neither names a task that .. is named by the other"
-Holds names-no-same e f = (t : ℕ) → Names (task t) e → ¬ Names (task t) f
+Holds names-no-same e f = (t : ℕ) → Names task t e → ¬ Names task t f
 -- "they have no semaphore .. in common"
-Holds no-semaphore e f = (s : ℕ) → Names (semaphore s) e → ¬ Names (semaphore s) f
+Holds no-semaphore e f = (s : ℕ) → Names semaphore s e → ¬ Names semaphore s f
 -- "no .. flag .. in common"
-Holds no-flag e f = (x : ℕ) → Names (flag x) e → ¬ Names (flag x) f
+Holds no-flag e f = (x : ℕ) → Names flag x e → ¬ Names flag x f
 -- "no .. variable in common, except two reads or two bumps"
-Holds no-variable e f = (v : ℕ) → Names (variable v) e → Names (variable v) f → MayShare e f
+Holds no-variable e f = (v : ℕ) → Names variable v e → Names variable v f → MayShare e f
 
 -- all of them
 pub record Unrelated (e f : Event) : Type 0 where
