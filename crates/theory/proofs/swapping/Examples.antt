@@ -20,7 +20,7 @@ use Rattle.theory.specs.feeding.Meaning.{Meaning, isRefusal}
 use Rattle.theory.specs.feeding.Feeding.{answersFrom, eventRecord}
 use Rattle.theory.specs.swapping.Unrelated.{Series, task, semaphore, flag, variable, seriesOf, Names, names, sharing, MayShare, may-share, Premise, two-acts, actors-differ, names-no-actor, names-no-same, no-semaphore, no-flag, no-variable, Holds}
 use Rattle.theory.specs.swapping.Compared.{Accepted, none-left, and-accepted, Told, refused, taken, judged, known}
-use Rattle.theory.specs.swapping.Examples.{Related, recorded, exchanged, newPlace, toldAt, Changes, AllChange, EachNeeded, related, Pair, AllUnrelated, unrelatedPairs}
+use Rattle.theory.specs.swapping.Examples.{Related, recorded, exchanged, newPlace, toldAt, Changes, AllChange, EachNeeded, related, Pair, AllUnrelated, unrelatedPairs, NumbersShift}
 use Rattle.theory.proofs.basics.Reflects.{fails, equal, passed}
 use Rattle.theory.proofs.order.Ops.{same-op}
 
@@ -268,3 +268,9 @@ pairs-met (x ∷ xs) e =
 
 pub pairs-unrelated : AllUnrelated unrelatedPairs
 pairs-unrelated = pairs-met unrelatedPairs refl
+
+-- Record numbers
+
+pub numbers-shift : NumbersShift
+unfolding turns standingRefusal judge rule rounds round part onEach
+numbers-shift = record { before = refl; after = refl }

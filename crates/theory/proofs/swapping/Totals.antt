@@ -134,3 +134,6 @@ sets-same-totals = same-totals unrelated-separates bySets (sets-demanded .by-tab
 -- with a miss
 pub clocks-missed-totals : SameTotals MissedRecords byClocks
 clocks-missed-totals = same-totals missed-separates byClocks (clocks-demanded .by-table) clocks-keep-totals
+
+pub sets-missed-totals : SameTotals MissedRecords bySets
+sets-missed-totals = same-totals missed-separates bySets (sets-demanded .by-table) sets-keep-totals

@@ -128,3 +128,6 @@ sets-same-verdicts = same-verdicts setFed (sets-demanded .by-table) unrelated-se
 -- with a miss
 pub clocks-missed-verdicts : SameVerdicts MissedRecords fed
 clocks-missed-verdicts = same-verdicts fed (clocks-demanded .by-table) missed-separates
+
+pub sets-missed-verdicts : SameVerdicts MissedRecords setFed
+sets-missed-verdicts = same-verdicts setFed (sets-demanded .by-table) missed-separates

@@ -9,8 +9,9 @@ use lib.ListN.{getElem?}
 use Rattle.theory.specs.declared.record.Record.{Record}
 use Rattle.theory.specs.order.Recording.{read, write, take, give, look, set, start, join, fresh, miss, Event, act, lost}
 use Rattle.theory.specs.verdicts.Verdict.{Race, Clear, Doubt}
-use Rattle.theory.specs.verdicts.Examples.{w0, w1, r0, r1, b0, b1}
-use Rattle.theory.specs.feeding.Feeding.{answersFrom, eventRecord}
+use Rattle.theory.specs.verdicts.Search.{Finding}
+use Rattle.theory.specs.verdicts.Examples.{_∶_with_, w0, w1, r0, r1, b0, b1}
+use Rattle.theory.specs.feeding.Feeding.{answersFrom, eventRecord, verdictsOf}
 use Rattle.theory.specs.swapping.Unrelated.{Premise, two-acts, actors-differ, names-no-actor, names-no-same, no-semaphore, no-flag, no-variable, Holds, Unrelated}
 use Rattle.theory.specs.swapping.Swaps.{Swapped, these, later, moved}
 use Rattle.theory.specs.swapping.Compared.{Accepted, Told, refused, taken, judged, linesOf}
@@ -151,3 +152,12 @@ unrelatedPairs =
     -- a variable that has the number of a task that acts
     ∷ (act write 0 1 beside act read 1 0)
     ∷ []
+
+-- "Partner record numbers may shift": w0 and the write of variable 6 are unrelated, and the read's partner, w0, has number 2, or 3 once they are swapped
+
+abbrev pub findingsOf : List Event → List Finding
+findingsOf es = verdictsOf (answersFrom [] (map eventRecord es))
+
+pub record NumbersShift : Type 0 where
+  pub before : findingsOf (act start 0 1 ∷ w0 ∷ act write 1 6 ∷ r1 ∷ []) ≡ (2 ∶ Clear with 0) ∷ (3 ∶ Clear with 0) ∷ (4 ∶ Race with 2) ∷ []
+  pub after : findingsOf (act start 0 1 ∷ act write 1 6 ∷ w0 ∷ r1 ∷ []) ≡ (2 ∶ Clear with 0) ∷ (3 ∶ Clear with 0) ∷ (4 ∶ Race with 3) ∷ []
