@@ -2,7 +2,7 @@
 //! archive and by the program, with a planner's entries and without; where one of its premises does not hold, a swap can change something.
 
 use crate::cuts::Cuts;
-use crate::entries::{self, Entry};
+use crate::entries;
 use crate::examples::text;
 use crate::feeding::{self, Lent, Reckoning};
 use crate::generate::{recording, shape, Random, Shape};
@@ -526,7 +526,8 @@ fn entry_file(random: &mut Random, run: &Run) -> Vec<u8> {
     for &var in &variables {
         for (low, high) in tasks.iter().flat_map(|low| tasks.iter().map(move |high| (*low, *high))).filter(|(low, high)| low < high) {
             if random.percent(share) {
-                out += &format!("{}\n", Entry { rec: 1 + random.below(60_000), var, low, high, accepted: random.percent(90) }.line());
+                let mark = if random.percent(90) { "accepted" } else { "open" };
+                out += &format!("rec={:05} var={var} low={low} high={high} mark={mark}\n", 1 + random.below(60_000));
             }
         }
     }
