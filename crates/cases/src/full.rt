@@ -1,5 +1,5 @@
-// Two recordings that fill a table, and that no text holds: task 10 and above have two digits, and row 5 has 60,005 records. Each gives
-// its n-th record, from 0.
+// Two recordings that fill a table, and that no text holds: task 10 and above have two digits, and row 5 has five records more than a
+// recording takes. Each gives its n-th record, from 0.
 use crate::records::LOST;
 use crate::records::READ;
 use crate::records::START;
@@ -7,16 +7,28 @@ use crate::records::TAKE;
 use crate::records::record;
 use crate::telling::tell_numbered;
 use theory::Answer;
+use theory::RECORDS;
 use theory::Record;
 
 // With every task live the largest mask is accepted: 15 starts and a mark.
 pub(crate) const STARTS: usize = 16;
 
-// Row 5: 60,000 records are accepted and no more.
-pub(crate) const ROW_5: usize = 60_005;
+// Row 5: so many records are accepted and no more.
+const MOST: usize = RECORDS as usize;
+
+pub(crate) const ROW_5: usize = MOST + 5;
 
 // How many of its answers go before the first that is printed.
-const SILENT: usize = 59_999;
+const SILENT: usize = MOST - 1;
+
+// The places of those after the first that is one too many.
+const SEMAPHORE_TOO_HIGH: usize = MOST + 1;
+
+const MARK_OF_NOBODY: usize = MOST + 2;
+
+const MARK_TOO_MANY: usize = MOST + 3;
+
+const TASK_NOT_LIVE: usize = MOST + 4;
 
 pub(crate) fn starts(n: usize) -> Record {
     match n {
@@ -29,10 +41,10 @@ pub(crate) fn starts(n: usize) -> Record {
 // then a mark and a task that is not live, as row 5 comes before row 6.
 pub(crate) fn row_5(n: usize) -> Record {
     match n {
-        60_001 => record(TAKE, 0, 32),
-        60_002 => record(LOST, 0, 0),
-        60_003 => record(LOST, 0, 1),
-        60_004 => record(READ, 1, 1),
+        SEMAPHORE_TOO_HIGH => record(TAKE, 0, 32),
+        MARK_OF_NOBODY => record(LOST, 0, 0),
+        MARK_TOO_MANY => record(LOST, 0, 1),
+        TASK_NOT_LIVE => record(READ, 1, 1),
         _ => record(READ, 0, 1),
     }
 }

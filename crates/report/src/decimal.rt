@@ -3,14 +3,16 @@ use text::Number;
 ghost use mathlib.Core.Path.{_≡_};
 ghost use Prim.Native.Nat.{_≤_, _<_};
 ghost use lib.ListN.{length};
-ghost use Rattle.text.specs.EntryForm.{digitsIn};
-ghost use Rattle.text.specs.LineForm.{isDigit, isPlain, digits, readDigits, readDecimal};
+ghost use Rattle.text.specs.EntryForm.{recordWide, readRecord};
+ghost use Rattle.text.specs.LineForm.{isDigit, isPlain, readDigits, readDecimal};
 ghost use Rattle.text.specs.Printing.{recordDigits};
 
 pub const DIGITS: usize = 5;
 
-// So many digits has a record number, leading zeros included.
-const RECORD_DIGITS: usize = 5;
+// So many digits has a record number, leading zeros included, and so many it may have in an entry instead.
+const RECORD_DIGITS: usize = 7;
+
+const FEWER_DIGITS: usize = 5;
 
 fn is_digit(b: u8) -> bool
     ensures { λ r. ⌜ r ≡ isDigit b ⌝ }
@@ -36,7 +38,7 @@ fn is_plain(s: &[u8]) -> bool
 
 // The number that is read from digits.
 fn read_digits(s: &[u8]) -> Number
-    requires { ⌜ length (now s) ≤ digits ⌝ }
+    requires { ⌜ length (now s) ≤ recordDigits ⌝ }
     ensures { λ r. ⌜ r ≡ readDigits 0 (now (s .entry)) ⌝ }
 {
     let mut v: u32 = 0;
@@ -84,11 +86,21 @@ pub fn read_decimal(s: &[u8]) -> Number
     Number::Nothing
 }
 
-// What a part of a line says as a record number.
-pub(crate) fn record_digits(s: &[u8]) -> Number
-    ensures { λ r. ⌜ r ≡ digitsIn recordDigits (now (s .entry)) ⌝ }
+// A record number may have so many digits.
+fn record_wide(k: usize) -> bool
+    ensures { λ r. ⌜ r ≡ recordWide k ⌝ }
 {
-    if s.len() == RECORD_DIGITS {
+    if k == FEWER_DIGITS {
+        return true;
+    }
+    k == RECORD_DIGITS
+}
+
+// What a part of a line says as a record number.
+pub(crate) fn read_record(s: &[u8]) -> Number
+    ensures { λ r. ⌜ r ≡ readRecord (now (s .entry)) ⌝ }
+{
+    if record_wide(s.len()) {
         return read_digits(s);
     }
     Number::Nothing

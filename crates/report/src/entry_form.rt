@@ -1,5 +1,5 @@
-// A line as an entry of the faults already accepted: `rec=DDDDD var=V low=A high=B mark=accepted`, or `.. mark=open`.
-use crate::decimal::record_digits;
+// A line as an entry of the faults already accepted: `rec=DDDDDDD var=V low=A high=B mark=accepted`, or `.. mark=open`.
+use crate::decimal::read_record;
 use crate::parsing::past;
 use crate::scan::place_of;
 use crate::words::SPACE;
@@ -45,12 +45,12 @@ fn word_field(line: &[u8], k: usize, name: &[u8]) -> Number
     field(name, word_after(line, k))
 }
 
-// The number of a field `rec=DDDDD`.
+// The number of a field `rec=DDDDD` or `rec=DDDDDDD`.
 fn record_number(s: &[u8]) -> Number
     ensures { λ r. ⌜ r ≡ recordOf (now (s .entry)) ⌝ }
 {
     if starts_with(b"rec=", s) {
-        return record_digits(&s[4..]);
+        return read_record(&s[4..]);
     }
     Number::Nothing
 }

@@ -6,14 +6,15 @@ use theory::Control;
 use theory::Excuse;
 use theory::History;
 use theory::Record;
-ghost use Prim.Native.Nat.{_+_, _<_, _≤_, _^_};
+ghost use Prim.Native.Nat.{_+_, _/_, _<_, _≤_, _^_};
 ghost use mathlib.Core.Path.{_≡_};
 ghost use mathlib.Core.Bool.{cond};
 ghost use mathlib.Core.List.{[], _∷_};
 ghost use lib.Dec.{ltb};
 ghost use lib.ListN.{length};
+ghost use Rattle.text.specs.LineForm.{digits};
 ghost use Rattle.text.specs.Lines.{lineRoom};
-ghost use Rattle.text.specs.Printing.{bytes, lastDigit, decimal, fiveDigits};
+ghost use Rattle.text.specs.Printing.{bytes, lastDigit, decimal, recordDigits, recordText};
 ghost use Rattle.theory.specs.feeding.Meaning.{meaning};
 ghost use Rattle.theory.specs.entries.Table.{excuseBy};
 ghost use Rattle.text.specs.ReportLines.{accessPart, accessLine, refusedAs, refusedLine, raceWord, excusedFor, partnerIn};
@@ -81,17 +82,27 @@ fn put_decimal(out: &mut [u8], at: usize, n: u64) -> usize
     put_long(out, at, n)
 }
 
-// The last five digits of a number, leading zeros included.
-fn put_five(out: &mut [u8], at: usize, n: u32) -> usize
-    requires { ⌜ at + 5 ≤ length (now out) ⌝ }
-    ensures { λ r. ⌜ Wrote (now (out .entry)) at (fiveDigits n) (now (out .exit)) r ⌝ }
+// The last digit of a number whose tenth is at hand: no other division is needed for it.
+fn put_last(out: &mut [u8], at: usize, n: u32, tenth: u32) -> usize
+    requires { ⌜ (at < length (now out)) × (tenth ≡ n / 10) ⌝ }
+    ensures { λ r. ⌜ Wrote (now (out .entry)) at (lastDigit n ∷ []) (now (out .exit)) r ⌝ }
 {
-    let n = n as u64;
-    let second = put_digit(out, at, n / 10_000);
-    let third = put_digit(out, second, n / 1000);
-    let fourth = put_digit(out, third, n / 100);
-    let fifth = put_digit(out, fourth, n / 10);
-    put_digit(out, fifth, n)
+    out[at] = (n - tenth * 10) as u8 + b'0';
+    at + 1
+}
+
+// A record number, leading zeros included.
+fn put_record(out: &mut [u8], at: usize, n: u32) -> usize
+    requires { ⌜ at + recordDigits ≤ length (now out) ⌝ }
+    ensures { λ r. ⌜ Wrote (now (out .entry)) at (recordText n) (now (out .exit)) r ⌝ }
+{
+    let second = put_last(out, at, n / 1_000_000, n / 10_000_000);
+    let third = put_last(out, second, n / 100_000, n / 1_000_000);
+    let fourth = put_last(out, third, n / 10_000, n / 100_000);
+    let fifth = put_last(out, fourth, n / 1000, n / 10_000);
+    let sixth = put_last(out, fifth, n / 100, n / 1000);
+    let seventh = put_last(out, sixth, n / 10, n / 100);
+    put_last(out, seventh, n, n / 10)
 }
 
 // The first part of an access's line, up to its variable.
@@ -100,7 +111,7 @@ fn put_access_part(out: &mut [u8], at: usize, number: u32, task: u32, variable: 
     ensures { λ r. ⌜ Wrote (now (out .entry)) at (accessPart number task variable) (now (out .exit)) r ⌝ }
 {
     let a = put_bytes(out, at, b"rec=");
-    let b = put_five(out, a, number);
+    let b = put_record(out, a, number);
     let c = put_bytes(out, b, b" task=");
     let d = put_decimal(out, c, task as u64);
     let e = put_bytes(out, d, b" var=");
@@ -123,7 +134,7 @@ fn put_access_line(
     let b = put_bytes(out, a, b" verdict=");
     let c = put_bytes(out, b, verdict);
     let d = put_bytes(out, c, b" with=");
-    let e = put_five(out, d, partner);
+    let e = put_record(out, d, partner);
     put_bytes(out, e, b"\n")
 }
 
@@ -133,7 +144,7 @@ fn put_clear(out: &mut [u8], at: usize, number: u32, r: Record) -> usize
     ensures { λ to. ⌜ Wrote (now (out .entry)) at (accessLine number (r .task) (r .on) (bytes "clear") 0) (now (out .exit)) to ⌝ }
 {
     let a = put_access_part(out, at, number, r.task, r.on);
-    put_bytes(out, a, b" verdict=clear with=00000\n")
+    put_bytes(out, a, b" verdict=clear with=0000000\n")
 }
 
 // The line of a Race as it is excused.
@@ -168,7 +179,7 @@ pub(crate) fn put_refused(out: &mut [u8], at: usize, line: u64, number: u32) -> 
 }
 
 // What the report has for a line that said the record r and got the answer a, a Race as the tables excuse it once r is fed.
-// 64 bytes are room enough where task and variable have at most nine digits; in the text form they have five.
+// 64 bytes are room enough where task and variable have at most as many digits as in the text form.
 pub(crate) fn put_answer(
     out: &mut [u8],
     at: usize,
@@ -179,7 +190,7 @@ pub(crate) fn put_answer(
     last: &History,
     fullclocks: &Clocks,
 ) -> usize
-    requires { ⌜ (at + lineRoom ≤ length (now out)) × (r .task < 10 ^ 9) × (r .on < 10 ^ 9) ⌝ }
+    requires { ⌜ (at + lineRoom ≤ length (now out)) × (r .task < 10 ^ digits) × (r .on < 10 ^ digits) ⌝ }
     ensures { λ to. let excused = excuseBy (now (control .entry)) (now (last .entry)) (now (fullclocks .entry)) r (partnerIn (meaning a)) in
         ⌜ Wrote (now (out .entry)) at (excusedFor line r excused (meaning a)) (now (out .exit)) to × (to ≤ at + lineRoom) ⌝ }
 {

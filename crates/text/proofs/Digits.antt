@@ -8,7 +8,7 @@ use native.Mathlib.Omega.{arith}
 use lib.Dec.{leb, ltb}
 use lib.ListN.{length, length-append}
 use borrow.Author.Tests.{leb-true, leb-false, lt-ltb, le-ltb, ltb-true, ltb-false}
-use Rattle.text.specs.Printing.{lastDigit, lastDigits, widthIn, width, decimal, fiveDigits}
+use Rattle.text.specs.Printing.{lastDigit, lastDigits, widthIn, width, decimal, recordText}
 
 -- Division by powers of ten
 
@@ -45,10 +45,10 @@ unfolding lastDigits
 digits-more zero n = ap (λ (m : ℕ). lastDigit m ∷ []) (div-one n)
 digits-more (suc k) n = ap₂ (λ (m : ℕ) (ds : List ℕ). lastDigit m ∷ ds) (divide-tenth n k) (digits-more k n)
 
--- five of them, one by one
-pub five-digits : (n : ℕ) → fiveDigits n ≡ lastDigit (n / 10_000) ∷ lastDigit (n / 1000) ∷ lastDigit (n / 100) ∷ lastDigit (n / 10) ∷ lastDigit n ∷ []
+-- those of a record number, one by one
+pub record-digits : (n : ℕ) → recordText n ≡ lastDigit (n / 1_000_000) ∷ lastDigit (n / 100_000) ∷ lastDigit (n / 10_000) ∷ lastDigit (n / 1000) ∷ lastDigit (n / 100) ∷ lastDigit (n / 10) ∷ lastDigit n ∷ []
 unfolding lastDigits
-five-digits n = rw (div-one n)
+record-digits n = rw (div-one n)
 
 -- How many digits there are
 

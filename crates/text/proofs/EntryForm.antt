@@ -1,6 +1,7 @@
 -- The text of an entry is taken, and nothing else is. Assumes nothing.
 use mathlib.Core.Path.{_≡_, refl, sym, ap, subst, _∙_}
 use mathlib.Core.Bool.{Bool, true, false, cond, _||_}
+use mathlib.Core.Logic.{_⊎_, inl, inr}
 use mathlib.Core.List.{List, _∷_, _++_, append-assoc}
 use Prim.Native.Nat.{ℕ, zero, suc, _+_, _-_, _^_, _≤_, _<_}
 use native.Mathlib.Nat.{div-eq-of-lt}
@@ -16,36 +17,59 @@ use Rattle.text.specs.declared.entry.EntryLine.{EntryLine}
 use Rattle.text.specs.declared.number.Number.{Number}
 use Rattle.text.specs.Bytes.{indexOf, upTo, after, startsWith, isWord}
 use Rattle.text.specs.LineForm.{readDigits, space, fieldOf}
-use Rattle.text.specs.EntryForm.{afterSpaces, wordAfter, recName, varName, lowName, highName, markWord, digitsIn, recordOf, inRange, withinRange}
-use Rattle.text.specs.EntryForm.{markedBy, entryBy, entryOf, entryText, InForm, EntryTaken, OnlyEntryText, OnlyInForm, LongEntry}
-use Rattle.text.specs.Printing.{bytes, lastDigits, widthIn, width, decimal, recordDigits, fiveDigits}
+use Rattle.text.specs.EntryForm.{afterSpaces, wordAfter, recName, varName, lowName, highName, markWord, fewerDigits, recordWide, readRecord, recordOf, inRange, withinRange}
+use Rattle.text.specs.EntryForm.{markedBy, entryBy, entryOf, entryText, InForm, EntryTaken, OnlyEntryText, OnlyInForm, LongEntry, TextOf, EntryWritten}
+use Rattle.text.specs.Printing.{bytes, lastDigits, widthIn, width, decimal, recordDigits}
 use Rattle.text.proofs.Bytes.{Without, without-append, before-seam, after-seam, joined, is-the-word}
-use Rattle.text.proofs.Digits.{digits-long, decimal-fits}
+use Rattle.text.proofs.Digits.{none-above, digits-long, decimal-fits}
 use Rattle.text.proofs.LineForm.{cut-before}
-use Rattle.text.proofs.Numerals.{let-through, read-printed, printed-read}
+use Rattle.text.proofs.Numerals.{let-through, read-above, read-printed, printed-read}
 use Rattle.text.proofs.RoundTrip.{field-by, field-is, field-read-by, field-read, digits-whole, field-whole}
 
 -- Record numbers
 
-digits-in : (k : ℕ) (s : List ℕ) (n : ℕ) → digitsIn k s ≡ Number.Value n → s ≡ lastDigits k n
-unfolding digitsIn
-digits-in k s n e =
-    let (f, g) = let-through (eqb (length s) k) (readDigits 0 s) n e in
-    read-printed 0 n s g ∙ ap (λ (m : ℕ). lastDigits m n) (eqb-true (length s) k f)
+abbrev Wide : ℕ → Type 0
+Wide k = (k ≡ fewerDigits) ⊎ (k ≡ recordDigits)
 
-in-digits : (k n : ℕ) → n < 10 ^ k → digitsIn k (lastDigits k n) ≡ Number.Value n
-unfolding digitsIn
-in-digits k n h = rw (eq-eqb (length (lastDigits k n)) k (digits-long k n)) (printed-read 0 n k (sym (div-eq-of-lt h)))
+wide-digits : (k : ℕ) → recordWide k ≡ true → Wide k
+unfolding recordWide
+wide-digits k e = picked (eqb k fewerDigits) refl e
+  where
+    picked : (t : Bool) → eqb k fewerDigits ≡ t → (t || eqb k recordDigits) ≡ true → Wide k
+    picked true f e = inl (eqb-true k fewerDigits f)
+    picked false f e = inr (eqb-true k recordDigits e)
 
-record-is : (s : List ℕ) (n : ℕ) → recordOf s ≡ Number.Value n → s ≡ recName ++ fiveDigits n
-unfolding recordOf
+digits-wide : (k : ℕ) → Wide k → recordWide k ≡ true
+unfolding recordWide
+digits-wide k (inl e) = rw e
+digits-wide k (inr e) = rw e
+
+-- five digits or seven, enough for the number, which is the last that they say
+record InDigits (name s : List ℕ) (n : ℕ) : Type 0 where
+  count : ℕ
+  wide : Wide count
+  enough : n < 10 ^ count
+  is : s ≡ name ++ lastDigits count n
+
+record-is : (s : List ℕ) (n : ℕ) → recordOf s ≡ Number.Value n → InDigits recName s n
+unfolding recordOf readRecord
 record-is s n e =
-    let (t, f, g) = field-by (digitsIn recordDigits) recName s n e in
-    f ∙ ap (λ (l : List ℕ). recName ++ l) (digits-in recordDigits t n g)
+    let (t, f, g) = field-by readRecord recName s n e in
+    let (w, r) = let-through (recordWide (length t)) (readDigits 0 t) n g in
+    record {
+      count = length t;
+      wide = wide-digits (length t) w;
+      enough = none-above n (length t) (read-above 0 n t r);
+      is = f ∙ ap (λ (l : List ℕ). recName ++ l) (read-printed 0 n t r);
+    }
 
-record-read : (n : ℕ) → n ≤ records → recordOf (recName ++ fiveDigits n) ≡ Number.Value n
+in-digits : (k n : ℕ) → Wide k → n < 10 ^ k → readRecord (lastDigits k n) ≡ Number.Value n
+unfolding readRecord
+in-digits k n w h = rw (digits-long k n, digits-wide k w) (printed-read 0 n k (sym (div-eq-of-lt h)))
+
+record-read : (k n : ℕ) → Wide k → n < 10 ^ k → recordOf (recName ++ lastDigits k n) ≡ Number.Value n
 unfolding recordOf
-record-read n h = field-read-by (digitsIn recordDigits) recName (fiveDigits n) n (in-digits recordDigits n (omega arith))
+record-read k n w h = field-read-by readRecord recName (lastDigits k n) n (in-digits k n w h)
 
 -- Ranges
 
@@ -80,7 +104,7 @@ range-within e h = decided (ranges e)
 
 -- what a line that is taken is
 record Said (s : List ℕ) (e : Entry) : Type 0 where
-  is : s ≡ entryText e
+  is : TextOf e s
   can : InForm e
 
 -- the last word is the mark of the entry
@@ -109,8 +133,8 @@ mark-long true = (omega arith, omega arith)
 mark-long false = (omega arith, omega arith)
 
 -- the words of a text, and what it is from each of them on
-abbrev recWord : Entry → List ℕ
-recWord e = recName ++ fiveDigits (e .rec)
+abbrev recWord : ℕ → Entry → List ℕ
+recWord k e = recName ++ lastDigits k (e .rec)
 
 abbrev varWord : Entry → List ℕ
 varWord e = varName ++ decimal (e .var)
@@ -133,28 +157,34 @@ fromLow e = lowWord e ++ (space ∷ fromHigh e)
 abbrev fromVar : Entry → List ℕ
 fromVar e = varWord e ++ (space ∷ fromLow e)
 
-entry-text : (e : Entry) → entryText e ≡ recWord e ++ (space ∷ fromVar e)
+entry-text : (k : ℕ) (e : Entry) → entryText k e ≡ recWord k e ++ (space ∷ fromVar e)
 unfolding entryText
-entry-text e = simp append-assoc
+entry-text k e = simp append-assoc
 
 -- the line of an entry, from its words
-entry-joined : (s : List ℕ) (e : Entry) → wordAfter 0 s ≡ recWord e → wordAfter 1 s ≡ varWord e → wordAfter 2 s ≡ lowWord e → wordAfter 3 s ≡ highWord e
-    → afterSpaces 4 s ≡ fromMark e → s ≡ entryText e
+entry-joined : (s : List ℕ) (k : ℕ) (e : Entry) → wordAfter 0 s ≡ recWord k e → wordAfter 1 s ≡ varWord e → wordAfter 2 s ≡ lowWord e → wordAfter 3 s ≡ highWord e
+    → afterSpaces 4 s ≡ fromMark e → s ≡ entryText k e
 unfolding afterSpaces
-entry-joined s e a b c d m =
+entry-joined s k e a b c d m =
     let p = spaced 3 s (highWord e) (fromMark e) d m (mark-long (e .accepted) .0) in
     let q = spaced 2 s (lowWord e) (fromHigh e) c p (omega arith) in
     let r = spaced 1 s (varWord e) (fromLow e) b q (omega arith) in
-    spaced 0 s (recWord e) (fromVar e) a r (omega arith) ∙ sym (entry-text e)
+    spaced 0 s (recWord k e) (fromVar e) a r (omega arith) ∙ sym (entry-text k e)
 
 fields-said : (s : List ℕ) (e : Entry) (x y z w : Number) → recordOf (wordAfter 0 s) ≡ x → fieldOf varName (wordAfter 1 s) ≡ y → fieldOf lowName (wordAfter 2 s) ≡ z
     → fieldOf highName (wordAfter 3 s) ≡ w → entryBy x y z w (afterSpaces 4 s) ≡ EntryLine.Entry e → Said s e
 fields-said s e (Number.Value rec) (Number.Value var) (Number.Value low) (Number.Value high) a b c d h =
     let (t, m, q, i) = marked rec var low high (afterSpaces 4 s) e h in
+    let r = record-is (wordAfter 0 s) rec a in
     record {
-      is = entry-joined s (record { rec = rec; var = var; low = low; high = high; accepted = t })
-          (record-is (wordAfter 0 s) rec a) (field-is varName (wordAfter 1 s) var b .is) (field-is lowName (wordAfter 2 s) low c .is)
-          (field-is highName (wordAfter 3 s) high d .is) m ∙ ap entryText q;
+      is = subst (λ (f : Entry). TextOf f s) q (record {
+        count = r .count;
+        five-or-seven = r .wide;
+        enough = r .enough;
+        is = entry-joined s (r .count) (record { rec = rec; var = var; low = low; high = high; accepted = t })
+            (r .is) (field-is varName (wordAfter 1 s) var b .is) (field-is lowName (wordAfter 2 s) low c .is)
+            (field-is highName (wordAfter 3 s) high d .is) m;
+      });
       can = i;
     }
 fields-said s e (Number.Value rec) (Number.Value var) (Number.Value low) Number.Nothing a b c d h = absurd (let z : _≡_ {A = ℕ} 0 1 = cc in omega arith)
@@ -175,12 +205,20 @@ only-in-form s e h = said s e h .can
 
 -- No entry is long
 
-entry-short : (e : Entry) → InForm e → length (entryText e) ≤ 45
+wide-most : (k : ℕ) → Wide k → k ≤ recordDigits
+wide-most k (inl e) = omega arith
+wide-most k (inr e) = omega arith
+
+pub wide-fits : (k : ℕ) → recordWide k ≡ true → k ≤ recordDigits
+wide-fits k e = wide-most k (wide-digits k e)
+
+entry-short : (k : ℕ) (e : Entry) → Wide k → InForm e → length (entryText k e) ≤ 40 + recordDigits
 unfolding entryText
-entry-short e h =
+entry-short k e w h =
     simp length-append (omega (
       arith,
-      digits-long recordDigits (e .rec),
+      digits-long k (e .rec),
+      wide-most k w,
       decimal-fits 1 (e .var) (omega arith),
       decimal-fits 1 (e .low) (omega arith),
       decimal-fits 1 (e .high) (omega arith),
@@ -191,7 +229,9 @@ pub long-entry : LongEntry
 long-entry s h = picked (entryOf s) refl
   where
     picked : (x : EntryLine) → entryOf s ≡ x → entryOf s ≡ EntryLine.Nothing
-    picked (EntryLine.Entry e) f = absurd (omega (arith, ap length (only-entry-text s e f), entry-short e (only-in-form s e f)))
+    picked (EntryLine.Entry e) f =
+        let t = only-entry-text s e f in
+        absurd (omega (arith, ap length (t .is), entry-short (t .count) e (t .five-or-seven) (only-in-form s e f)))
     picked EntryLine.Nothing f = f
 
 -- The text of an entry is taken
@@ -219,9 +259,9 @@ module _ (a b c d m : List ℕ) (i : Without space a) (j : Without space b) (k :
   unfolding entryOf
   words-read = simp (word-first, word-next 0, word-next 1, word-next 2, spaces-next 0, spaces-next 1, spaces-next 2, spaces-next 3, no-spaces)
 
-record-whole : (n : ℕ) → Without space (recName ++ fiveDigits n)
+record-whole : (k n : ℕ) → Without space (recName ++ lastDigits k n)
 unfolding indexOf
-record-whole n = without-append space recName (fiveDigits n) refl (digits-whole space recordDigits n (omega arith))
+record-whole k n = without-append space recName (lastDigits k n) refl (digits-whole space k n (omega arith))
 
 mark-read : (rec var low high : ℕ) (t : Bool) → markedBy rec var low high (markWord t) ≡ withinRange (record { rec = rec; var = var; low = low; high = high; accepted = t })
 unfolding markedBy isWord startsWith
@@ -230,12 +270,15 @@ mark-read rec var low high false = refl
 
 pub entry-taken : EntryTaken
 unfolding indexOf
-entry-taken e h =
-    ap entryOf (entry-text e)
-    ∙ words-read (recWord e) (varWord e) (lowWord e) (highWord e) (fromMark e)
-    (record-whole (e .rec)) (field-whole varName (e .var) refl) (field-whole lowName (e .low) refl) (field-whole highName (e .high) refl)
-    ∙ rw (record-read (e .rec) (h .rec-within), field-read varName (e .var) (omega arith), field-read lowName (e .low) (omega arith), field-read highName (e .high) (omega arith))
+entry-taken e h line t =
+    ap entryOf (t .is ∙ entry-text (t .count) e)
+    ∙ words-read (recWord (t .count) e) (varWord e) (lowWord e) (highWord e) (fromMark e)
+    (record-whole (t .count) (e .rec)) (field-whole varName (e .var) refl) (field-whole lowName (e .low) refl) (field-whole highName (e .high) refl)
+    ∙ rw (record-read (t .count) (e .rec) (t .five-or-seven) (t .enough), field-read varName (e .var) (omega arith), field-read lowName (e .low) (omega arith), field-read highName (e .high) (omega arith))
     (mark-read (e .rec) (e .var) (e .low) (e .high) (e .accepted) ∙ range-within e h)
+
+pub entry-written : EntryWritten
+entry-written e h = record { count = recordDigits; five-or-seven = inr refl; enough = omega (arith, h .rec-within); is = refl }
 
 -- What the code has
 
@@ -271,10 +314,10 @@ fields-read s a b c d = rw (a, b, c, d)
 
 -- The two lines of document 02
 
-accepted : entryText (record { rec = 12; var = 5; low = 1; high = 3; accepted = true }) ≡ bytes "rec=00012 var=5 low=1 high=3 mark=accepted"
+accepted : entryText fewerDigits (record { rec = 12; var = 5; low = 1; high = 3; accepted = true }) ≡ bytes "rec=00012 var=5 low=1 high=3 mark=accepted"
 unfolding entryText decimal width widthIn lastDigits
 accepted = refl
 
-opened : entryText (record { rec = 12; var = 5; low = 1; high = 3; accepted = false }) ≡ bytes "rec=00012 var=5 low=1 high=3 mark=open"
+opened : entryText recordDigits (record { rec = 12; var = 5; low = 1; high = 3; accepted = false }) ≡ bytes "rec=0000012 var=5 low=1 high=3 mark=open"
 unfolding entryText decimal width widthIn lastDigits
 opened = refl

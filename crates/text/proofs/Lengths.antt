@@ -1,29 +1,30 @@
 -- How long the lines of the report are: none is longer than 64 bytes. Assumes nothing.
 use mathlib.Core.Path.{_≡_, refl}
 use mathlib.Core.List.{List, _++_, append-assoc}
-use Prim.Native.Nat.{ℕ, _+_, _^_, _≤_, _<_}
+use Prim.Native.Nat.{ℕ, _+_, _*_, _-_, _^_, _≤_, _<_}
 use native.Mathlib.Omega.{arith}
 use lib.ListN.{length, length-append}
 use Rattle.theory.specs.declared.record.Record.{Record}
 use Rattle.theory.specs.declared.answer.Answer.{Answer}
 use Rattle.theory.specs.verdicts.Verdict.{Verdict, Race, Clear, Doubt}
 use Rattle.theory.specs.feeding.Meaning.{Meaning, refuses, takes, judges, meaning, refusalNumber}
-use Rattle.text.specs.Printing.{bytes, lastDigits, decimal}
+use Rattle.text.specs.LineForm.{digits}
+use Rattle.text.specs.Printing.{bytes, lastDigits, decimal, recordDigits}
 use Rattle.text.specs.ReportLines.{accessPart, accessLine, refusedAs, refusedLine, wordFor, lineFor, reportLine}
 use Rattle.text.proofs.Digits.{decimal-fits}
 
--- the lengths of the lines: the words and the numbers of five digits are of fixed length
-pub length-access-part : (number task variable : ℕ) → length (accessPart number task variable) ≡ 20 + length (decimal task) + length (decimal variable)
+-- the lengths of the lines: the words and the record numbers are of fixed length
+pub length-access-part : (number task variable : ℕ) → length (accessPart number task variable) ≡ 15 + recordDigits + length (decimal task) + length (decimal variable)
 unfolding accessPart lastDigits
 length-access-part number task variable = simp length-append (omega arith)
 
 pub length-access-line : (number task variable : ℕ) (verdict : List ℕ) (partner : ℕ)
-    → length (accessLine number task variable verdict partner) ≡ 41 + length (decimal task) + length (decimal variable) + length verdict
+    → length (accessLine number task variable verdict partner) ≡ 31 + 2 * recordDigits + length (decimal task) + length (decimal variable) + length verdict
 unfolding accessLine lastDigits
 length-access-line number task variable verdict partner = simp length-append (omega (arith, length-access-part number task variable))
 
 -- the partner of a Clear access is 0, so that its verdict's words and numbers are one word
-pub clear-line : (number task variable : ℕ) → accessLine number task variable (bytes "clear") 0 ≡ accessPart number task variable ++ bytes " verdict=clear with=00000\n"
+pub clear-line : (number task variable : ℕ) → accessLine number task variable (bytes "clear") 0 ≡ accessPart number task variable ++ bytes " verdict=clear with=0000000\n"
 unfolding accessLine lastDigits
 clear-line number task variable = simp append-assoc refl
 
@@ -39,14 +40,14 @@ refused-fits name line number l h g =
 pub refused-line-fits : (line number : ℕ) → line < 2 ^ 64 → number < 2 ^ 32 → length (refusedLine line number) ≤ 64
 refused-line-fits line number h g = refused-fits (bytes "line=") line number (omega arith) h g
 
--- an access, by a task and a variable of at most nine digits
+-- an access, by a task and a variable that a line can say
 pub access-line-fits : (number task variable : ℕ) (verdict : List ℕ) (partner : ℕ)
-    → task < 10 ^ 9 → variable < 10 ^ 9 → length verdict ≤ 5 → length (accessLine number task variable verdict partner) ≤ 64
+    → task < 10 ^ digits → variable < 10 ^ digits → length verdict ≤ 5 → length (accessLine number task variable verdict partner) ≤ 64
 access-line-fits number task variable verdict partner h g w =
-    omega (arith, length-access-line number task variable verdict partner, decimal-fits 8 task h, decimal-fits 8 variable g)
+    omega (arith, length-access-line number task variable verdict partner, decimal-fits (digits - 1) task h, decimal-fits (digits - 1) variable g)
 
 -- so 64 bytes are room for one
-pub access-room : (at number task variable : ℕ) (verdict : List ℕ) (partner : ℕ) {room : ℕ} → at + 64 ≤ room → task < 10 ^ 9 → variable < 10 ^ 9 → length verdict ≤ 5
+pub access-room : (at number task variable : ℕ) (verdict : List ℕ) (partner : ℕ) {room : ℕ} → at + 64 ≤ room → task < 10 ^ digits → variable < 10 ^ digits → length verdict ≤ 5
     → at + length (accessLine number task variable verdict partner) ≤ room
 access-room at number task variable verdict partner h t v w = omega (arith, access-line-fits number task variable verdict partner t v w)
 
@@ -56,8 +57,8 @@ word-fits Race = omega arith
 word-fits Clear = omega arith
 word-fits Doubt = omega arith
 
--- a line of the report, whatever the answer. With tasks and variables of ten digits an access would take 66 bytes; a line of the text form says at most five.
-pub report-line-fits : (line : ℕ) (r : Record) (a : Answer) → line < 2 ^ 64 → refusalNumber (meaning a) < 2 ^ 32 → r .task < 10 ^ 9 → r .on < 10 ^ 9
+-- a line of the report, whatever the answer. With tasks and variables of eight digits an access would take 66 bytes; a line of the text form says at most five.
+pub report-line-fits : (line : ℕ) (r : Record) (a : Answer) → line < 2 ^ 64 → refusalNumber (meaning a) < 2 ^ 32 → r .task < 10 ^ digits → r .on < 10 ^ digits
     → length (reportLine line r a) ≤ 64
 report-line-fits line r a h n t v = fits (meaning a) n
   where

@@ -29,8 +29,8 @@ a-digit b e = let (f, g) = and-true (leb 48 b) (leb b 57) e in record { low = le
 pub digit-fits : (v b i : ℕ) → v < 10 ^ i → Digit b → v * 10 + (b - 48) < 10 ^ (i + 1)
 digit-fits v b i h d = rw (add-one i, pow-suc 10 i) (omega arith)
 
-pub power-fits : (i : ℕ) → i ≤ digits → 10 ^ i ≤ 10 ^ digits
-power-fits i h = pow-le-pow-right {n = 10} (omega arith) h
+pub power-fits : (i k : ℕ) → i ≤ k → 10 ^ i ≤ 10 ^ k
+power-fits i k h = pow-le-pow-right {n = 10} (omega arith) h
 
 -- Reading from place i on
 
@@ -140,7 +140,7 @@ let-through true x n e = (refl, e)
 let-through false x n e = absurd (let z : _≡_ {A = ℕ} 0 1 = cc in omega arith)
 
 -- what was read before the digits is what stands above them
-read-above : (v n : ℕ) (s : List ℕ) → readDigits v s ≡ Number.Value n → n / 10 ^ length s ≡ v
+pub read-above : (v n : ℕ) (s : List ℕ) → readDigits v s ≡ Number.Value n → n / 10 ^ length s ≡ v
 unfolding readDigits
 read-above v n [] e = let q : v ≡ n = cc in div-one n ∙ sym q
 read-above v n (b ∷ s) e =

@@ -28,7 +28,7 @@ use Rattle.text.specs.declared.entry.Entry.{Entry}
 use Rattle.text.specs.declared.entry.EntryLine.{EntryLine}
 use Rattle.text.specs.LineForm.{parseOf}
 use Rattle.text.specs.Stream.{linesSaid, linesAfter}
-use Rattle.text.specs.EntryForm.{InForm, entryText, entryOf}
+use Rattle.text.specs.EntryForm.{InForm, TextOf, entryOf}
 use Rattle.text.specs.ReportLines.{refusedLine, lineFor}
 use Rattle.text.specs.Report.{saidBeside, saidFor, stateAfter, records, reportOf}
 use Rattle.text.specs.Entries.{saidForEntry, controlWith, entries}
@@ -68,12 +68,12 @@ module _ {e : Entry} (control : List ℕ) (f : InForm e) where
       rw (lt-ltb (e .var) Limits.variables (f .var-within), lt-ltb (e .low) Limits.tasks l, lt-ltb (e .high) Limits.tasks (f .high-within), q)
 
 -- what a line is, by what it says
-entry-form : (line : List ℕ) {e : Entry} → entryOf line ≡ EntryLine.Entry e → InForm e × (line ≡ entryText e)
+entry-form : (line : List ℕ) {e : Entry} → entryOf line ≡ EntryLine.Entry e → InForm e × (TextOf e line)
 entry-form line {e} q = (only-in-form line e q, only-entry-text line e q)
 
-not-form : (line : List ℕ) → entryOf line ≡ EntryLine.Nothing → (e : Entry) → InForm e → ¬ (line ≡ entryText e)
+not-form : (line : List ℕ) → entryOf line ≡ EntryLine.Nothing → (e : Entry) → InForm e → ¬ (TextOf e line)
 not-form line q e f p =
-    let z : EntryLine.Nothing ≡ EntryLine.Entry e = sym q ∙ (ap entryOf p ∙ entry-taken e f) in
+    let z : EntryLine.Nothing ≡ EntryLine.Entry e = sym q ∙ entry-taken e f line p in
     absurd (let w : _≡_ {A = ℕ} 0 1 = cc in omega arith)
 
 -- one line: what it gets, and that the table keeps its size
@@ -85,7 +85,7 @@ one-read : (n : ℕ) (control line : List ℕ) → length control ≡ controlCel
 one-read n control line size EntryLine.Nothing q = record { got = no-entry (not-form line q); size = size }
 one-read n control line size (EntryLine.Entry e) q = let (f, p) = entry-form line q in decided f p (full control) refl
   where
-    decided : InForm e → line ≡ entryText e → (b : Bool) → full control ≡ b → OneRead n control line (EntryLine.Entry e)
+    decided : InForm e → TextOf e line → (b : Bool) → full control ≡ b → OneRead n control line (EntryLine.Entry e)
     decided f p true z = record { got = rw (left-out control f z, z) (no-room f p z); size = rw (left-out control f z) size }
     decided f p false z =
         record {

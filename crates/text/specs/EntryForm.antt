@@ -1,7 +1,8 @@
 -- The form of an entry of the faults already accepted (document 02, F-7): what a line says as an entry, and the text of an entry.
 use mathlib.Core.Path.{_≡_}
-use Prim.Native.Nat.{ℕ, zero, suc, _≤_, _<_}
+use Prim.Native.Nat.{ℕ, zero, suc, _^_, _≤_, _<_}
 use mathlib.Core.Bool.{Bool, true, false, cond, _&&_, _||_}
+use mathlib.Core.Logic.{_⊎_}
 use mathlib.Core.List.{List, _++_}
 use lib.ListN.{length}
 use lib.Dec.{leb, ltb, eqb}
@@ -11,7 +12,7 @@ use Rattle.text.specs.declared.entry.EntryLine.{EntryLine}
 use Rattle.text.specs.declared.number.Number.{Number}
 use Rattle.text.specs.Bytes.{upTo, after, isWord}
 use Rattle.text.specs.LineForm.{space, readDigits, fieldBy, fieldOf, longest}
-use Rattle.text.specs.Printing.{bytes, decimal, recordDigits, fiveDigits}
+use Rattle.text.specs.Printing.{bytes, lastDigits, decimal, recordDigits}
 
 -- Words
 
@@ -42,13 +43,20 @@ abbrev pub markWord : Bool → List ℕ
 markWord true = bytes "mark=accepted"
 markWord false = bytes "mark=open"
 
--- the number that k digits say, leading zeros included
-unfoldable pub digitsIn : ℕ → List ℕ → Number
-digitsIn k s = cond (eqb (length s) k) (readDigits 0 s) Number.Nothing
+-- entries "are read with five or seven digits" (F-9): those that F-7 had, and those of a report
+abbrev pub fewerDigits : ℕ
+fewerDigits = 5
 
--- the number of a field `rec=DDDDD`
+unfoldable pub recordWide : ℕ → Bool
+recordWide k = eqb k fewerDigits || eqb k recordDigits
+
+-- the number that so many digits say, leading zeros included
+unfoldable pub readRecord : List ℕ → Number
+readRecord s = cond (recordWide (length s)) (readDigits 0 s) Number.Nothing
+
+-- the number of a field `rec=DDDDD` or `rec=DDDDDDD`
 unfoldable pub recordOf : List ℕ → Number
-recordOf s = fieldBy (digitsIn recordDigits) recName s
+recordOf s = fieldBy readRecord recName s
 
 -- Entries
 
@@ -82,10 +90,10 @@ entryOf s =
     entryBy (recordOf (wordAfter 0 s)) (fieldOf varName (wordAfter 1 s)) (fieldOf lowName (wordAfter 2 s)) (fieldOf highName (wordAfter 3 s))
     (afterSpaces 4 s)
 
--- the text of an entry, without its LF: `rec=00012 var=5 low=1 high=3 mark=accepted`, or `.. mark=open`
-unfoldable pub entryText : Entry → List ℕ
-entryText e =
-    bytes "rec=" ++ fiveDigits (e .rec) ++ bytes " var=" ++ decimal (e .var) ++ bytes " low=" ++ decimal (e .low) ++ bytes " high=" ++ decimal (e .high)
+-- the text of an entry with its record number in k digits, without its LF: `rec=00012 var=5 low=1 high=3 mark=accepted`, or `.. mark=open`
+unfoldable pub entryText : ℕ → Entry → List ℕ
+entryText k e =
+    bytes "rec=" ++ lastDigits k (e .rec) ++ bytes " var=" ++ decimal (e .var) ++ bytes " low=" ++ decimal (e .low) ++ bytes " high=" ++ decimal (e .high)
     ++ bytes " " ++ markWord (e .accepted)
 
 -- an entry of the form: the number of a record that there can be, a variable, and two tasks, the lower first
@@ -96,15 +104,26 @@ pub record InForm (e : Entry) : Type 0 where
   pub low-lower : e .low < e .high
   pub high-within : e .high < tasks
 
+-- the line is a text of the entry: with five digits, where they are enough for its record number, or with seven
+pub record TextOf (e : Entry) (line : List ℕ) : Type 0 where
+  pub count : ℕ
+  pub five-or-seven : (count ≡ fewerDigits) ⊎ (count ≡ recordDigits)
+  pub enough : e .rec < 10 ^ count
+  pub is : line ≡ entryText count e
+
 -- What is claimed of the form
 
--- the text of an entry is taken, as that entry
+-- each text of an entry is taken, as that entry, so that both "mean the same number"
 abbrev pub EntryTaken : Type 0
-EntryTaken = (e : Entry) → InForm e → entryOf (entryText e) ≡ EntryLine.Entry e
+EntryTaken = (e : Entry) → InForm e → (line : List ℕ) → TextOf e line → entryOf line ≡ EntryLine.Entry e
 
--- nothing else is: what is taken is the text of the entry
+-- each entry has one, up to the limit
+abbrev pub EntryWritten : Type 0
+EntryWritten = (e : Entry) → InForm e → TextOf e (entryText recordDigits e)
+
+-- nothing else is: what is taken is a text of the entry
 abbrev pub OnlyEntryText : Type 0
-OnlyEntryText = (s : List ℕ) (e : Entry) → entryOf s ≡ EntryLine.Entry e → s ≡ entryText e
+OnlyEntryText = (s : List ℕ) (e : Entry) → entryOf s ≡ EntryLine.Entry e → TextOf e s
 
 -- and of an entry of the form
 abbrev pub OnlyInForm : Type 0

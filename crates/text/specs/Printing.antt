@@ -33,9 +33,9 @@ width n = widthIn (suc n) n
 unfoldable pub decimal : ℕ → List ℕ
 decimal n = lastDigits (width n) n
 
--- a record number: five digits, leading zeros included
+-- "`rec` and `with` have seven digits", leading zeros included
 abbrev pub recordDigits : ℕ
-recordDigits = 5
+recordDigits = 7
 
-abbrev pub fiveDigits : ℕ → List ℕ
-fiveDigits n = lastDigits recordDigits n
+abbrev pub recordText : ℕ → List ℕ
+recordText n = lastDigits recordDigits n

@@ -2,7 +2,7 @@
 use Prim.Native.Nat.{ℕ}
 use mathlib.Core.Bool.{Bool, true, false}
 use mathlib.Core.List.{List, [], _++_}
-use Rattle.text.specs.Printing.{bytes, decimal, fiveDigits}
+use Rattle.text.specs.Printing.{bytes, decimal, recordText}
 use Rattle.theory.specs.declared.record.Record.{Record}
 use Rattle.theory.specs.declared.answer.Answer.{Answer}
 use Rattle.theory.specs.declared.excuse.Excuse.{Excuse}
@@ -12,12 +12,12 @@ use Rattle.theory.specs.feeding.Meaning.{Meaning, refuses, takes, judges, meani
 -- which access it is: "rec=00002 task=0 var=5", by its record number, task and variable
 unfoldable pub accessPart : ℕ → ℕ → ℕ → List ℕ
 accessPart number task variable =
-    bytes "rec=" ++ fiveDigits number ++ bytes " task=" ++ decimal task ++ bytes " var=" ++ decimal variable
+    bytes "rec=" ++ recordText number ++ bytes " task=" ++ decimal task ++ bytes " var=" ++ decimal variable
 
 -- an accepted access: "rec=00002 task=0 var=5 verdict=clear with=00000", with the verdict's word and the partner's record number
 unfoldable pub accessLine : ℕ → ℕ → ℕ → List ℕ → ℕ → List ℕ
 accessLine number task variable verdict partner =
-    accessPart number task variable ++ bytes " verdict=" ++ verdict ++ bytes " with=" ++ fiveDigits partner ++ bytes "\n"
+    accessPart number task variable ++ bytes " verdict=" ++ verdict ++ bytes " with=" ++ recordText partner ++ bytes "\n"
 
 -- a refused line of a text of which each is called so: by its line number and the refusal's number
 unfoldable pub refusedAs : List ℕ → ℕ → ℕ → List ℕ

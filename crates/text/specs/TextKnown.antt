@@ -13,7 +13,7 @@ use Rattle.text.specs.declared.entry.Entry.{Entry}
 use Rattle.text.specs.declared.entry.EntryLine.{EntryLine}
 use Rattle.text.specs.Lines.{linesOf}
 use Rattle.text.specs.Stream.{linesSaid, linesAfter, pending, piecesSaid, piecesAfter, wholeOf}
-use Rattle.text.specs.EntryForm.{InForm, entryText, entryOf}
+use Rattle.text.specs.EntryForm.{InForm, TextOf, entryOf}
 use Rattle.text.specs.ReportLines.{accessLine, raceWord, refusedEntry}
 use Rattle.text.specs.Report.{records, reportOf}
 use Rattle.text.specs.Entries.{entries}
@@ -23,11 +23,11 @@ use Rattle.text.specs.Entries.{entries}
 -- `EntryGot n control line control′ said`: what line number n of the file got: it left the table control′, and `said` is printed for it
 pub data EntryGot (n : ℕ) (control : List ℕ) (line : List ℕ) : List ℕ → List ℕ → Type 0 where
   -- "12 for an entry outside this form or its ranges", which "is left out"
-  no-entry : ((e : Entry) → InForm e → ¬ (line ≡ entryText e)) → EntryGot n control line control (refusedEntry n 12)
+  no-entry : ((e : Entry) → InForm e → ¬ (TextOf e line)) → EntryGot n control line control (refusedEntry n 12)
   -- "13 for an entry when 200 have been taken in"
-  no-room : {e : Entry} → InForm e → line ≡ entryText e → full control ≡ true → EntryGot n control line control (refusedEntry n 13)
+  no-room : {e : Entry} → InForm e → TextOf e line → full control ≡ true → EntryGot n control line control (refusedEntry n 13)
   -- else it is taken in, and nothing is printed
-  took-in : {e : Entry} → InForm e → line ≡ entryText e → full control ≡ false → EntryGot n control line (entered (e .var) (e .low) (e .high) (e .accepted) control) []
+  took-in : {e : Entry} → InForm e → TextOf e line → full control ≡ false → EntryGot n control line (entered (e .var) (e .low) (e .high) (e .accepted) control) []
 
 -- each line is answered, once and in order
 pub data EntriesGot : ℕ → List ℕ → List (List ℕ) → List ℕ → List ℕ → Type 0 where

@@ -7,7 +7,7 @@ pub const FLAGS: u32 = 32;
 
 pub const VARIABLES: u32 = 64;
 
-pub const RECORDS: u32 = 60_000;
+pub const RECORDS: u32 = 4_000_000;
 
 // So many entries of accepted faults are taken in.
 pub const ENTRIES_MOST: u32 = 200;

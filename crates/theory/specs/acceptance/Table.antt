@@ -102,7 +102,7 @@ rows s r =
     ∷ (3 when (isAct r && leb (kindSeries (r .kind)) (r .on)))
     -- mask 0 or above 65,535
     ∷ (4 when (isMark r && (eqb (r .on) 0 || leb (2 ^ tasks) (r .on))))
-    -- 60,000 records are already accepted
+    -- 4,000,000 records are already accepted
     ∷ (5 when leb records (s .count))
     -- acting task not live
     ∷ (6 when (isAct r && not (s .live (r .task))))

@@ -19,7 +19,7 @@ variables = 64
 
 -- a recording has at most this many records
 abbrev pub records : ℕ
-records = 60_000
+records = 4_000_000
 
 -- so many entries of accepted faults are taken in
 abbrev pub entries : ℕ

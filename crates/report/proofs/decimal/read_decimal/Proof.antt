@@ -1,12 +1,13 @@
 -- `report::decimal::read_decimal`: a plain part is read. Assumes nothing.
 use mathlib.Core.Path.{sym, _∙_}
+use native.Mathlib.Omega.{arith}
 use borrow.Author.Needs.{needs}
 use Rattle.text.proofs.Numerals.{plain-fits, decimal-plain, decimal-other}
 use Rattle.report.proofs.decimal.read_decimal.Statement.{statement}
 use Rattle.report.proofs.decimal.read_decimal.Tie as tie
 
 read-digits-requires : tie.Need-read-digits-requires
-read-digits-requires c κs = plain-fits _ (sym (c .before .is-plain .ensures) ∙ c .if1 .taken)
+read-digits-requires c κs = omega (arith, plain-fits _ (sym (c .before .is-plain .ensures) ∙ c .if1 .taken))
 
 returns : tie.Need-returns
 returns c = c .read-digits .ensures ∙ sym (decimal-plain _ (sym (c .before .before .is-plain .ensures) ∙ c .before .if1 .taken))

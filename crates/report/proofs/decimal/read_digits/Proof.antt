@@ -6,7 +6,8 @@ use native.Mathlib.Omega.{arith}
 use lib.ListN.{length, getD, drop}
 use borrow.Author.Needs.{needs}
 use borrow.Author.Tests.{not-true, not-false}
-use Rattle.text.specs.LineForm.{digits, isDigit, readDigits}
+use Rattle.text.specs.LineForm.{isDigit, readDigits}
+use Rattle.text.specs.Printing.{recordDigits}
 use Rattle.text.proofs.Numerals.{Digit, a-digit, digit-fits, power-fits, read-digit, read-other, read-all}
 use Rattle.report.proofs.decimal.read_digits.Statement.{statement}
 use Rattle.report.proofs.decimal.read_digits.Tie as tie
@@ -37,8 +38,8 @@ longer : (c : tie.Else1 Inv-loop μ-loop) → let at = c .before .before .before
     at .loop .v * 10 + (getD (at .before .before .args .s .now) (at .loop .i) 0 - 48) < 10 ^ (at .loop .i + 1)
 longer c = let at = c .before .before .before .before in digit-fits (at .loop .v) _ (at .loop .i) (at .loop .inv .1) (digit c)
 
-within : (c : tie.Else1 Inv-loop μ-loop) → 10 ^ (c .before .before .before .before .loop .i + 1) ≤ 10 ^ digits
-within c = power-fits _ (omega arith)
+within : (c : tie.Else1 Inv-loop μ-loop) → 10 ^ (c .before .before .before .before .loop .i + 1) ≤ 10 ^ recordDigits
+within c = power-fits _ recordDigits (omega arith)
 
 mul-v : tie.Need-mul-v Inv-loop μ-loop
 mul-v c = omega (arith, longer c, within c)

@@ -32,9 +32,9 @@ put-bytes-requires-3 c κs =
     let at-start = c .before .before .before .before .before .before .before .before .before .before .before .before .before .before .before .before .before in
     let a = at-start .args in omega (arith, length-access-part (a .number) (a .r .task) (a .r .on), length-access-line (a .number) (a .r .task) (a .r .on) (a .verdict .now) (a .partner))
 
-put-five-requires : tie.Need-put-five-requires
+put-record-requires : tie.Need-put-record-requires
 unfolding lastDigits
-put-five-requires c κs =
+put-record-requires c κs =
     let at-start = c .before .before .before .before .before .before .before .before .before .before .before .before .before .before .before .before .before .before .before .before .before in
     let a = at-start .args in omega (arith, length-access-part (a .number) (a .r .task) (a .r .on), length-access-line (a .number) (a .r .task) (a .r .on) (a .verdict .now) (a .partner))
 
@@ -52,10 +52,10 @@ returns c =
     let a = b .before .before .before .before in
     let z = a .before .before .before .before .before in
     z .put-access-part .ensures then a .put-bytes .ensures then b .put-bytes2 .ensures then d .put-bytes3 .ensures
-    then e .put-five .ensures then f .put-bytes4 .ensures
+    then e .put-record .ensures then f .put-bytes4 .ensures
 
 pub put-access-line-spec : {M : Type 1} → statement M
 put-access-line-spec =
     tie.close (tie.spec
     put-access-part-requires (λ c. search needs) put-bytes-requires put-bytes-requires-2 (λ c. search needs)
-    put-bytes-requires-3 put-five-requires (λ c. search needs) put-bytes-requires-4 (λ c. search needs) returns)
+    put-bytes-requires-3 put-record-requires (λ c. search needs) put-bytes-requires-4 (λ c. search needs) returns)
