@@ -14,3 +14,5 @@ pub mod totals
 pub mod entries
 -- The lazy reckoning
 pub mod lazy
+-- Which controller could have settled it
+pub mod settling
