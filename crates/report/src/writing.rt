@@ -6,7 +6,7 @@ use theory::Control;
 use theory::Excuse;
 use theory::History;
 use theory::Record;
-ghost use Prim.Native.Nat.{_+_, _<_, _≤_, _^_};
+ghost use Prim.Native.Nat.{_+_, _/_, _<_, _≤_, _^_};
 ghost use mathlib.Core.Path.{_≡_};
 ghost use mathlib.Core.Bool.{cond};
 ghost use mathlib.Core.List.{[], _∷_};
@@ -82,19 +82,27 @@ fn put_decimal(out: &mut [u8], at: usize, n: u64) -> usize
     put_long(out, at, n)
 }
 
+// The last digit of a number whose tenth is at hand: no other division is needed for it.
+fn put_last(out: &mut [u8], at: usize, n: u32, tenth: u32) -> usize
+    requires { ⌜ (at < length (now out)) × (tenth ≡ n / 10) ⌝ }
+    ensures { λ r. ⌜ Wrote (now (out .entry)) at (lastDigit n ∷ []) (now (out .exit)) r ⌝ }
+{
+    out[at] = (n - tenth * 10) as u8 + b'0';
+    at + 1
+}
+
 // A record number, leading zeros included.
 fn put_record(out: &mut [u8], at: usize, n: u32) -> usize
     requires { ⌜ at + recordDigits ≤ length (now out) ⌝ }
     ensures { λ r. ⌜ Wrote (now (out .entry)) at (recordText n) (now (out .exit)) r ⌝ }
 {
-    let n = n as u64;
-    let second = put_digit(out, at, n / 1_000_000);
-    let third = put_digit(out, second, n / 100_000);
-    let fourth = put_digit(out, third, n / 10_000);
-    let fifth = put_digit(out, fourth, n / 1000);
-    let sixth = put_digit(out, fifth, n / 100);
-    let seventh = put_digit(out, sixth, n / 10);
-    put_digit(out, seventh, n)
+    let second = put_last(out, at, n / 1_000_000, n / 10_000_000);
+    let third = put_last(out, second, n / 100_000, n / 1_000_000);
+    let fourth = put_last(out, third, n / 10_000, n / 100_000);
+    let fifth = put_last(out, fourth, n / 1000, n / 10_000);
+    let sixth = put_last(out, fifth, n / 100, n / 1000);
+    let seventh = put_last(out, sixth, n / 10, n / 100);
+    put_last(out, seventh, n, n / 10)
 }
 
 // The first part of an access's line, up to its variable.

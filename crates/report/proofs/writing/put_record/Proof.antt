@@ -15,8 +15,8 @@ returns c =
     let a = b .before .before .before .before in
     let z = a .before .before .before .before in
     rw (record-digits _)
-    (z .put-digit .ensures then a .put-digit2 .ensures then b .put-digit3 .ensures then d .put-digit4 .ensures
-    then e .put-digit5 .ensures then f .put-digit6 .ensures then g .put-digit7 .ensures)
+    (z .put-last .ensures then a .put-last2 .ensures then b .put-last3 .ensures then d .put-last4 .ensures
+    then e .put-last5 .ensures then f .put-last6 .ensures then g .put-last7 .ensures)
 
 pub put-record-spec : {M : Type 1} → statement M
 put-record-spec =
