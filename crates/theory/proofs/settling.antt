@@ -1,2 +1,3 @@
 -- F-10: what the two sides do together; when home can force Clear; that the tables tell it; and the claim
 pub mod Sides
+pub mod Forcing

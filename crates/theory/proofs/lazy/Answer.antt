@@ -19,11 +19,11 @@ use Rattle.theory.specs.acceptance.Table.{refusal, appendUnless, extende
 use Rattle.theory.specs.acceptance.Control.{controlRefusal}
 use Rattle.theory.specs.verdicts.Verdict.{Latest}
 use Rattle.theory.specs.feeding.Step.{freshControl, freshSets}
-use Rattle.theory.specs.feeding.Feeding.{refusalsAfter}
+use Rattle.theory.specs.feeding.Feeding.{refusalsAfter, firstRefused, fedRefusal}
 use Rattle.theory.specs.feeding.Paths.{sets, leftBy, Retained, RetainedApart}
 use Rattle.theory.specs.lazy.Walk.{Walks, Counted, WalkOf, no-pair, no-walk, walk, Between, pair}
 use Rattle.theory.specs.lazy.Fold.{Lazy, wordAt, byEnd, column, pairsOf, walkBy, told, question, answeredAt, lazyEnd, Run, followed, freshLazy, lazily}
-use Rattle.theory.specs.lazy.Answer.{firstRefused, fedRefusal, Told, AnswersLazily}
+use Rattle.theory.specs.lazy.Answer.{Told, AnswersLazily}
 use Rattle.theory.proofs.basics.Reflects.{Reflects, right, wrong, by-test, equal, at-most}
 use Rattle.theory.proofs.order.Ops.{event-act, opOf-kind, op-of, on-series, access-on, access-tests}
 use Rattle.theory.proofs.order.Numbered.{kind-above}

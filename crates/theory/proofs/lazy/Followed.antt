@@ -15,9 +15,8 @@ use Rattle.theory.specs.history.History.{slots}
 use Rattle.theory.specs.tables.Rows.{hub}
 use Rattle.theory.specs.tables.Reckonings.{wordBits}
 use Rattle.theory.specs.feeding.Step.{freshControl}
-use Rattle.theory.specs.feeding.Feeding.{refusalsAfter}
+use Rattle.theory.specs.feeding.Feeding.{refusalsAfter, firstRefused}
 use Rattle.theory.specs.lazy.Fold.{Lazy, column, recorded, Run, runOf, followed, freshLazy}
-use Rattle.theory.specs.lazy.Answer.{firstRefused}
 use Rattle.theory.proofs.order.Ops.{event-act, no-mark, on-series}
 use Rattle.theory.proofs.order.Places.{nowhere}
 use Rattle.theory.proofs.acceptance.ControlTable.{same-refusal}

@@ -12,6 +12,7 @@ use Rattle.theory.specs.fillings.Completion.{Filler, filler, Filled, don
 use Rattle.theory.specs.verdicts.Verdict.{Racy}
 use Rattle.theory.specs.settling.Forcing.{isHome, HomeRecord, home-record, FarRecord, far-record, HomeFilled, Among, nothing-left, homes, fars, Adds, Sides}
 use Rattle.theory.proofs.basics.Reflects.{Reflects, right, wrong, by-test}
+use Rattle.theory.proofs.order.Tests.{every-map}
 use Rattle.theory.proofs.order.Leads.{Leads, over, via}
 use Rattle.theory.proofs.order.Places.{Ends, ends, onward, Occurs, first, next, at-ends, at-occurs, leads-path, path-leads}
 use Rattle.theory.proofs.fillings.Between.{ends-behind, occurs-behind, map-filled, place-map}
@@ -89,12 +90,8 @@ module _ (home : ℕ) where
       (gs ++ hs, fill y h, (b, a))
 
   -- far puts nothing
-  every-filler : {mask : ℕ} {gs : List Event} → Every (HomeRecord home mask) gs → Every (Filler mask) gs
-  every-filler no-more = no-more
-  every-filler (and-more y ys) = and-more (home-filler y) (every-filler ys)
-
   pub home-alone : {es hs : List Event} → HomeFilled home es hs → Completion es hs
-  home-alone h = map-filled (λ mask gs. every-filler) h
+  home-alone h = map-filled (λ mask gs. every-map (λ g. home-filler)) h
 
   pub alone-adds : {es hs : List Event} (h : HomeFilled home es hs) → Adds home h (home-alone h)
   unfolding home-alone map-filled
@@ -104,7 +101,7 @@ module _ (home : ℕ) where
 
   pub alone-place : {es hs : List Event} (h : HomeFilled home es hs) (i : ℕ) → place (home-alone h) i ≡ place h i
   unfolding home-alone
-  alone-place h i = place-map (λ mask gs. every-filler) h i
+  alone-place h i = place-map (λ mask gs. every-map (λ g. home-filler)) h i
 
 pub sides : Sides
 sides =

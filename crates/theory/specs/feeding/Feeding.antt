@@ -5,6 +5,7 @@ use mathlib.Core.Path.{_≡_}
 use mathlib.Core.Bool.{true, false, cond}
 use mathlib.Core.Logic.{_↔_, _≢_}
 use mathlib.Core.List.{List, [], _∷_, _++_, map}
+use lib.Dec.{eqb}
 use lib.ListN.{length}
 use Rattle.theory.specs.declared.record.Record.{Record}
 use Rattle.theory.specs.declared.answer.Answer.{Answer}
@@ -97,6 +98,15 @@ FedDemand2 answers = EachAccess answers (λ es k v w. Unmarked es → ((v ≡ Ra
 abbrev pub refusalsAfter : List Event → List Record → List ℕ
 refusalsAfter es [] = []
 refusalsAfter es (r ∷ rs) = refusal es r ∷ refusalsAfter (appendUnless es r (refusal es r)) rs
+
+-- the first of them that is a refusal; 0 where there is none
+abbrev pub firstRefused : List ℕ → ℕ
+firstRefused [] = 0
+firstRefused (n ∷ ns) = cond (eqb n 0) (firstRefused ns) n
+
+-- "the refusal number of its first refused record", of a list that is fed from a fresh state
+abbrev pub fedRefusal : List Record → ℕ
+fedRefusal rs = firstRefused (refusalsAfter [] rs)
 
 abbrev pub FedAcceptance : (List Record → List Answer) → Type 0
 FedAcceptance answers =
