@@ -1,5 +1,6 @@
 -- One step simulates the recording, so every demand holds of feeding; paths and their match
 pub mod Simulation
+pub mod Ending
 pub mod Cases
 pub mod Demanded
 pub mod Paths

@@ -1,3 +1,5 @@
 -- F-10: what the two sides do together; when home can force Clear; that the tables tell it; and the claim
 pub mod Sides
 pub mod Forcing
+pub mod Tables
+pub mod Answer

@@ -45,7 +45,7 @@ pub data Shape (es : List Event) : Record → Type 0 where
   a-mark : (t n : ℕ) → MarkAllowed (standing es) n → Shape es (record { kind = lossMark; task = t; on = n })
 
 -- a mask that is not empty names a task
-some-bit : (k n : ℕ) → ¬ (n ≡ 0) → n < 2 ^ k → (t : ℕ) × (t < k) × (n / 2 ^ t % 2 ≡ 1)
+pub some-bit : (k n : ℕ) → ¬ (n ≡ 0) → n < 2 ^ k → (t : ℕ) × (t < k) × (n / 2 ^ t % 2 ≡ 1)
 some-bit zero n h l = absurd (h (omega arith))
 some-bit (suc k) n h l = decided (n % 2) refl (some-bit k (n / 2))
   where

@@ -8,18 +8,18 @@ use native.Mathlib.Omega.{arith}
 use borrow.Author.Tests.{lt-ltb, le-ltb}
 use lib.Bits.{bitAnd}
 use lib.Dec.{T}
-use lib.ListN.{length, length-append, getD, take}
+use lib.ListN.{length, length-append, getD}
 use Rattle.theory.specs.declared.record.Record.{Record}
 use Rattle.theory.specs.declared.masks.Masks.{Masks}
 use Rattle.theory.specs.order.Limits.{tasks, variables}
 use Rattle.theory.specs.order.Recording.{Op, read, Event, act, ActsIn, acts, kind, kinds, lossMark, eventOf, isAccess, kindAccesses, accesses}
 use Rattle.theory.specs.order.Path.{HappensBefore, Conflict, conflict}
 use Rattle.theory.specs.fillings.Completion.{bit}
-use Rattle.theory.specs.acceptance.Table.{refusal, appendUnless, extended, recording}
+use Rattle.theory.specs.acceptance.Table.{refusal, extended, recording}
 use Rattle.theory.specs.acceptance.Control.{controlRefusal}
 use Rattle.theory.specs.verdicts.Verdict.{Latest}
 use Rattle.theory.specs.feeding.Step.{freshControl, freshSets}
-use Rattle.theory.specs.feeding.Feeding.{refusalsAfter, firstRefused, fedRefusal}
+use Rattle.theory.specs.feeding.Feeding.{fedRefusal}
 use Rattle.theory.specs.feeding.Paths.{sets, leftBy, Retained, RetainedApart}
 use Rattle.theory.specs.lazy.Walk.{Walks, Counted, WalkOf, no-pair, no-walk, walk, Between, pair}
 use Rattle.theory.specs.lazy.Fold.{Lazy, wordAt, byEnd, column, pairsOf, walkBy, told, question, answeredAt, lazyEnd, Run, followed, freshLazy, lazily}
@@ -33,12 +33,13 @@ use Rattle.theory.proofs.verdicts.Latest.{Final}
 use Rattle.theory.proofs.feeding.Simulation.{Shape, an-act, a-mark, shape-of, RepresentsSets, after-all, sets-simulate}
 use Rattle.theory.proofs.feeding.Paths.{set-paths}
 use Rattle.theory.proofs.feeding.Asked.{access-op, sets-tell}
+use Rattle.theory.proofs.feeding.Ending.{orElse, with-last, first-records, last-record, Snoc, empty, snoc, snoc-of}
 use Rattle.theory.proofs.lazy.Columns.{low-bit, and-bit, sum-walks, walks-least}
 use Rattle.theory.proofs.lazy.Longer.{pair-final, final-one, counted-old, counted-fewer, circuit-end}
 use Rattle.theory.proofs.lazy.Tracks.{StandsFor, Tracks, path-own}
 use Rattle.theory.proofs.lazy.Passed.{access-plain}
 use Rattle.theory.proofs.lazy.Steps.{asked-for, Lazily}
-use Rattle.theory.proofs.lazy.Followed.{Holds, Over, follows-list, fresh-holds, first-after}
+use Rattle.theory.proofs.lazy.Followed.{Holds, Over, follows-list, fresh-holds}
 
 -- What is told of an access at the end
 
@@ -221,56 +222,12 @@ asks-of q = decided (accesses (q .kind)) refl (at-most (suc (q .task)) tasks) (a
 
 -- A list with one record more
 
--- the first number, or the second where that is 0
-abbrev orElse : ℕ → ℕ → ℕ
-orElse zero k = k
-orElse (suc n) k = suc n
-
--- the refusal of the first refused record of a list with q behind it
-with-last : (rs : List Record) (es : List Event) (q : Record) →
-    firstRefused (refusalsAfter es (rs ++ (q ∷ []))) ≡ orElse (firstRefused (refusalsAfter es rs)) (refusal (extended es rs) q)
-with-last [] es q = alone (refusal es q)
-  where
-    alone : (n : ℕ) → firstRefused (n ∷ []) ≡ n
-    alone zero = refl
-    alone (suc n) = first-after (suc n) [] (λ e. omega arith)
-with-last (r ∷ rs) es q = of (refusal es r) (λ es. with-last rs es q)
-  where
-    of : (n : ℕ) →
-        ((es : List Event) → firstRefused (refusalsAfter es (rs ++ (q ∷ []))) ≡ orElse (firstRefused (refusalsAfter es rs)) (refusal (extended es rs) q)) →
-        firstRefused (n ∷ refusalsAfter (appendUnless es r n) (rs ++ (q ∷ [])))
-        ≡ orElse (firstRefused (n ∷ refusalsAfter (appendUnless es r n) rs)) (refusal (extended (appendUnless es r n) rs) q)
-    of zero rest = rest (appendUnless es r zero)
-    of (suc n) rest =
-        rw (first-after (suc n) (refusalsAfter (appendUnless es r (suc n)) (rs ++ (q ∷ []))) (λ e. omega arith), first-after (suc n) (refusalsAfter (appendUnless es r (suc n)) rs) (λ e. omega arith))
-
 -- what is answered for it is asked of its last record
 lazily-last : (rs : List Record) (q : Record) → lazily (rs ++ (q ∷ [])) ≡ lazyEnd rs q
 lazily-last [] q = refl
 lazily-last (r ∷ rs) q =
     let e : length (rs ++ (q ∷ [])) ≡ suc (length rs) = omega (arith, length-append rs (q ∷ [])) in
-    rw (e, firsts rs, last rs)
-  where
-    firsts : (rs : List Record) → take (length rs) (rs ++ (q ∷ [])) ≡ rs
-    firsts [] = refl
-    firsts (x ∷ rs) = ap (λ (l : List Record). x ∷ l) (firsts rs)
-
-    last : (rs : List Record) → getD (rs ++ (q ∷ [])) (length rs) r ≡ q
-    last [] = refl
-    last (x ∷ rs) = last rs
-
--- a list is empty, or has a last record
-pub data Snoc : List Record → Type 0 where
-  empty : Snoc []
-  snoc : (rs : List Record) (q : Record) → Snoc (rs ++ (q ∷ []))
-
-snoc-of : (rs : List Record) → Snoc rs
-snoc-of [] = empty
-snoc-of (r ∷ rs) = of (snoc-of rs)
-  where
-    of : {rs : List Record} → Snoc rs → Snoc (r ∷ rs)
-    of empty = snoc [] r
-    of (snoc rs q) = snoc (r ∷ rs) q
+    rw (e, first-records rs q, last-record r rs q)
 
 -- The claim
 

@@ -3,7 +3,6 @@ use mathlib.Core.Path.{_≡_, refl, sym, subst}
 use mathlib.Core.List.{List, [], _∷_, _++_}
 use Prim.Native.Nat.{ℕ, zero, suc, _<_}
 use native.Mathlib.Omega.{arith}
-use borrow.Author.Tests.{ne-eqb}
 use lib.Dec.{T}
 use lib.ListN.{replicate, length-replicate}
 use Rattle.theory.specs.declared.record.Record.{Record}
@@ -22,13 +21,10 @@ use Rattle.theory.proofs.order.Places.{nowhere}
 use Rattle.theory.proofs.acceptance.ControlTable.{same-refusal}
 use Rattle.theory.proofs.fillings.HasActed.{none-acted}
 use Rattle.theory.proofs.feeding.Simulation.{Shape, an-act, a-mark, shape-of, Base, base-next, fresh-base}
+use Rattle.theory.proofs.feeding.Ending.{first-after}
 use Rattle.theory.proofs.lazy.Columns.{none-of-zero}
 use Rattle.theory.proofs.lazy.Tracks.{Tracks}
 use Rattle.theory.proofs.lazy.Steps.{asked-for, asking, Lazily, lazily-mark, lazily-act}
-
--- the refusal of the first refused record, record by record
-pub first-after : (n : ℕ) (ns : List ℕ) → ¬ (n ≡ 0) → firstRefused (n ∷ ns) ≡ n
-first-after n ns h = rw (ne-eqb n 0 h)
 
 module _ (p : Op) (t v : ℕ) (isa : T (isAccess p)) (ht : t < tasks) where
   -- what is kept, and the control table, are right of a recording

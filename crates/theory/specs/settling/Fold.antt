@@ -8,6 +8,7 @@ use lib.Dec.{eqb}
 use lib.ListN.{getD, set, length, replicate, take as firstOf}
 use Rattle.theory.specs.declared.record.Record.{Record}
 use Rattle.theory.specs.declared.settled.Settled.{Settled}
+use Rattle.theory.specs.declared.state.State.{State}
 use Rattle.theory.specs.tables.Turns.{turns}
 use Rattle.theory.specs.order.Limits.{tasks}
 use Rattle.theory.specs.order.Recording.{accesses}
@@ -16,7 +17,8 @@ use Rattle.theory.specs.acceptance.Control.{controlRefusal, controlAfter
 use Rattle.theory.specs.history.History.{slots, lastAfter}
 use Rattle.theory.specs.tables.Rows.{cellCount}
 use Rattle.theory.specs.tables.Reckonings.{nextClocks, maskOf, clockMask}
-use Rattle.theory.specs.feeding.Step.{nextNumber, freshControl}
+use Rattle.theory.specs.feeding.Step.{nextNumber, stepOf, freshControl, freshState}
+use Rattle.theory.specs.feeding.Feeding.{afterAll, byClocks}
 
 -- of the tasks that a mark names, home's
 abbrev pub homeOnly : ℕ → Filling
@@ -104,3 +106,18 @@ homesAfter k task on number homes = turns tasks (λ t hs. set hs t (nextClocks (
 -- the tasks whose lost records could settle an access that comes next alone, as a mask
 abbrev pub aloneMask : List (List ℕ) → List ℕ → ℕ → ℕ → ℕ → ℕ
 aloneMask homes last k task on = maskOf (λ t. eqb (clockMask (getD homes t []) last k task on) 0)
+
+-- The same over a list of records that are fed from a fresh state, refused ones too: the tables are kept beside the running state
+
+abbrev pub homesUnless : ℕ → ℕ → Record → List (List ℕ) → List (List ℕ)
+homesUnless zero number r homes = homesAfter (r .kind) (r .task) (r .on) number homes
+homesUnless (suc n) number r homes = homes
+
+abbrev pub homesFed : State → List (List ℕ) → List Record → List (List ℕ)
+homesFed s homes [] = homes
+homesFed s homes (r ∷ rs) =
+    homesFed ((stepOf s r) .state) (homesUnless (controlRefusal (s .control) r) (nextNumber (s .control)) r homes) rs
+
+-- for the record that comes next
+abbrev pub aloneAfter : List Record → Record → ℕ
+aloneAfter rs r = aloneMask (homesFed freshState freshHomes rs) ((afterAll byClocks freshState rs) .last) (r .kind) (r .task) (r .on)
