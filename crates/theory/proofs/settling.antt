@@ -3,3 +3,4 @@ pub mod Sides
 pub mod Forcing
 pub mod Tables
 pub mod Answer
+pub mod Examples

@@ -2,3 +2,4 @@
 pub mod Forcing
 pub mod Fold
 pub mod Answer
+pub mod Examples
