@@ -32,15 +32,15 @@ use Rattle.theory.proofs.settling.Sides.{home-alone, alone-adds, alone-
 -- Whom a mark names of home's
 
 module _ (home mask : ℕ) {t : ℕ} where
-  pub named-home : Named mask t → T (isHome home t) → Named (homeOnly home mask) t
-  named-home d y =
-      bit-named (homeOnly home mask) t (named-task d)
-      (subst T (sym (and-bit mask home t)) (passes (both (by-test (bit mask t)) (by-test (bit home t))) (named-bit d, y)))
-
   pub home-named : Named (homeOnly home mask) t → Named mask t × T (isHome home t)
   home-named d =
       let (b, y) = passed (both (by-test (bit mask t)) (by-test (bit home t))) (subst T (and-bit mask home t) (named-bit d)) in
       (bit-named mask t (named-task d) b, y)
+
+  pub named-home : Named mask t → T (isHome home t) → Named (homeOnly home mask) t
+  named-home d y =
+      bit-named (homeOnly home mask) t (named-task d)
+      (subst T (sym (and-bit mask home t)) (passes (both (by-test (bit mask t)) (by-test (bit home t))) (named-bit d, y)))
 
 -- home's records for a mark are the fillers of a mark that names home's alone
 home-filler : (home mask : ℕ) (g : Event) → HomeRecord home mask g → Filler (homeOnly home mask) g

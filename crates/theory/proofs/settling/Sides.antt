@@ -20,6 +20,9 @@ use Rattle.theory.proofs.verdicts.Demands.{both-act}
 
 -- One record
 
+never-both : {home mask : ℕ} {g : Event} → HomeRecord home mask g → ¬ FarRecord home mask g
+never-both (home-record f y) (far-record d n) = n y
+
 side-of : (home : ℕ) {mask : ℕ} {g : Event} → Filler mask g → HomeRecord home mask g ⊎ FarRecord home mask g
 side-of home {mask} (filler {o = o} {t = t} {n = n} l d h) = decided (by-test (isHome home t))
   where
@@ -33,10 +36,17 @@ home-filler (home-record f y) = f
 pub far-filler : {home mask : ℕ} {g : Event} → FarRecord home mask g → Filler mask g
 far-filler (far-record f n) = f
 
-never-both : {home mask : ℕ} {g : Event} → HomeRecord home mask g → ¬ FarRecord home mask g
-never-both (home-record f y) (far-record d n) = n y
-
 -- One mark
+
+-- a list of fillers is what home put there, with far's among it
+divided : (home : ℕ) {mask : ℕ} {gs : List Event} → Every (Filler mask) gs → (hs : List Event) × Every (HomeRecord home mask) hs × Among home mask hs gs
+divided home no-more = ([], no-more, nothing-left)
+divided home {mask} (and-more {e = g} {es = gs} x xs) = of (side-of home x) (divided home xs)
+  where
+    of : HomeRecord home mask g ⊎ FarRecord home mask g → (hs : List Event) × Every (HomeRecord home mask) hs × Among home mask hs gs →
+        (hs : List Event) × Every (HomeRecord home mask) hs × Among home mask hs (g ∷ gs)
+    of (inl y) (hs, ys, a) = (g ∷ hs, and-more y ys, homes a)
+    of (inr n) (hs, ys, a) = (hs, ys, fars n a)
 
 among-fillers : {home mask : ℕ} {hs gs : List Event} → Every (HomeRecord home mask) hs → Among home mask hs gs → Every (Filler mask) gs
 among-fillers no-more nothing-left = no-more
@@ -48,16 +58,6 @@ among-fillers (and-more y ys) (fars x a) = and-more (far-filler x) (among-filler
 among-none : {home mask : ℕ} (hs : List Event) → Among home mask hs hs
 among-none [] = nothing-left
 among-none (g ∷ hs) = homes (among-none hs)
-
--- a list of fillers is what home put there, with far's among it
-divided : (home : ℕ) {mask : ℕ} {gs : List Event} → Every (Filler mask) gs → (hs : List Event) × Every (HomeRecord home mask) hs × Among home mask hs gs
-divided home no-more = ([], no-more, nothing-left)
-divided home {mask} (and-more {e = g} {es = gs} x xs) = of (side-of home x) (divided home xs)
-  where
-    of : HomeRecord home mask g ⊎ FarRecord home mask g → (hs : List Event) × Every (HomeRecord home mask) hs × Among home mask hs gs →
-        (hs : List Event) × Every (HomeRecord home mask) hs × Among home mask hs (g ∷ gs)
-    of (inl y) (hs, ys, a) = (g ∷ hs, and-more y ys, homes a)
-    of (inr n) (hs, ys, a) = (hs, ys, fars n a)
 
 -- Each mark
 
