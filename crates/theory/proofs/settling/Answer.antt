@@ -1,7 +1,7 @@
 -- What is computed answers whether home can force Clear, for every list of records and every home set; and the table of single tasks does, too.
 -- The statements are in specs/settling/Answer.antt. Assumes nothing.
 use mathlib.Core.Path.{_≡_, refl, sym, _∙_, ap, subst}
-use mathlib.Core.Bool.{Bool, true, false, cond, true≢false}
+use mathlib.Core.Bool.{Bool, true, false, cond}
 use mathlib.Core.List.{List, [], _∷_, _++_}
 use mathlib.Core.Logic.{_↔_}
 use Prim.Native.Nat.{ℕ, zero, suc, _<_}
@@ -19,14 +19,15 @@ use Rattle.theory.specs.acceptance.Control.{controlRefusal}
 use Rattle.theory.specs.tables.Reckonings.{clockMask}
 use Rattle.theory.specs.feeding.Step.{nextNumber, stepOf, freshState}
 use Rattle.theory.specs.feeding.Feeding.{afterAll, byClocks, refusalsAfter, firstRefused, fedRefusal}
-use Rattle.theory.specs.settling.Forcing.{isHome, CanForce, Forced}
+use Rattle.theory.specs.settling.Forcing.{CanForce, Forced}
 use Rattle.theory.specs.settling.Fold.{homeOnly, homeOf, Side, freshSide, sideAfter, SideRun, sideRun, followedBy, neither, saysNo, saysYes, settledOf, forcedAt, settledAt, settledEnd, settles, freshHomes, homesUnless, homesFed, aloneAfter}
 use Rattle.theory.specs.settling.Answer.{Includes, SameTasks, Yes, AnsweredAt, Settles, SettlesAlone}
 use Rattle.theory.proofs.basics.Reflects.{by-test, is-true}
 use Rattle.theory.proofs.acceptance.ControlTable.{same-refusal}
 use Rattle.theory.proofs.tables.ClockTables.{ExactClocks, fresh-clocks}
+use Rattle.theory.proofs.tables.Bits.{mask-lt}
 use Rattle.theory.proofs.tables.MaskBits.{mask-bit}
-use Rattle.theory.proofs.feeding.Simulation.{Shape, shape-of, Base, base-next, fresh-base, clocks-by, Represents, clocks-simulate, after-all}
+use Rattle.theory.proofs.feeding.Simulation.{shape-of, Base, base-next, fresh-base, clocks-by, Represents, clocks-simulate, after-all}
 use Rattle.theory.proofs.feeding.Ending.{first-records, last-record, Snoc, empty, snoc, snoc-of, first-after, orElse, with-last}
 use Rattle.theory.proofs.settling.Forcing.{never-can, always-cannot, empty-cannot, full-can, larger-can}
 use Rattle.theory.proofs.settling.Tables.{home-restricts, forced-next, HomesExact, fresh-homes, homes-next}
@@ -234,7 +235,7 @@ homes-fed (r ∷ rs) es s tables x h =
     decided (suc n) e = h
 
 pub settled-alone : SettlesAlone aloneAfter
-settled-alone = record { each-task = each }
+settled-alone = record { each-task = each; no-others = λ rs r. mask-lt _ }
   where
     each : (rs : List Record) (r : Record) → refusal (recording rs) r ≡ 0 → accesses (r .kind) ≡ true → (t : ℕ) → t < tasks →
         T (bit (aloneAfter rs r) t) ↔ CanForce (homeOf t) (recording rs ++ (eventOf r ∷ [])) (length (recording rs))

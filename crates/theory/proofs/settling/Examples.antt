@@ -6,9 +6,8 @@ use mathlib.Core.Option.{Option, none, some}
 use Prim.Native.Nat.{ℕ}
 use lib.Dec.{T}
 use lib.ListN.{length, getD}
-use Rattle.theory.specs.declared.record.Record.{Record}
 use Rattle.theory.specs.tables.Turns.{turns}
-use Rattle.theory.specs.order.Recording.{Op, Event, act, lost, kind, isAccess, eventOf}
+use Rattle.theory.specs.order.Recording.{Op, Event, act, lost, isAccess}
 use Rattle.theory.specs.order.Path.{rule}
 use Rattle.theory.specs.fillings.Completion.{part, round, rounds, onEach, filling}
 use Rattle.theory.specs.acceptance.Table.{standingRefusal, recording}
@@ -22,7 +21,7 @@ use Rattle.theory.proofs.order.Numbered.{same, same-true}
 use Rattle.theory.proofs.order.Ops.{event-act, access-tests}
 use Rattle.theory.proofs.verdicts.Search.{Outcome, partner-outcome}
 use Rattle.theory.proofs.verdicts.Examples.{ends-middle}
-use Rattle.theory.proofs.settling.Forcing.{forced-yes, forced-no, forced-by}
+use Rattle.theory.proofs.settling.Forcing.{forced-by}
 use Rattle.theory.proofs.settling.Answer.{settled}
 
 -- What is computed

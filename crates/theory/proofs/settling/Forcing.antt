@@ -2,14 +2,14 @@
 -- have not; far's best is nothing, since more records only add paths. So the search over that filling answers. Assumes nothing.
 use mathlib.Core.Path.{_≡_, refl, sym, subst}
 use mathlib.Core.Bool.{Bool, true, false, cond, true≢false}
-use mathlib.Core.List.{List, [], _∷_}
+use mathlib.Core.List.{List}
 use mathlib.Core.Logic.{_↔_}
 use mathlib.Core.Option.{none, some}
 use Prim.Native.Nat.{ℕ}
 use lib.Dec.{T}
 use Rattle.theory.specs.order.Recording.{Op, Event, act, Every, no-more, and-more}
 use Rattle.theory.specs.order.Path.{HappensBefore}
-use Rattle.theory.specs.fillings.Completion.{bit, Named, Filler, filler, Filled, done, keep, fill, Completion, place, fillWith, filling}
+use Rattle.theory.specs.fillings.Completion.{bit, Named, Filler, filler, done, keep, fill, Completion, place, fillWith, filling}
 use Rattle.theory.specs.verdicts.Verdict.{Earlier, Racy}
 use Rattle.theory.specs.verdicts.Demands.{Always, Never, Sometimes, SometimesNot}
 use Rattle.theory.specs.verdicts.Search.{Found}

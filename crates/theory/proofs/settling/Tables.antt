@@ -1,13 +1,12 @@
 -- The clocks that home alone fills in tell whether home can force Clear, for one home set and for the table of single tasks. Assumes nothing.
 use mathlib.Core.Path.{_≡_, refl, sym, subst, _∙_}
-use mathlib.Core.Bool.{Bool, true, false, cond, not, true≢false}
+use mathlib.Core.Bool.{Bool, true, false, not, true≢false}
 use mathlib.Core.List.{List, [], _∷_, _++_}
-use mathlib.Core.Option.{Option}
 use Prim.Native.Nat.{ℕ, zero, suc, _-_, _^_, _<_, _≤_}
 use native.Mathlib.Omega.{arith}
 use borrow.Author.Tests.{eq-eqb}
-use lib.Bits.{bitAnd, and-le-l}
-use lib.Dec.{T, ltb, eqb}
+use lib.Bits.{and-le-l}
+use lib.Dec.{T, eqb}
 use lib.ListN.{length, getD, set, length-set, replicate, length-replicate, getD-replicate}
 use lib.Seq.{getD-set-same, getD-set-other}
 use Rattle.theory.specs.declared.record.Record.{Record}
@@ -20,15 +19,15 @@ use Rattle.theory.specs.history.History.{latestNumber}
 use Rattle.theory.specs.tables.Rows.{cellCount}
 use Rattle.theory.specs.tables.Reckonings.{clockMask, lowestTask, nextClocks}
 use Rattle.theory.specs.feeding.Step.{nextNumber}
-use Rattle.theory.specs.verdicts.Search.{Found}
 use Rattle.theory.specs.settling.Forcing.{Forced}
+use Rattle.theory.specs.settling.Answer.{EmptyAndFull}
 use Rattle.theory.specs.settling.Fold.{homeOnly, homeOf, freshHomes, homesAfter}
-use Rattle.theory.proofs.basics.Reflects.{Reflects, right, wrong, by-test, at-most, equal, passes, fails}
+use Rattle.theory.proofs.basics.Reflects.{Reflects, right, wrong, by-test, at-most, equal}
 use Rattle.theory.proofs.acceptance.Rows.{none-below}
 use Rattle.theory.proofs.order.Ops.{event-act, on-series, access-on}
 use Rattle.theory.proofs.fillings.Reach.{nobody-named}
 use Rattle.theory.proofs.fillings.HasActed.{Restricts}
-use Rattle.theory.proofs.tables.NamedRows.{bit-named}
+use Rattle.theory.proofs.tables.NamedRows.{bit-named, named-bit}
 use Rattle.theory.proofs.tables.ClockTables.{ExactClocks, fresh-clocks}
 use Rattle.theory.proofs.tables.Finds.{clock-finds}
 use Rattle.theory.proofs.history.Slots.{ExactHistory}
@@ -52,6 +51,9 @@ every-named t h = bit-named (2 ^ tasks - 1) t h (decided (by-test (bit (2 ^ task
     decided : {b : Bool} → Reflects (T (bit (2 ^ tasks - 1) t)) b → not b ≡ false → T (bit (2 ^ tasks - 1) t)
     decided (right y) e = y
     decided (wrong n) e = absurd (true≢false e)
+
+pub empty-and-full : EmptyAndFull
+empty-and-full = (λ t h y. nobody-named (bit-named 0 t h y), λ t h. named-bit (every-named t h))
 
 pub home-restricts : (home : ℕ) → Restricts (homeOnly home)
 home-restricts home =

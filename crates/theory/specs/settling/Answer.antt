@@ -1,5 +1,5 @@
 -- F-10: what is answered, for every list of records and every home set. proofs/settling proves it of `settles`, and of the table of single tasks.
-use Prim.Native.Nat.{ℕ, suc, _<_}
+use Prim.Native.Nat.{ℕ, suc, _^_, _<_}
 use mathlib.Core.Path.{_≡_}
 use mathlib.Core.Bool.{Bool, true, false, cond}
 use mathlib.Core.Logic.{_↔_}
@@ -12,7 +12,7 @@ use Rattle.theory.specs.order.Limits.{tasks}
 use Rattle.theory.specs.order.Recording.{Event, eventOf, accesses}
 use Rattle.theory.specs.fillings.Completion.{bit}
 use Rattle.theory.specs.acceptance.Table.{refusal, recording}
-use Rattle.theory.specs.verdicts.Verdict.{Verdict, Race, Clear, Doubt}
+use Rattle.theory.specs.verdicts.Verdict.{Race, Clear, Doubt}
 use Rattle.theory.specs.verdicts.Demands.{Firm}
 use Rattle.theory.specs.feeding.Feeding.{fedRefusal}
 use Rattle.theory.specs.settling.Forcing.{isHome, CanForce, Forced}
@@ -25,6 +25,10 @@ NoTask home = (t : ℕ) → t < tasks → ¬ T (isHome home t)
 
 abbrev pub EveryTask : ℕ → Type 0
 EveryTask home = (t : ℕ) → t < tasks → T (isHome home t)
+
+-- "the empty and the full one": 0 and 65,535, and whatever has the same 16 bits
+abbrev pub EmptyAndFull : Type 0
+EmptyAndFull = NoTask 0 × EveryTask 65_535
 
 abbrev pub Includes : ℕ → ℕ → Type 0
 Includes home′ home = (t : ℕ) → t < tasks → T (isHome home t) → T (isHome home′ t)
@@ -72,3 +76,4 @@ pub record Settles (answer : ℕ → List Record → Settled) : Type 0 where
 pub record SettlesAlone (alone : List Record → Record → ℕ) : Type 0 where
   pub each-task : (rs : List Record) (r : Record) → refusal (recording rs) r ≡ 0 → accesses (r .kind) ≡ true → (t : ℕ) → t < tasks →
       T (bit (alone rs r) t) ↔ CanForce (homeOf t) (recording rs ++ (eventOf r ∷ [])) (length (recording rs))
+  pub no-others : (rs : List Record) (r : Record) → alone rs r < 2 ^ tasks

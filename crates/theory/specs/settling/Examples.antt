@@ -7,7 +7,7 @@ use mathlib.Core.List.{List, [], _∷_, _++_, map}
 use lib.ListN.{length}
 use Rattle.theory.specs.declared.record.Record.{Record}
 use Rattle.theory.specs.declared.settled.Settled.{Settled}
-use Rattle.theory.specs.order.Recording.{Event, act, lost, read, write, take, give, start, join}
+use Rattle.theory.specs.order.Recording.{Event, act, lost, read, take, give, start, join}
 use Rattle.theory.specs.verdicts.Examples.{w0, w1, r1}
 use Rattle.theory.specs.feeding.Feeding.{eventRecord}
 use Rattle.theory.specs.settling.Forcing.{Forced}
