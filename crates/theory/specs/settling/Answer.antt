@@ -71,9 +71,11 @@ pub record Settles (answer : ℕ → List Record → Settled) : Type 0 where
   -- the set is its 16 bits
   pub same-tasks : (home home′ : ℕ) (rs : List Record) → SameTasks home home′ → answer home rs ≡ answer home′ rs
 
--- For the planner's table: after every list of records, of the access r that comes next and is accepted, the tasks whose lost records could
--- settle it alone, as a mask
+-- For the planner's table: after every list of records, of the record r that comes next, the tasks whose lost records could settle it alone, as a
+-- mask; none for what is refused or no access
 pub record SettlesAlone (alone : List Record → Record → ℕ) : Type 0 where
   pub each-task : (rs : List Record) (r : Record) → refusal (recording rs) r ≡ 0 → accesses (r .kind) ≡ true → (t : ℕ) → t < tasks →
       T (bit (alone rs r) t) ↔ CanForce (homeOf t) (recording rs ++ (eventOf r ∷ [])) (length (recording rs))
   pub no-others : (rs : List Record) (r : Record) → alone rs r < 2 ^ tasks
+  pub refused : (rs : List Record) (r : Record) (n : ℕ) → refusal (recording rs) r ≡ suc n → alone rs r ≡ 0
+  pub no-access : (rs : List Record) (r : Record) → accesses (r .kind) ≡ false → alone rs r ≡ 0

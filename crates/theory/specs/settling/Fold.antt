@@ -1,7 +1,7 @@
 -- What is computed to say whether home can force Clear, in one pass over the list: one table of clocks, in which each mark is filled in by home's
 -- tasks alone.
 use Prim.Native.Nat.{ℕ, zero, suc, _^_}
-use mathlib.Core.Bool.{cond}
+use mathlib.Core.Bool.{cond, _&&_}
 use mathlib.Core.List.{List, [], _∷_}
 use lib.Bits.{bitAnd}
 use lib.Dec.{eqb}
@@ -107,17 +107,21 @@ homesAfter k task on number homes = turns tasks (λ t hs. set hs t (nextClocks (
 abbrev pub aloneMask : List (List ℕ) → List ℕ → ℕ → ℕ → ℕ → ℕ
 aloneMask homes last k task on = maskOf (λ t. eqb (clockMask (getD homes t []) last k task on) 0)
 
--- The same over a list of records that are fed from a fresh state, refused ones too: the tables are kept beside the running state
+-- the same asked of any record, before it is fed: none for one that is no access or would be refused
+abbrev pub aloneBefore : List ℕ → List ℕ → List (List ℕ) → Record → ℕ
+aloneBefore control last homes r =
+    cond (eqb (controlRefusal control r) 0 && accesses (r .kind)) (aloneMask homes last (r .kind) (r .task) (r .on)) 0
 
-abbrev pub homesUnless : ℕ → ℕ → Record → List (List ℕ) → List (List ℕ)
-homesUnless zero number r homes = homesAfter (r .kind) (r .task) (r .on) number homes
-homesUnless (suc n) number r homes = homes
+-- the tables as it is fed: one that is refused leaves them as they were
+abbrev pub homesFed : List ℕ → Record → List (List ℕ) → List (List ℕ)
+homesFed control r homes = cond (eqb (controlRefusal control r) 0) (homesAfter (r .kind) (r .task) (r .on) (nextNumber control) homes) homes
 
-abbrev pub homesFed : State → List (List ℕ) → List Record → List (List ℕ)
-homesFed s homes [] = homes
-homesFed s homes (r ∷ rs) =
-    homesFed ((stepOf s r) .state) (homesUnless (controlRefusal (s .control) r) (nextNumber (s .control)) r homes) rs
+-- as a list of records is fed: they are kept beside the running state
+abbrev pub homesLeft : State → List (List ℕ) → List Record → List (List ℕ)
+homesLeft s homes [] = homes
+homesLeft s homes (r ∷ rs) = homesLeft ((stepOf s r) .state) (homesFed (s .control) r homes) rs
 
--- for the record that comes next
+-- after a list from a fresh state, for the record that comes next
 abbrev pub aloneAfter : List Record → Record → ℕ
-aloneAfter rs r = aloneMask (homesFed freshState freshHomes rs) ((afterAll byClocks freshState rs) .last) (r .kind) (r .task) (r .on)
+aloneAfter rs r =
+    let s = afterAll byClocks freshState rs in aloneBefore (s .control) (s .last) (homesLeft freshState freshHomes rs) r
