@@ -137,4 +137,3 @@ question-clipped q = decided (at-most (length kinds) (q .kind))
         let none : clippedKind (q .kind) ≡ length kinds = rw (le-ltb (q .kind) (length kinds) h) in
         no-question (clipped q) (ap accesses none) ∙ sym (no-question q (ap kindAccesses (kind-above (q .kind) h)))
     decided (wrong n) = ap question (clipped-known q (omega arith))
-
