@@ -78,11 +78,11 @@ with-last (r ∷ rs) es q = of (refusal es r) (λ es. with-last rs es q)
         rw (first-after (suc n) (refusalsAfter (appendUnless es r (suc n)) (rs ++ (q ∷ []))) (λ e. omega arith), first-after (suc n) (refusalsAfter (appendUnless es r (suc n)) rs) (λ e. omega arith))
 
 -- a list is empty, or has a last record
-data Snoc : List Record → Type 0 where
+pub data Snoc : List Record → Type 0 where
   empty : Snoc []
   snoc : (rs : List Record) (q : Record) → Snoc (rs ++ (q ∷ []))
 
-snoc-of : (rs : List Record) → Snoc rs
+pub snoc-of : (rs : List Record) → Snoc rs
 snoc-of [] = empty
 snoc-of (r ∷ rs) = of (snoc-of rs)
   where

@@ -2,12 +2,13 @@
 -- tasks alone.
 use Prim.Native.Nat.{ℕ, _^_}
 use mathlib.Core.Bool.{cond, _&&_}
-use mathlib.Core.List.{List, []}
+use mathlib.Core.List.{List, [], _∷_}
 use lib.Bits.{bitAnd}
 use lib.Dec.{eqb}
 use lib.ListN.{getD, set, replicate}
 use Rattle.theory.specs.declared.record.Record.{Record}
 use Rattle.theory.specs.declared.settled.Settled.{Settled}
+use Rattle.theory.specs.declared.state.State.{State}
 use Rattle.theory.specs.tables.Turns.{turns}
 use Rattle.theory.specs.order.Limits.{tasks}
 use Rattle.theory.specs.order.Recording.{accesses}
@@ -16,7 +17,8 @@ use Rattle.theory.specs.acceptance.Control.{controlRefusal}
 use Rattle.theory.specs.history.History.{slots, lastAfter}
 use Rattle.theory.specs.tables.Rows.{cellCount}
 use Rattle.theory.specs.tables.Reckonings.{nextClocks, maskOf, clockMask}
-use Rattle.theory.specs.feeding.Step.{nextNumber}
+use Rattle.theory.specs.feeding.Step.{nextNumber, stepOf, freshState}
+use Rattle.theory.specs.feeding.Feeding.{afterAll, byClocks}
 use Rattle.theory.specs.feeding.Following.{Follower, answerBy}
 
 -- of the tasks that a mark names, home's
@@ -90,3 +92,13 @@ aloneBefore control last homes r =
 -- the tables as it is fed: one that is refused leaves them as they were
 abbrev pub homesFed : List ℕ → Record → List (List ℕ) → List (List ℕ)
 homesFed control r homes = cond (eqb (controlRefusal control r) 0) (homesAfter (r .kind) (r .task) (r .on) (nextNumber control) homes) homes
+
+-- as a list of records is fed: they are kept beside the running state
+abbrev pub homesLeft : State → List (List ℕ) → List Record → List (List ℕ)
+homesLeft s homes [] = homes
+homesLeft s homes (r ∷ rs) = homesLeft ((stepOf s r) .state) (homesFed (s .control) r homes) rs
+
+-- after a list from a fresh state, for the record that comes next
+abbrev pub aloneAfter : List Record → Record → ℕ
+aloneAfter rs r =
+    let s = afterAll byClocks freshState rs in aloneBefore (s .control) (s .last) (homesLeft freshState freshHomes rs) r
