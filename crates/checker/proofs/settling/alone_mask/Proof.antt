@@ -1,75 +1,37 @@
+-- The mask of the tasks whose table has no task apart, gathered from the lowest task up.
+use mathlib.Core.Path.{ap, _∙_}
+use mathlib.Core.List.{[]}
+use Prim.Native.Nat.{ℕ, _≤_, _-_}
+use native.Mathlib.Omega.{arith}
+use lib.Dec.{eqb}
+use lib.ListN.{getD}
+use Rattle.theory.specs.order.Limits.{tasks}
+use Rattle.theory.specs.tables.Reckonings.{clockMask}
+use Rattle.theory.proofs.tables.Bits.{Gathered, no-weights, one-weight, all-weights}
+use borrow.Author.Needs.{needs}
 use Rattle.checker.proofs.settling.alone_mask.Statement.{statement}
 use Rattle.checker.proofs.settling.alone_mask.Tie as tie
-use Rattle.checker.proofs.settling.alone_mask.Reads as reads
-use Rattle.checker.proofs.settling.alone_mask.Lts as lts
-use Rattle.checker.proofs.clocks.clock_mask.Reads as clock-mask-reads
-use Rattle.checker.proofs.masks.added_weight.Reads as added-weight-reads
-use Rattle.checker.proofs.masks.lower_half.Reads as lower-half-reads
 
 abbrev Inv-loop : tie.InvT-loop
-Inv-loop last homes kind task v x₀ t₀ x t = ?
+Inv-loop last homes kind task v x₀ t₀ x t = (t ≤ tasks) × Gathered (λ t. eqb (clockMask (getD homes t []) last kind (task .0) (v .0)) 0) t x
 
 abbrev μ-loop : tie.MeasureT-loop
-μ-loop last homes kind task v x₀ t₀ x t = ?
+μ-loop last homes kind task v x₀ t₀ x t = tasks - t
 
--- src/settling.rt:176:5
 loop-holds : tie.Need-loop-holds Inv-loop μ-loop
-loop-holds c = ?
+loop-holds c = (search needs, no-weights)
 
--- src/settling.rt:177:39
-cast-clock-mask : tie.Need-cast-clock-mask Inv-loop μ-loop
-cast-clock-mask c = ?
-
--- src/settling.rt:177:32
-mul-clock-mask : tie.Need-mul-clock-mask Inv-loop μ-loop
-mul-clock-mask c = ?
-
--- src/settling.rt:177:32
-index-1-clock-mask : tie.Need-index-1-clock-mask Inv-loop μ-loop
-index-1-clock-mask c = ?
-
--- src/settling.rt:177:13
-clock-mask-requires : tie.Need-clock-mask-requires Inv-loop μ-loop
-clock-mask-requires c κs = ?
-
--- src/settling.rt:178:17
-added-weight-requires : tie.Need-added-weight-requires Inv-loop μ-loop
-added-weight-requires c κs = ?
-
--- src/settling.rt:179:9
-add-t : tie.Need-add-t Inv-loop μ-loop
-add-t c = ?
-
--- src/settling.rt:176:5
-loop-less : tie.Need-loop-less Inv-loop μ-loop
-loop-less c = ?
-
--- src/settling.rt:176:5
 loop-again : tie.Need-loop-again Inv-loop μ-loop
-loop-again c = ?
+loop-again c = (
+  search needs,
+  one-weight (omega arith) (c .before .before .before .before .loop .inv .1) (c .added-weight .ensures) (ap (λ (m : ℕ). eqb m 0) (c .before .clock-mask .ensures)),
+)
 
--- src/settling.rt:181:5
-lower-half-requires : tie.Need-lower-half-requires Inv-loop μ-loop
-lower-half-requires c κs = ?
-
--- src/settling.rt:170:1
 returns : tie.Need-returns Inv-loop μ-loop
-returns c = ?
+returns c = c .lower-half .ensures ∙ all-weights (c .before .before .loop .inv .1) (omega arith) (omega arith)
 
 pub alone-mask-spec : {M : Type 1} → statement M
 alone-mask-spec =
-    tie.close
-    (tie.spec
-    Inv-loop
-    μ-loop
-    loop-holds
-    cast-clock-mask
-    mul-clock-mask
-    index-1-clock-mask
-    clock-mask-requires
-    added-weight-requires
-    add-t
-    loop-less
-    loop-again
-    lower-half-requires
-    returns)
+    tie.close (tie.spec
+    Inv-loop μ-loop loop-holds (λ c. search needs) (λ c. search needs) (λ c. search needs) (λ c κs. search needs) (λ c κs. search needs)
+    (λ c. search needs) (λ c. search needs) loop-again (λ c κs. search needs) returns)

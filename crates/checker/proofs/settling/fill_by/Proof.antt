@@ -1,38 +1,27 @@
+-- A mark is filled in by those of its tasks that are home's; an act has its own part, and passes order on.
+use mathlib.Core.Path.{_∙_, ap}
+use mathlib.Core.List.{List}
+use Prim.Native.Nat.{ℕ}
+use borrow.Author.Tests.{eq-eqb, ne-eqb}
 use borrow.Author.Needs.{needs}
+use Rattle.theory.specs.order.Limits.{tasks}
+use Rattle.theory.specs.tables.Reckonings.{clockOwn}
 use Rattle.checker.proofs.settling.fill_by.Statement.{statement}
 use Rattle.checker.proofs.settling.fill_by.Tie as tie
-use Rattle.checker.proofs.settling.fill_by.Reads as reads
-use Rattle.checker.proofs.settling.fill_by.Lts as lts
-use Rattle.checker.proofs.clocks.mark.Reads as mark-reads
-use Rattle.checker.proofs.clocks.own.Reads as own-reads
-use Rattle.checker.proofs.clocks.pass_on.Reads as pass-on-reads
-use Rattle.checker.proofs.settling.has_task.Reads as has-task-reads
 
--- src/settling.rt:59:9
-mark-requires : tie.Need-mark-requires
-mark-requires c κs = search needs
-
--- src/settling.rt:60:9
 returns : tie.Need-returns
-returns c = ?
+returns c = rw (eq-eqb _ _ (c .before .before .before .if1 .taken)) (c .mark .ensures)
 
--- src/settling.rt:62:5
 own-requires : tie.Need-own-requires
-own-requires c κs = ?
+own-requires c κs = c .before .before .before .pre .act-fits (c .before .if1 .left) .task-fits
 
--- src/settling.rt:63:28
-has-task-requires : tie.Need-has-task-requires
-has-task-requires c κs = search needs
-
--- src/settling.rt:63:5
 pass-on-requires : tie.Need-pass-on-requires
-pass-on-requires c κs = ?
+pass-on-requires c κs = c .before .before .before .before .before .before .pre .act-fits (c .before .before .before .before .if1 .left)
 
--- src/settling.rt:54:1
 returns-2 : tie.Need-returns-2
-returns-2 c = ?
+returns-2 c =
+    let at-own = c .before .before .before in
+    rw (ne-eqb _ _ (at-own .before .before .if1 .left), ← c .before .has-task .ensures, ← at-own .own .ensures) (c .pass-on .ensures)
 
 pub fill-by-spec : {M : Type 1} → statement M
-fill-by-spec =
-    tie.close
-    (tie.spec mark-requires returns own-requires has-task-requires pass-on-requires returns-2)
+fill-by-spec = tie.close (tie.spec (λ c κs. search needs) returns own-requires (λ c κs. search needs) pass-on-requires returns-2)

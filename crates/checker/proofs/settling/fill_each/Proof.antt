@@ -1,69 +1,40 @@
+-- Table after table, each by its own task.
+use mathlib.Core.Path.{ap, _∙_}
+use mathlib.Core.List.{List, []}
+use Prim.Native.Nat.{ℕ, _≤_, _-_}
+use native.Mathlib.Omega.{arith}
+use lib.ListN.{set, getD}
+use Rattle.theory.specs.order.Limits.{tasks}
+use Rattle.theory.specs.tables.Reckonings.{nextClocks}
+use Rattle.theory.specs.settling.Fold.{homeOnly, homeOf, homesAfter}
+use Rattle.theory.proofs.basics.Turns.{Turned, no-turn, one-turn, all-turns}
+use borrow.Author.Needs.{needs}
 use Rattle.checker.proofs.settling.fill_each.Statement.{statement}
 use Rattle.checker.proofs.settling.fill_each.Tie as tie
-use Rattle.checker.proofs.settling.fill_each.Reads as reads
-use Rattle.checker.proofs.settling.fill_each.Lts as lts
-use Rattle.checker.proofs.masks.weight.Reads as weight-reads
-use Rattle.checker.proofs.settling.fill_by.Reads as fill-by-reads
 
 abbrev Inv-loop : tie.InvT-loop
-Inv-loop homes₀ r number t₀ homes t = ?
+Inv-loop homes₀ r number t₀ homes t =
+    (t ≤ tasks) × Turned (λ t hs. set hs t (nextClocks (homeOnly (homeOf t)) (r .kind) (r .task) (r .on) (number .0) (getD hs t []))) homes₀ t homes
 
 abbrev μ-loop : tie.MeasureT-loop
-μ-loop homes₀ r number t₀ homes t = ?
+μ-loop homes₀ r number t₀ homes t = tasks - t
 
--- src/settling.rt:204:5
 loop-holds : tie.Need-loop-holds Inv-loop μ-loop
-loop-holds c = ?
+loop-holds c = (search needs, no-turn)
 
--- src/settling.rt:205:28
-cast-fill-by : tie.Need-cast-fill-by Inv-loop μ-loop
-cast-fill-by c = ?
-
--- src/settling.rt:205:17
-mul-fill-by : tie.Need-mul-fill-by Inv-loop μ-loop
-mul-fill-by c = ?
-
--- src/settling.rt:205:17
-index-1-fill-by : tie.Need-index-1-fill-by Inv-loop μ-loop
-index-1-fill-by c = ?
-
--- src/settling.rt:205:41
-weight-requires : tie.Need-weight-requires Inv-loop μ-loop
-weight-requires c κs = ?
-
--- src/settling.rt:205:9
-fill-by-requires : tie.Need-fill-by-requires Inv-loop μ-loop
-fill-by-requires c κs = ?
-
--- src/settling.rt:206:9
-add-t : tie.Need-add-t Inv-loop μ-loop
-add-t c = ?
-
--- src/settling.rt:204:5
-loop-less : tie.Need-loop-less Inv-loop μ-loop
-loop-less c = ?
-
--- src/settling.rt:204:5
 loop-again : tie.Need-loop-again Inv-loop μ-loop
-loop-again c = ?
+loop-again c =
+    let at-loop = c .before .before .before .before in (
+      search needs,
+      one-turn (at-loop .loop .inv .1) (ap (λ (x : List ℕ). set (at-loop .loop .homes) (at-loop .loop .t) x) (c .fill-by .ensures ∙ rw (c .before .weight .ensures .0))),
+    )
 
--- src/settling.rt:199:1
 returns : tie.Need-returns Inv-loop μ-loop
-returns c = ?
+unfolding homesAfter
+returns c = all-turns tasks (c .before .loop .inv .1) (omega arith) (omega arith)
 
 pub fill-each-spec : {M : Type 1} → statement M
 fill-each-spec =
-    tie.close
-    (tie.spec
-    Inv-loop
-    μ-loop
-    loop-holds
-    cast-fill-by
-    mul-fill-by
-    index-1-fill-by
-    weight-requires
-    fill-by-requires
-    add-t
-    loop-less
-    loop-again
-    returns)
+    tie.close (tie.spec
+    Inv-loop μ-loop loop-holds (λ c. search needs) (λ c. search needs) (λ c. search needs) (λ c κs. search needs) (λ c κs. search needs)
+    (λ c. search needs) (λ c. search needs) loop-again returns)

@@ -1,21 +1,15 @@
+-- By the mask.
+use mathlib.Core.Path.{sym, _∙_}
+use borrow.Author.Tests.{eq-eqb, ne-eqb}
 use borrow.Author.Needs.{needs}
 use Rattle.checker.proofs.settling.is_ordered.Statement.{statement}
 use Rattle.checker.proofs.settling.is_ordered.Tie as tie
-use Rattle.checker.proofs.settling.is_ordered.Reads as reads
-use Rattle.checker.proofs.settling.is_ordered.Lts as lts
-use Rattle.checker.proofs.clocks.clock_mask.Reads as clock-mask-reads
 
--- src/settling.rt:121:9
-clock-mask-requires : tie.Need-clock-mask-requires
-clock-mask-requires c κs = search needs
-
--- src/settling.rt:117:1
 returns : tie.Need-returns
-returns c = ?
+returns c = rw (← c .before .clock-mask .ensures, eq-eqb _ _ (c .if1 .taken))
 
--- src/settling.rt:117:1
 returns-2 : tie.Need-returns-2
-returns-2 c = ?
+returns-2 c = rw (← c .before .clock-mask .ensures, ne-eqb _ _ (c .if1 .left))
 
 pub is-ordered-spec : {M : Type 1} → statement M
-is-ordered-spec = tie.close (tie.spec clock-mask-requires returns returns-2)
+is-ordered-spec = tie.close (tie.spec (λ c κs. search needs) returns returns-2)

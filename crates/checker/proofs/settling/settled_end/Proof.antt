@@ -1,64 +1,56 @@
+-- By the refusal before, by its own, and by its kind.
+use mathlib.Core.Path.{sym, _∙_}
+use Rattle.theory.specs.feeding.Following.{Run, runOf}
+use Rattle.theory.specs.settling.Fold.{Side, sideOf, homeFollower}
+use Rattle.theory.proofs.acceptance.Accepted.{accepts}
+use Rattle.theory.proofs.history.Accesses.{of-access}
+use Rattle.theory.proofs.tables.Ranges.{access-acts}
+use Rattle.theory.proofs.feeding.Listed.{ending-refused, ending-own}
 use borrow.Author.Needs.{needs}
 use Rattle.checker.proofs.settling.settled_end.Statement.{statement}
 use Rattle.checker.proofs.settling.settled_end.Tie as tie
-use Rattle.checker.proofs.settling.settled_end.Reads as reads
-use Rattle.checker.proofs.settling.settled_end.Lts as lts
-use Rattle.checker.proofs.history.is_access.Reads as is-access-reads
-use Rattle.checker.proofs.refusals.refusal.Reads as refusal-reads
-use Rattle.checker.proofs.settling.is_ordered.Reads as is-ordered-reads
-use Rattle.checker.proofs.settling.no_answer.Reads as no-answer-reads
 
--- src/settling.rt:140:9
-no-answer-requires : tie.Need-no-answer-requires
-no-answer-requires c κs = search needs
+run : tie.Start → Run Side
+run c = let a = c .args in runOf (a .before) (a .control .now) (sideOf (a .last .now) (a .cells .now))
 
--- src/settling.rt:140:9
 returns : tie.Need-returns
-returns c = ?
+unfolding run
+returns c =
+    let at-entry = c .before .before in
+    c .no-answer .ensures ∙ ending-refused (homeFollower (at-entry .args .home)) (at-entry .args .q) (run at-entry) (c .before .if1 .taken)
 
--- src/settling.rt:142:9
-refusal-requires : tie.Need-refusal-requires
-refusal-requires c κs = search needs
-
--- src/settling.rt:144:9
-no-answer-requires-2 : tie.Need-no-answer-requires-2
-no-answer-requires-2 c κs = search needs
-
--- src/settling.rt:144:9
 returns-2 : tie.Need-returns-2
-returns-2 c = ?
+unfolding run
+returns-2 c =
+    let at-refusal = c .before .before in
+    let at-entry = at-refusal .before .before in
+    c .no-answer2 .ensures
+    ∙ ending-own (homeFollower (at-entry .args .home)) (at-entry .args .q) (run at-entry) (at-refusal .before .if1 .left) (at-refusal .refusal .ensures) (c .before .if2 .taken)
 
--- src/settling.rt:146:8
-is-access-requires : tie.Need-is-access-requires
-is-access-requires c κs = search needs
-
--- src/settling.rt:147:9
 is-ordered-requires : tie.Need-is-ordered-requires
-is-ordered-requires c κs = ?
+is-ordered-requires c κs =
+    let at-if2 = c .before .before in
+    let at-refusal = at-if2 .before in
+    let a = at-refusal .before .before .args in
+    let h = sym (c .before .is-access .ensures) ∙ c .if3 .taken in
+    let p = accepts (a .control .now) (a .q) _ (at-refusal .refusal .ensures) (at-if2 .if2 .left) .proper in
+    of-access (p .act-fits (access-acts (a .q .kind) h)) h
 
--- src/settling.rt:147:9
 returns-3 : tie.Need-returns-3
-returns-3 c = ?
+returns-3 c =
+    let at-access = c .before .before in
+    let at-if2 = at-access .before in
+    let at-refusal = at-if2 .before in
+    rw (at-refusal .before .if1 .left, sym (at-refusal .refusal .ensures) ∙ at-if2 .if2 .left, sym (at-access .is-access .ensures) ∙ c .before .if3 .taken) (c .is-ordered .ensures)
 
--- src/settling.rt:149:5
-no-answer-requires-3 : tie.Need-no-answer-requires-3
-no-answer-requires-3 c κs = search needs
-
--- src/settling.rt:129:1
 returns-4 : tie.Need-returns-4
-returns-4 c = ?
+returns-4 c =
+    let at-access = c .before .before in
+    let at-if2 = at-access .before in
+    let at-refusal = at-if2 .before in
+    rw (at-refusal .before .if1 .left, sym (at-refusal .refusal .ensures) ∙ at-if2 .if2 .left, sym (at-access .is-access .ensures) ∙ c .before .if3 .left) (c .no-answer3 .ensures)
 
 pub settled-end-spec : {M : Type 1} → statement M
-settled-end-spec =
-    tie.close
-    (tie.spec
-    no-answer-requires
-    returns
-    refusal-requires
-    no-answer-requires-2
-    returns-2
-    is-access-requires
-    is-ordered-requires
-    returns-3
-    no-answer-requires-3
-    returns-4)
+settled-end-spec = tie.close (tie.spec
+    (λ c κs. search needs) returns (λ c κs. search needs) (λ c κs. search needs) returns-2 (λ c κs. search needs)
+    is-ordered-requires returns-3 (λ c κs. search needs) returns-4)
