@@ -30,6 +30,7 @@ pub use lazy::lazily;
 pub use refusals::refusal;
 pub use running::feed;
 pub use settling::alone;
+pub use settling::feed_home;
 pub use settling::feed_homes;
 pub use settling::settle;
 pub use state::begin;

@@ -30,7 +30,7 @@ use theory::Task;
 use theory::Variable;
 use theory::YES;
 ghost use mathlib.Core.Path.{_≡_};
-ghost use mathlib.Core.List.{map};
+ghost use mathlib.Core.List.{[], _∷_, map};
 ghost use Prim.Native.Nat.{_<_, _≤_};
 ghost use lib.ListN.{length, take};
 ghost use Rattle.theory.specs.order.Limits.{records};
@@ -147,6 +147,27 @@ fn settled_end(
         return is_ordered(last, cells, q);
     }
     no_answer(0)
+}
+
+// Feeds one record more: the answer is that for the records so far with this one at their end. A refused record leaves every table as it was.
+pub fn feed_home(
+    control: &mut Control,
+    last: &mut History,
+    cells: &mut Clocks,
+    home: u16,
+    r: Record,
+) -> Settled
+    ensures { λ a. let c = seen control in let l = seen last in let s = seen cells in
+        ⌜ (a ≡ ending (homeFollower home) r (runOf 0 (c .entry) (sideOf (l .entry) (s .entry))))
+        × (runOf (a .refused) (c .exit) (sideOf (l .exit) (s .exit)) ≡ followed (sideAfter home) (c .entry) (sideOf (l .entry) (s .entry)) (r ∷ [])) ⌝ }
+{
+    let home = home as u32;
+    let answer = settled_end(control, last, cells, home, 0, r);
+    if answer.refused != 0 {
+        return answer;
+    }
+    take_in(control, last, cells, home, r);
+    answer
 }
 
 // The answer for a list of records, each of its kind, its task and its number; home has bit t for task t.

@@ -6,3 +6,4 @@ pub mod Ruled
 pub mod Answer
 pub mod Alone
 pub mod Examples
+pub mod Refused

@@ -72,14 +72,14 @@ module _ {S : Type 0} (next : List ℕ → Record → S → S) (control : List �
   abbrev by : ℕ → Run S
   by m = elim m [ zero ↦ followed next (controlAfter (r .kind) (r .on) control) (next control r s) rs | suc n ↦ runOf (suc n) control s ]
 
-  followed-refused : {m : ℕ} → m ≡ controlRefusal control r → m ≢ 0 → followed next control s (r ∷ rs) ≡ runOf m control s
+  pub followed-refused : {m : ℕ} → m ≡ controlRefusal control r → m ≢ 0 → followed next control s (r ∷ rs) ≡ runOf m control s
   followed-refused {m} e f = sym (ap by e) ∙ of m f
     where
       of : (m : ℕ) → m ≢ 0 → by m ≡ runOf m control s
       of zero f = absurd (f refl)
       of (suc m) f = refl
 
-  followed-accepted : controlRefusal control r ≡ 0 → followed next control s (r ∷ rs) ≡ followed next (controlAfter (r .kind) (r .on) control) (next control r s) rs
+  pub followed-accepted : controlRefusal control r ≡ 0 → followed next control s (r ∷ rs) ≡ followed next (controlAfter (r .kind) (r .on) control) (next control r s) rs
   followed-accepted e = ap by e
 
 module _ {S : Type 0} {next : List ℕ → Record → S → S} {xs : List (List ℕ)} {n : ℕ} {run : Run S} {i : ℕ} {control : List ℕ} {s : S} (g : Goes next xs n run i control s) where
