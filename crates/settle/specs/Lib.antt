@@ -1,1 +1,2 @@
 pub mod Argument
+pub mod Line

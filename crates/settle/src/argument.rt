@@ -4,23 +4,36 @@ use report::read_decimal;
 use text::Number;
 use theory::TASKS;
 ghost use mathlib.Core.Path.{_≡_};
+ghost use Prim.Native.Nat.{_<_, _^_};
+ghost use Rattle.theory.specs.order.Limits.{tasks};
 ghost use Rattle.settle.specs.Argument.{bitOf, taskIn, saysNone};
 
 // The tasks that are named, and whether nothing else is.
 pub(crate) struct Named {
-    pub home: u16,
+    pub home: u32,
     pub good: bool,
 }
 
-// The bit of a task, 0 for what is none.
-fn bit_of(t: u32) -> u16
+// The bit of a task.
+fn weight(t: u32) -> u32
+    requires { ⌜ t < tasks ⌝ }
+    ensures { λ r. ⌜ r ≡ 2 ^ t ⌝ }
+{
+    1 << t
+}
+
+// The same, 0 for what is no task.
+fn bit_of(t: u32) -> u32
     ensures { λ r. ⌜ r ≡ bitOf (Number.Value t) ⌝ }
 {
-    if t < TASKS { 1 << t } else { 0 }
+    if t < TASKS {
+        return weight(t);
+    }
+    0
 }
 
 // The bit of the task that a word names, 0 where it names none.
-fn task_in(word: &[u8]) -> u16
+fn task_in(word: &[u8]) -> u32
     ensures { λ r. ⌜ r ≡ taskIn (now (word .entry)) ⌝ }
 {
     let Number::Value(t) = read_decimal(word) else {
@@ -36,7 +49,16 @@ fn says_none(w: &[u8]) -> bool
     if w.len() != 4 {
         return false;
     }
-    w[0] == b'n' && w[1] == b'o' && w[2] == b'n' && w[3] == b'e'
+    if w[0] != b'n' {
+        return false;
+    }
+    if w[1] != b'o' {
+        return false;
+    }
+    if w[2] != b'n' {
+        return false;
+    }
+    w[3] == b'e'
 }
 
 // The set with one argument more: one that names no task spoils it.

@@ -3,6 +3,7 @@ use crate::lines::ROOM;
 use crate::lines::nothing_read;
 use crate::lines::read_on;
 use crate::lines::said;
+use crate::lines::without_lf;
 use checker::feed_home;
 use checker::fresh;
 use libc::STDOUT_FILENO;
@@ -53,7 +54,7 @@ fn show(a: Settled, lines: u64) {
 }
 
 // Reads the recording up to its end or its first refused line, and answers.
-pub(crate) fn run(home: u16) {
+pub(crate) fn answer(home: u16) {
     let s = fresh();
     let mut control = s.control;
     let mut last = s.last;
@@ -71,7 +72,8 @@ pub(crate) fn run(home: u16) {
     let mut turns = u64::MAX;
     while turns > 0 && more {
         at = read_on(&mut block, &mut line, at);
-        let r = said(&line, at.ended);
+        let n = without_lf(at.ended);
+        let r = said(&line[..n]);
         let a = feed_home(&mut control, &mut last, &mut cells, home, r);
         told = known(at.ended, a, told);
         lines = counted(lines, at.ended);

@@ -8,17 +8,17 @@ use report::parse_line;
 use text::Parsed;
 use theory::KINDS;
 use theory::Record;
-ghost use Prim.Native.Nat.{_<_, _≤_, _+_};
+ghost use Prim.Native.Nat.{_<_, _≤_, _+_, _-_};
 ghost use mathlib.Core.Path.{_≡_};
 ghost use lib.ListN.{length};
+ghost use Rattle.text.specs.LineForm.{parseOf};
 ghost use Rattle.text.specs.Stream.{heldMost};
+ghost use Rattle.settle.specs.Line.{recordOr};
 
 const LF: u8 = b'\n';
 
 // Memory for a line and its LF.
 pub(crate) const ROOM: usize = HELD_MOST + 1;
-
-pub(crate) type Line = [u8; ROOM];
 
 // How far the input is read: the piece, how much is held of a line that has begun, and of a line that has just ended how long it is with its LF; 0
 // where none has.
@@ -51,8 +51,8 @@ fn body(bytes: &[u8]) -> usize
 }
 
 // Holds bytes after the n that are held, as far as there is room.
-fn hold(line: &mut Line, n: usize, bytes: &[u8]) -> usize
-    requires { ⌜ n ≤ heldMost ⌝ }
+fn hold(line: &mut [u8], n: usize, bytes: &[u8]) -> usize
+    requires { ⌜ (n ≤ heldMost) × (heldMost < length (now line)) ⌝ }
     ensures { λ r. ⌜ r ≤ heldMost ⌝ }
 {
     let mut to = n;
@@ -69,8 +69,8 @@ fn hold(line: &mut Line, n: usize, bytes: &[u8]) -> usize
 }
 
 // Reads one piece more. A line that ends in it stands in `line` then, with its LF.
-pub(crate) fn read_on(block: &mut [u8], line: &mut Line, was: Reading) -> Reading
-    requires { ⌜ was .held ≤ heldMost ⌝ }
+pub(crate) fn read_on(block: &mut [u8], line: &mut [u8], was: Reading) -> Reading
+    requires { ⌜ (was .held ≤ heldMost) × (heldMost < length (now line)) ⌝ }
     ensures { λ r. ⌜ (r .held ≤ heldMost) × (r .ended ≤ heldMost + 1) ⌝ }
 {
     let piece = next_piece(
@@ -100,12 +100,18 @@ pub(crate) fn read_on(block: &mut [u8], line: &mut Line, was: Reading) -> Readin
     }
 }
 
-// What the line says that has just ended; where it says nothing, or none has ended, a record of no kind, which is refused.
-pub(crate) fn said(line: &Line, ended: usize) -> Record
-    requires { ⌜ ended ≤ heldMost + 1 ⌝ }
+// How long a line is without its LF; 0 where none has ended.
+pub(crate) fn without_lf(ended: usize) -> usize
+    ensures { λ r. ⌜ r ≡ ended - 1 ⌝ }
 {
-    let n = if ended == 0 { 0 } else { ended - 1 };
-    let Parsed::Record(r) = parse_line(&line[..n]) else {
+    if ended == 0 { 0 } else { ended - 1 }
+}
+
+// What a line says; where it says nothing, a record of no kind, which is refused as the line is.
+pub(crate) fn said(line: &[u8]) -> Record
+    ensures { λ r. ⌜ r ≡ recordOr (parseOf (now (line .entry))) ⌝ }
+{
+    let Parsed::Record(r) = parse_line(line) else {
         return Record {
             kind: KINDS,
             task: 0,

@@ -9,6 +9,10 @@ mod tally;
 
 use argument::home_of;
 use libc::STDERR_FILENO;
+use theory::TASKS;
+
+// So many sets of tasks there are.
+const HOMES: u32 = 1 << TASKS;
 
 // Says how the program is called.
 fn say_usage() {
@@ -20,7 +24,7 @@ fn say_usage() {
 
 fn main() {
     if os::arg_count() < 2 {
-        table::run();
+        table::tabulate();
         return;
     }
     let named = home_of();
@@ -28,5 +32,5 @@ fn main() {
         say_usage();
         return;
     }
-    asked::run(named.home);
+    asked::answer((named.home % HOMES) as u16);
 }

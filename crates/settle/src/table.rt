@@ -3,6 +3,7 @@ use crate::lines::ROOM;
 use crate::lines::nothing_read;
 use crate::lines::read_on;
 use crate::lines::said;
+use crate::lines::without_lf;
 use crate::showing::show_counts;
 use crate::showing::show_line;
 use crate::tally::TALLIES;
@@ -26,7 +27,7 @@ use theory::HISTORY_CELLS;
 const REPORT: usize = LINE_ROOM * ROOM;
 
 // Reads the recording line by line. Each line is asked about, fed to the tables of the tasks, and then reported.
-pub(crate) fn run() {
+pub(crate) fn tabulate() {
     let mut control = [0u32; CONTROL_CELLS];
     let mut last = [0u32; HISTORY_CELLS];
     let mut clocks = [0u32; CLOCK_CELLS];
@@ -46,7 +47,8 @@ pub(crate) fn run() {
     while turns > 0 && more {
         at = read_on(&mut block, &mut line, at);
         let ended = at.ended;
-        let r = said(&line, ended);
+        let n = without_lf(ended);
+        let r = said(&line[..n]);
         let mask = alone(&control, &last, &homes, r);
         feed_homes(&control, &mut homes, r);
         let doubts = totals_of(&control, r.on).doubt;

@@ -13,12 +13,9 @@ pub(crate) const TALLIES: usize = ALL + 1;
 pub(crate) type Tallies = [u32; TALLIES];
 
 // A count at the end of its 32 bits, which no recording comes to, stays there.
-fn raised(n: u32, by: bool) -> u32
-    ensures { λ r. ⌜ r ≡ cond by (cond (ltb n (2 ^ 32 - 1)) (n + 1) n) n ⌝ }
+fn raised(n: u32) -> u32
+    ensures { λ r. ⌜ r ≡ cond (ltb n (2 ^ 32 - 1)) (n + 1) n ⌝ }
 {
-    if !by {
-        return n;
-    }
     if n < u32::MAX { n + 1 } else { n }
 }
 
@@ -31,10 +28,15 @@ pub(crate) fn has(mask: u16, t: u32) -> bool
 
 // Counts a Doubt that the tasks of the mask could settle alone; what is none is not counted.
 pub(crate) fn tally(tallies: &mut Tallies, doubt: bool, mask: u16) {
+    if !doubt {
+        return;
+    }
+    tallies[ALL] = raised(tallies[ALL]);
     let mut t: u32 = 0;
     while t < TASKS {
-        tallies[t as usize] = raised(tallies[t as usize], doubt && has(mask, t));
+        if has(mask, t) {
+            tallies[t as usize] = raised(tallies[t as usize]);
+        }
         t += 1;
     }
-    tallies[ALL] = raised(tallies[ALL], doubt);
 }
