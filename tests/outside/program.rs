@@ -34,7 +34,8 @@ fn drained(pipe: RawFd, child: &mut Child, since: Instant) -> Result<(), String>
     }
 }
 
-fn feed(child: &mut Child, pieces: &[&[u8]], since: Instant) -> Result<(), String> {
+/// Feeds the pieces one by one, and says so where the program does not take them all.
+pub fn feed(child: &mut Child, pieces: &[&[u8]], since: Instant) -> Result<(), String> {
     let mut input = child.stdin.take().unwrap();
     for piece in pieces {
         input.write_all(piece).map_err(|e| format!("the program does not take its input: {e}"))?;
