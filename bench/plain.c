@@ -45,14 +45,14 @@ static int refusal(const State *s, int kind, uint32_t task, uint32_t on) {
     static const uint32_t series[] = {64, 64, 32, 32, 32, 32, 16, 16, 0, 64, 32, 64};
     if (kind == LOST) {
         if (on == 0 || on > 65535) return 4;
-        if (s->count >= 60000) return 5;
+        if (s->count >= 4000000) return 5;
         for (int t = 0; t < 16; t++)
             if ((on >> t & 1) && s->phase[t] != 1) return 9;
         return 0;
     }
     if (task > 15) return 2;
     if (on >= series[kind]) return 3;
-    if (s->count >= 60000) return 5;
+    if (s->count >= 4000000) return 5;
     if (s->phase[task] != 1) return 6;
     if (kind == START && s->phase[on] != 0) return 7;
     if (kind == JOIN && on == task) return 8;
@@ -87,9 +87,9 @@ static uint8_t *put_decimal(uint8_t *o, uint64_t n) {
     return o + (20 - at);
 }
 
-static uint8_t *put_five(uint8_t *o, uint32_t n) {
-    for (int i = 4; i >= 0; i--) o[i] = (uint8_t)('0' + n % 10), n /= 10;
-    return o + 5;
+static uint8_t *put_seven(uint8_t *o, uint32_t n) {
+    for (int i = 6; i >= 0; i--) o[i] = (uint8_t)('0' + n % 10), n /= 10;
+    return o + 7;
 }
 
 static uint8_t *put_refused(uint8_t *o, uint64_t line, int number) {
@@ -106,10 +106,10 @@ static uint8_t *feed(State *s, uint8_t *o, uint64_t line, int kind, uint32_t tas
         const char *verdict = " verdict=clear with=";
         if (apart(s, 1, kind, task, on, &with) >= 0) verdict = " verdict=race with=";
         else if (apart(s, 0, kind, task, on, &with) >= 0) verdict = " verdict=doubt with=";
-        o = put_five(put(o, "rec="), number);
+        o = put_seven(put(o, "rec="), number);
         o = put_decimal(put(o, " task="), task);
         o = put_decimal(put(o, " var="), on);
-        o = put_five(put(o, verdict), with);
+        o = put_seven(put(o, verdict), with);
         o = put(o, "\n");
         s->last[kind == BUMP ? 2 : kind][on][task] = number;
     }

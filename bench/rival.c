@@ -3,8 +3,9 @@
  * Text in, happens-before by vector clocks for the recording as it arrived and for the fullest filling, verdicts, partners and refusals,
  * report text out: byte for byte the report of `order_report`. It leaves out what a proof has to carry along and a programmer in a hurry
  * would not write down:
- * - Clocks are 16 numbers of 16 bits, since a recording ends at 60,000 records. With -DWIDE they have 32, as the checker's have and as a longer
- *   recording needs, and their loops are plain C.
+ * - With -DWIDE clocks are 16 numbers of 32 bits, as the checker's are and as 4,000,000 records need, and their loops are plain C. Without it
+ *   they have 16 bits: that is no longer the job, since such a clock ends at 65,535 records. It is kept to show what the width costs, on
+ *   recordings that it can count.
  * - An access changes one number; no row is joined for it.
  * - Once a task has acted, what a join of it hears is what its next act would know: one bit for each task, not a row.
  * - A mark makes all objects know the same: one row stands for all that no give or set has told since.
@@ -17,7 +18,11 @@
 #include <stdint.h>
 #include <string.h>
 
-#define LIMIT 60000u
+#ifdef WIDE
+#define LIMIT 4000000u
+#else
+#define LIMIT 65535u
+#endif
 #define TOO_SMALL UINT64_MAX
 
 enum { READ, WRITE, TAKE, GIVE, LOOK, SET, START, JOIN, LOST, FRESH, MISS, BUMP, NONE };
@@ -134,12 +139,13 @@ static void fill(Filling *f, uint32_t mask) {
 static const char pairs[] = "00010203040506070809101112131415161718192021222324252627282930313233343536373839404142434445464748495051525354555657"
                             "585960616263646566676869707172737475767778798081828384858687888990919293949596979899";
 
-static uint8_t *put_five(uint8_t *o, uint32_t n) {
-    uint32_t low = n % 10000;
-    o[0] = (uint8_t)('0' + n / 10000);
-    memcpy(o + 1, pairs + low / 100 * 2, 2);
-    memcpy(o + 3, pairs + low % 100 * 2, 2);
-    return o + 5;
+static uint8_t *put_seven(uint8_t *o, uint32_t n) {
+    uint32_t high = n / 10000, low = n % 10000;
+    o[0] = (uint8_t)('0' + high / 100);
+    memcpy(o + 1, pairs + high % 100 * 2, 2);
+    memcpy(o + 3, pairs + low / 100 * 2, 2);
+    memcpy(o + 5, pairs + low % 100 * 2, 2);
+    return o + 7;
 }
 
 /* A number below 100. */
@@ -160,7 +166,7 @@ static uint8_t *put_decimal(uint8_t *o, uint64_t n) {
 
 static uint8_t *put_access(uint8_t *o, uint32_t number, uint32_t task, uint32_t variable, uint32_t verdict, uint32_t with) {
     memcpy(o, "rec=", 4);
-    o = put_five(o + 4, number);
+    o = put_seven(o + 4, number);
     memcpy(o, " task=", 6);
     o = put_small(o + 6, task);
     memcpy(o, " var=", 5);
@@ -170,7 +176,7 @@ static uint8_t *put_access(uint8_t *o, uint32_t number, uint32_t task, uint32_t 
     case 1: memcpy(o, " verdict=race with=", 19), o += 19; break;
     default: memcpy(o, " verdict=doubt with=", 20), o += 20; break;
     }
-    o = put_five(o, with);
+    o = put_seven(o, with);
     *o = '\n';
     return o + 1;
 }

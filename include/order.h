@@ -19,12 +19,15 @@ extern "C" {
  * text, text_len: the recording, any bytes at all. A line ends with LF; a rest without LF is a line too.
  * report, report_len: memory for the report, at least 64 bytes for each line of the text.
  *
+ * For an accepted access a line `rec=0000009 task=1 var=5 verdict=race with=0000002` is written, record numbers in seven digits; for a refused
+ * line `line=10 refused=6`. 4,000,000 records are accepted, and those after them refused with 5.
+ *
  * Answers the count of bytes written, which stand at the start of `report`; the bytes after them stay as they were.
  * Where report_len is under 64 bytes for each line it answers ORDER_TOO_SMALL, and `report` is untouched; this is looked at before
  * any line. Each call begins from a fresh state, without entries.
  *
  * Both pointers must be valid for their lengths and not null, also where a length is 0, and the two must not overlap.
- * The call needs under 32 kilobytes of stack. */
+ * The call needs under 40 kilobytes of stack. */
 uint64_t order_report(const uint8_t *text, size_t text_len, uint8_t *report, size_t report_len);
 
 /* The kinds of records, for a host that feeds them one by one, without text. A record has a kind, an acting task and a number: of a
@@ -173,9 +176,10 @@ static inline uint64_t order_text_end(struct order_text *t, uint8_t *report, siz
 }
 
 /* Takes in a planner's entries, from a file that comes in pieces like a recording: those whose lines end in the piece. An entry is a line
- * `rec=00012 var=5 low=1 high=3 mark=accepted`, or the same with mark=open: where the fault was seen, in five digits, 00001 to 60000; its
- * variable, 0 to 63; its two tasks, the lower one first, 0 to 15. Lines end and numbers are written as in a recording. Of two entries for the
- * same variable and tasks the later one holds, so that an open undoes an accepted.
+ * `rec=0000012 var=5 low=1 high=3 mark=accepted`, or the same with mark=open: where the fault was seen, in seven digits, 0000001 to 4000000,
+ * or in five, 00001 to 99999, which mean the same number; its variable, 0 to 63; its two tasks, the lower one first, 0 to 15. Lines end and
+ * the other numbers are written as in a recording. Of two entries for the same variable and tasks the later one holds, so that an open undoes
+ * an accepted.
  *
  * In what order_piece then writes, a Race is `verdict=known` where the acting task is accepted for that variable with every task that it is
  * not in order with, whatever was lost; `with` is as it would be without entries. Otherwise it is `verdict=race`, and `with` is the latest

@@ -1,8 +1,9 @@
 /* A host program in C over the archives: document 01's example, row 11 at its edge, kept bytes, the empty text; then the same example fed
  * record by record to a running state and to the sets, and as a text in pieces, and its totals at each moment; a planner's entries before
- * it; lists for the lazy reckoning. */
+ * it; lists for the lazy reckoning; the stack that calls need. */
 #include <stdio.h>
 #include <string.h>
+#include <ucontext.h>
 
 #include "../include/order.h"
 
@@ -11,9 +12,9 @@ static int passed, failed;
 /* Document 01's example and its report. */
 static const char text[] = "op=start task=0 on=1\nop=write task=0 on=5\nop=give task=0 on=2\nop=write task=0 on=6\nop=lost tasks=2\n"
                            "op=read task=1 on=5\nop=read task=1 on=6\nop=take task=1 on=2\nop=write task=1 on=5\nop=read task=2 on=5\n";
-static const char report[] = "rec=00002 task=0 var=5 verdict=clear with=00000\nrec=00004 task=0 var=6 verdict=clear with=00000\n"
-                             "rec=00006 task=1 var=5 verdict=doubt with=00002\nrec=00007 task=1 var=6 verdict=race with=00004\n"
-                             "rec=00009 task=1 var=5 verdict=clear with=00000\nline=10 refused=6\n";
+static const char report[] = "rec=0000002 task=0 var=5 verdict=clear with=0000000\nrec=0000004 task=0 var=6 verdict=clear with=0000000\n"
+                             "rec=0000006 task=1 var=5 verdict=doubt with=0000002\nrec=0000007 task=1 var=6 verdict=race with=0000004\n"
+                             "rec=0000009 task=1 var=5 verdict=clear with=0000000\nline=10 refused=6\n";
 
 enum { TEXT = sizeof text - 1, REPORT = sizeof report - 1 };
 
@@ -66,7 +67,7 @@ static void row_11(void) {
     memset(memory, 7, sizeof memory);
     check("row 11 at 63 bytes", report_of("op=read task=0 on=1", 19, memory, 63) == ORDER_TOO_SMALL);
     check("row 11 leaves the memory untouched", all(memory, sizeof memory, 7));
-    check("64 bytes are enough for a line", report_of("op=read task=0 on=1", 19, memory, 64) == 48);
+    check("64 bytes are enough for a line", report_of("op=read task=0 on=1", 19, memory, 64) == 52);
     check("two lines want 128", report_of("\n\n", 2, memory, 127) == ORDER_TOO_SMALL);
     check("and have them", report_of("\n\n", 2, memory, 128) == 34);
     check("no line wants no memory", report_of("", 0, memory, 0) == 0);
@@ -326,14 +327,14 @@ static void cut_add(struct cut *cut, uint64_t n, const uint8_t *out, size_t out_
     cut->total += n;
 }
 
-/* A planner's entries: the example's Race is accepted, and its Doubt, which stays one; another pair is open, and what is between is no entry.
- * Below, what is written for them and for the example. */
+/* A planner's entries, in five digits and in seven: the example's Race is accepted, and its Doubt, which stays one; another pair is open, and
+ * what is between is no entry. Below, what is written for them and for the example. */
 static const char entries[] = "rec=00006 var=5 low=0 high=1 mark=accepted\nrec=00007 var=6 low=1 high=0 mark=accepted\n\n"
-                              "rec=00007 var=6 low=0 high=1 mark=accepted\nrec=60000 var=6 low=0 high=2 mark=open\n";
+                              "rec=0000007 var=6 low=0 high=1 mark=accepted\nrec=4000000 var=6 low=0 high=2 mark=open\n";
 static const char known[] = "entry=2 refused=12\nentry=3 refused=12\n"
-                            "rec=00002 task=0 var=5 verdict=clear with=00000\nrec=00004 task=0 var=6 verdict=clear with=00000\n"
-                            "rec=00006 task=1 var=5 verdict=doubt with=00002\nrec=00007 task=1 var=6 verdict=known with=00004\n"
-                            "rec=00009 task=1 var=5 verdict=clear with=00000\nline=10 refused=6\n";
+                            "rec=0000002 task=0 var=5 verdict=clear with=0000000\nrec=0000004 task=0 var=6 verdict=clear with=0000000\n"
+                            "rec=0000006 task=1 var=5 verdict=doubt with=0000002\nrec=0000007 task=1 var=6 verdict=known with=0000004\n"
+                            "rec=0000009 task=1 var=5 verdict=clear with=0000000\nline=10 refused=6\n";
 
 enum { ENTRIES = sizeof entries - 1 };
 
@@ -521,13 +522,13 @@ static void enter_many(const char *what, size_t times, const char *line, const c
 static void later_and_full(void) {
     static const char accepted[] = "rec=00007 var=6 low=0 high=1 mark=accepted\n", open[] = "rec=00001 var=6 low=0 high=1 mark=open\n";
     static const char other[] = "rec=00001 var=63 low=14 high=15 mark=open\n", swapped[] = "rec=00001 var=6 low=1 high=0 mark=open\n";
-    enter_many("accepted", 0, "", accepted, "rec=00002", " var=6 verdict=known with=00004\n");
-    enter_many("accepted, then open", 1, accepted, open, "rec=00002", " var=6 verdict=race with=00004\n");
-    enter_many("open, then accepted", 1, open, accepted, "rec=00002", " var=6 verdict=known with=00004\n");
-    enter_many("the 200th entry", 199, other, accepted, "rec=00002", " var=6 verdict=known with=00004\n");
-    enter_many("the 201st entry", 200, other, accepted, "entry=201 refused=13\nrec=00002", " var=6 verdict=race with=00004\n");
-    enter_many("the 201st for the same pair", 200, accepted, open, "entry=201 refused=13\nrec=00002", " var=6 verdict=known with=00004\n");
-    enter_many("12 goes first", 200, accepted, swapped, "entry=201 refused=12\nrec=00002", " var=6 verdict=known with=00004\n");
+    enter_many("accepted", 0, "", accepted, "rec=0000002", " var=6 verdict=known with=0000004\n");
+    enter_many("accepted, then open", 1, accepted, open, "rec=0000002", " var=6 verdict=race with=0000004\n");
+    enter_many("open, then accepted", 1, open, accepted, "rec=0000002", " var=6 verdict=known with=0000004\n");
+    enter_many("the 200th entry", 199, other, accepted, "rec=0000002", " var=6 verdict=known with=0000004\n");
+    enter_many("the 201st entry", 200, other, accepted, "entry=201 refused=13\nrec=0000002", " var=6 verdict=race with=0000004\n");
+    enter_many("the 201st for the same pair", 200, accepted, open, "entry=201 refused=13\nrec=0000002", " var=6 verdict=known with=0000004\n");
+    enter_many("12 goes first", 200, accepted, swapped, "entry=201 refused=12\nrec=0000002", " var=6 verdict=known with=0000004\n");
 }
 
 /* Tasks 1 and 2 write variable 5 and task 0 reads it; the line for the read, by what is accepted. */
@@ -536,12 +537,12 @@ static void partners(void) {
     static const char three[] = "op=start task=0 on=1\nop=start task=0 on=2\nop=write task=1 on=5\nop=write task=2 on=5\n"
                                 "op=read task=0 on=5\n";
     static const char *const cases[][2] = {
-        {"", "race with=00003\n"},
-        {ACCEPTED("5", "low=0 high=1"), "race with=00004\n"},
-        {ACCEPTED("5", "low=0 high=2"), "race with=00003\n"},
-        {ACCEPTED("5", "low=1 high=2"), "race with=00003\n"},
-        {ACCEPTED("5", "low=0 high=1") ACCEPTED("5", "low=0 high=2"), "known with=00003\n"},
-        {ACCEPTED("5", "low=0 high=1") ACCEPTED("4", "low=0 high=2"), "race with=00004\n"},
+        {"", "race with=0000003\n"},
+        {ACCEPTED("5", "low=0 high=1"), "race with=0000004\n"},
+        {ACCEPTED("5", "low=0 high=2"), "race with=0000003\n"},
+        {ACCEPTED("5", "low=1 high=2"), "race with=0000003\n"},
+        {ACCEPTED("5", "low=0 high=1") ACCEPTED("5", "low=0 high=2"), "known with=0000003\n"},
+        {ACCEPTED("5", "low=0 high=1") ACCEPTED("4", "low=0 high=2"), "race with=0000004\n"},
     };
     for (size_t i = 0; i < sizeof cases / sizeof cases[0]; i++) {
         size_t len = strlen(cases[i][1]);
@@ -759,6 +760,57 @@ static void settled(void) {
     }
 }
 
+/* All kinds of records, each verdict, and lines that are refused. */
+static const char every[] = "op=start task=0 on=1\nop=start task=0 on=2\nop=write task=0 on=5\nop=read task=1 on=5\nop=give task=0 on=2\n"
+                            "op=take task=1 on=2\nop=bump task=1 on=5\nop=set task=1 on=3\nop=look task=2 on=3\nop=miss task=2 on=4\n"
+                            "op=fresh task=2 on=6\nop=write task=1 on=6\nop=lost tasks=7\nop=write task=0 on=6\nop=join task=0 on=2\n"
+                            "op=read task=2 on=5\nop=read task=0 on=99999\nop=lost tasks=65535\n\nop=read task=0 on=5 \n";
+
+enum { EVERY = sizeof every - 1 };
+
+static void stacked_report(void) {
+    static uint8_t out[64 * EVERY];
+    check("a report on a stack of its own", report_of(every, EVERY, out, sizeof out) <= sizeof out);
+}
+
+static void stacked_piece(void) {
+    static uint8_t out[64 * EVERY];
+    check("a piece on a stack of its own", order_text_piece(&cut.kept, (const uint8_t *)every, EVERY, out, sizeof out) <= sizeof out);
+}
+
+static void stacked_lazy(void) {
+    static const uint32_t list[][3] = {{ORDER_START, 0, 1}, {ORDER_WRITE, 0, 5}, {ORDER_BUMP, 1, 5},  {ORDER_LOST, 0, 3},
+                                       {ORDER_SET, 0, 2},   {ORDER_LOOK, 1, 2},  {ORDER_WRITE, 1, 5}, {ORDER_READ, 0, 5}};
+    uint64_t answer[4];
+    order_lazy(list, sizeof list / sizeof list[0], answer);
+    check("a list on a stack of its own", answer[0] == 0);
+}
+
+/* A call needs less stack than the header promises: it is made on a stack of its own, and the lowest byte that it changed is looked for. */
+static void on_stack(const char *what, void (*call)(void), size_t promised) {
+    static uint8_t stack[256 * 1024];
+    static ucontext_t here, there;
+    memset(stack, 0xa5, sizeof stack);
+    getcontext(&there);
+    there.uc_stack.ss_sp = stack;
+    there.uc_stack.ss_size = sizeof stack;
+    there.uc_link = &here;
+    makecontext(&there, call, 0);
+    swapcontext(&here, &there);
+    size_t left = 0;
+    while (left < sizeof stack && stack[left] == 0xa5) left++;
+    char name[80];
+    snprintf(name, sizeof name, "%s: %zu bytes of stack", what, sizeof stack - left);
+    check(name, sizeof stack - left < promised);
+}
+
+static void stacks(void) {
+    on_stack("order_report", stacked_report, 40 * 1024);
+    cut_begin(&cut);
+    on_stack("order_piece", stacked_piece, 1024);
+    on_stack("order_lazy", stacked_lazy, 16 * 1024);
+}
+
 int main(void) {
     whole_texts();
     row_11();
@@ -778,6 +830,7 @@ int main(void) {
     entries_refused();
     lazily();
     settled();
+    stacks();
     printf("host: %d passed, %d failed\n", passed, failed);
     return failed != 0;
 }

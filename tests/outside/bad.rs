@@ -2,7 +2,7 @@
 
 use crate::cuts::{Cuts, WAYS};
 use crate::generate::{self, Random, Shape};
-use crate::oracle::{self, Fate, Judged, Record, Verdict};
+use crate::oracle::{self, Fate, Judged, Record, Verdict, RECORD_DIGITS};
 use crate::{entry, feeding, program, streaming, tally::Tally};
 
 const SAMPLE: &str = "op=start task=0 on=1\nop=write task=0 on=5\nop=lost tasks=3\nop=read task=1 on=5\n\nop=join task=0 on=1";
@@ -95,20 +95,14 @@ fn large_texts(tally: &mut Tally, order: Option<&str>) {
     ] {
         large(tally, order, name, &line, &|got| got == b"line=1 refused=1\n");
         let more = [&line[..], b"\nop=read task=0 on=1\n"].concat();
-        let report = b"line=1 refused=1\nrec=00001 task=0 var=1 verdict=clear with=00000\n";
+        let report = b"line=1 refused=1\nrec=0000001 task=0 var=1 verdict=clear with=0000000\n";
         large(tally, order, name, &more, &|got| got == report);
     }
     let refused: String = (1..=300_000).map(|line| format!("line={line} refused=1\n")).collect();
     large(tally, order, "empty lines", &b"\n".repeat(300_000), &|got| got == refused.as_bytes());
-    let mixed = b"op=write task=0 on=7\nop=write task=0 on=007\n".repeat(60_010);
-    let mut report = String::new();
-    for rec in 1..=60_010 {
-        match rec {
-            1..=60_000 => report += &format!("rec={rec:05} task=0 var=7 verdict=clear with=00000\n"),
-            _ => report += &format!("line={} refused=5\n", 2 * rec - 1),
-        }
-        report += &format!("line={} refused=1\n", 2 * rec);
-    }
+    let mixed = b"op=write task=0 on=7\nop=write task=0 on=007\n".repeat(70_000);
+    let both = |rec| oracle::access_line(rec, 0, 7, "clear", 0) + &format!("line={} refused=1\n", 2 * rec);
+    let report: String = (1..=70_000).map(both).collect();
     large(tally, order, "every other line spoilt", &mixed, &|got| got == report.as_bytes());
 }
 
@@ -133,9 +127,9 @@ fn orderly(text: &[u8], report: &[u8]) -> bool {
 }
 
 fn is_verdict(line: &str, rec: usize, act: oracle::Act) -> bool {
-    let start = format!("rec={rec:05} task={} var={} verdict=", act.task, act.on);
+    let start = format!("rec={rec:0RECORD_DIGITS$} task={} var={} verdict=", act.task, act.on);
     let Some((verdict, with)) = line.strip_prefix(&start).and_then(|rest| rest.split_once(" with=")) else { return false };
-    let partner = with.len() == 5 && with.parse::<usize>().is_ok_and(|with| with < rec && (with == 0) == (verdict == "clear"));
+    let partner = with.len() == RECORD_DIGITS && with.parse::<usize>().is_ok_and(|with| with < rec && (with == 0) == (verdict == "clear"));
     partner && ["clear", "race", "doubt"].contains(&verdict)
 }
 
@@ -154,17 +148,17 @@ fn judged(recording: &[Record], report: &[u8]) -> Vec<Judged> {
     oracle::accesses(recording).into_iter().zip(verdicts).map(judge).collect()
 }
 
-/// Recordings past the limit with all kinds of records, marks and damage. They are too long for the search, so the running state and
-/// the sets are held against the entry.
-fn past_the_limit(tally: &mut Tally, order: Option<&str>) {
+/// Recordings with all kinds of records, marks and damage, and more records than 16 bits can count. They are too long for the search, so the
+/// running state and the sets are held against the entry.
+fn long_texts(tally: &mut Tally, order: Option<&str>) {
     for (seed, (stray, damage)) in [(0, 0), (10, 10), (30, 40)].into_iter().enumerate() {
         let shape =
-            Shape { length: 90_000, tasks: 16, variables: 64, objects: 32, marks: 5, named: usize::MAX, idle: 30, stay: 0, stray, damage };
+            Shape { length: 120_000, tasks: 16, variables: 64, objects: 32, marks: 5, named: usize::MAX, idle: 30, stay: 0, stray, damage };
         let text = generate::recording(&mut Random::new(seed as u64), &shape);
-        large(tally, order, &format!("past the limit, {seed}"), &text, &|got| orderly(&text, got));
+        large(tally, order, &format!("long, {seed}"), &text, &|got| orderly(&text, got));
         let reading = oracle::read(&text);
         let judged = judged(&reading.recording, &entry::report(&text, 0).unwrap_or_default());
-        feeding::expect(tally, &format!("past the limit, {seed}, as the entry"), &feeding::records(&text), &reading, &judged);
+        feeding::expect(tally, &format!("long, {seed}, as the entry"), &feeding::records(&text), &reading, &judged);
     }
     let text = generate::recording(&mut Random::new(9), &Shape { length: 200, ..generate::shape(&mut Random::new(9)) });
     let report = entry::report(&text, 0).unwrap_or_default();
@@ -181,6 +175,6 @@ pub fn run(tally: &mut Tally, order: Option<&str>) {
     tally.part("every length of report memory");
     large_texts(tally, order);
     tally.part("large texts");
-    past_the_limit(tally, order);
-    tally.part("past the limit");
+    long_texts(tally, order);
+    tally.part("long texts");
 }

@@ -1,15 +1,20 @@
-//! A planner's file of entries, and a report with them: document 02, F-7, read word for word over the plain path search. It shares nothing with the
-//! checker.
+//! A planner's file of entries, and a report with them: document 02, F-7 and the entries of F-9, read word for word over the plain path search. It
+//! shares nothing with the checker.
 
 use crate::oracle::{self, Judged, Reading, Verdict, LIMIT, TASKS, VARIABLES};
 
 /// So many entries are taken in, and no more.
 pub const MOST: usize = 200;
 
+/// So many digits may `rec` have, and no others. However many, they mean the same number.
+pub const DIGITS: [usize; 2] = [5, 7];
+
 #[derive(Clone, Copy, Debug)]
 pub struct Entry {
     /// Where the fault was seen.
     pub rec: usize,
+    /// In how many digits that is written.
+    pub digits: usize,
     pub var: u32,
     /// The two tasks.
     pub low: u32,
@@ -19,12 +24,13 @@ pub struct Entry {
 
 impl Entry {
     pub fn line(&self) -> String {
-        let Entry { rec, var, low, high, accepted } = self;
-        format!("rec={rec:05} var={var} low={low} high={high} mark={}", if *accepted { "accepted" } else { "open" })
+        let Entry { rec, digits, var, low, high, accepted } = self;
+        format!("rec={rec:0digits$} var={var} low={low} high={high} mark={}", if *accepted { "accepted" } else { "open" })
     }
 
     fn in_range(&self) -> bool {
-        (1..=LIMIT).contains(&self.rec) && (self.var as usize) < VARIABLES && self.low < self.high && self.high < TASKS
+        let rec = (1..=LIMIT).contains(&self.rec) && DIGITS.contains(&self.digits);
+        rec && (self.var as usize) < VARIABLES && self.low < self.high && self.high < TASKS
     }
 }
 
@@ -36,6 +42,7 @@ pub fn read_line(line: &[u8]) -> Option<Entry> {
     let number = |part: &str, name| part.strip_prefix(name)?.parse::<u32>().ok();
     let entry = Entry {
         rec: number(rec, "rec=")? as usize,
+        digits: rec.len() - "rec=".len(),
         var: number(var, "var=")?,
         low: number(low, "low=")?,
         high: number(high, "high=")?,

@@ -1,5 +1,7 @@
 //! Document 01's examples, edges and refusal rows, with reports written by hand.
 
+use crate::oracle::RECORD_DIGITS;
+
 pub struct Example {
     pub name: &'static str,
     pub text: Vec<u8>,
@@ -24,7 +26,9 @@ pub fn report(lines: &str) -> String {
     let mut out = String::new();
     for line in lines.split(", ").filter(|line| !line.is_empty()) {
         match line.split(' ').collect::<Vec<_>>()[..] {
-            [rec, task, verdict, with] => out += &format!("rec={rec:0>5} task={task} var=5 verdict={verdict} with={with:0>5}\n"),
+            [rec, task, verdict, with] => {
+                out += &format!("rec={rec:0>RECORD_DIGITS$} task={task} var=5 verdict={verdict} with={with:0>RECORD_DIGITS$}\n")
+            }
             [number, row] => out += &format!("line={} refused={row}\n", &number[1..]),
             _ => panic!("not a report line: {line}"),
         }
@@ -116,7 +120,11 @@ const SHORT: &[(&str, &str, &str)] = &[
     ("row 9", "lost 2", "!1 9"),
     ("row 9 of a join", "join 0 1", "!1 9"),
     ("the lower row goes first", "read 16 64, take 1 32, start 1 0, join 1 1, start 1 1, join 1 2", "!1 2, !2 3, !3 6, !4 6, !5 6, !6 6"),
-    ("the first past each series", "read 0 64, write 0 64, take 0 32, give 0 32, look 0 32, set 0 32, start 0 16, join 0 16, fresh 0 64, miss 0 32, bump 0 64", ELEVEN_THREES),
+    (
+        "the first past each series",
+        "read 0 64, write 0 64, take 0 32, give 0 32, look 0 32, set 0 32, start 0 16, join 0 16, fresh 0 64, miss 0 32, bump 0 64",
+        ELEVEN_THREES,
+    ),
     ("the last of each series", "take 0 31, give 0 31, look 0 31, set 0 31, start 0 15, lost 32769, join 0 15", ""),
     ("masks", "lost 65536, lost 65535, lost 99999, lost 1", "!1 4, !2 9, !3 4"),
     ("a joined task is done", "start 0 1, join 0 1, join 0 1, start 0 1, read 1 5, lost 2, lost 3", "!3 9, !4 7, !5 6, !6 9, !7 9"),
@@ -163,14 +171,14 @@ const NOT_OF_THE_FORM: &[&str] = &[
 fn whole() -> Example {
     let text = "op=start task=0 on=1\nop=write task=0 on=5\nop=give task=0 on=2\nop=write task=0 on=6\nop=lost tasks=2\n\
                 op=read task=1 on=5\nop=read task=1 on=6\nop=take task=1 on=2\nop=write task=1 on=5\nop=read task=2 on=5\n";
-    let report = "rec=00002 task=0 var=5 verdict=clear with=00000\nrec=00004 task=0 var=6 verdict=clear with=00000\n\
-                  rec=00006 task=1 var=5 verdict=doubt with=00002\nrec=00007 task=1 var=6 verdict=race with=00004\n\
-                  rec=00009 task=1 var=5 verdict=clear with=00000\nline=10 refused=6\n";
+    let report = "rec=0000002 task=0 var=5 verdict=clear with=0000000\nrec=0000004 task=0 var=6 verdict=clear with=0000000\n\
+                  rec=0000006 task=1 var=5 verdict=doubt with=0000002\nrec=0000007 task=1 var=6 verdict=race with=0000004\n\
+                  rec=0000009 task=1 var=5 verdict=clear with=0000000\nline=10 refused=6\n";
     Example { name: "the report example", text: text.into(), report: report.into() }
 }
 
 fn last_variable() -> Example {
-    let report = "rec=00001 task=0 var=63 verdict=clear with=00000\nrec=00003 task=15 var=63 verdict=clear with=00000\n";
+    let report = "rec=0000001 task=0 var=63 verdict=clear with=0000000\nrec=0000003 task=15 var=63 verdict=clear with=0000000\n";
     Example { name: "task 15 and variable 63", text: text("write 0 63, start 0 15, read 15 63"), report: report.into() }
 }
 
@@ -181,15 +189,4 @@ pub fn examples() -> Vec<Example> {
         list.push(Example { name: line, text: format!("{line}\n").into(), report: report("!1 1") });
     }
     list
-}
-
-/// 60,000 records are accepted; then rows 1 to 4 still go before row 5, and row 5 before the others.
-pub fn full() -> Example {
-    let mut lines = "op=read task=0 on=1\n".repeat(60_001);
-    lines += "op=read task=0\nop=read task=16 on=1\nop=read task=0 on=64\nop=lost tasks=0\nop=read task=1 on=1\nop=lost tasks=2\n";
-    let mut report: String = (1..=60_000).map(|rec| format!("rec={rec:05} task=0 var=1 verdict=clear with=00000\n")).collect();
-    for (line, row) in [(60_001, 5), (60_002, 1), (60_003, 2), (60_004, 3), (60_005, 4), (60_006, 5), (60_007, 5)] {
-        report += &format!("line={line} refused={row}\n");
-    }
-    Example { name: "row 5", text: lines.into(), report }
 }

@@ -54,6 +54,7 @@ pub const SETS: Reckoning = Reckoning { name: "sets", sizes: [1235, 3072, 7872, 
 pub const BOTH: [Reckoning; 2] = [CLOCKS, SETS];
 
 /// A state in one piece of memory, a guard before, between and after its tables.
+#[derive(Clone)]
 pub struct Lent<'a> {
     by: &'a Reckoning,
     pub memory: Vec<u32>,
@@ -144,9 +145,8 @@ impl Lent<'_> {
     }
 }
 
-/// Feeds the records to a fresh state and holds each answer, and all totals after it, against what is expected. Says what differs.
-fn compare(by: &Reckoning, records: &[Numbers], expected: &[([u32; 3], Totals)]) -> Result<(), String> {
-    let mut lent = Lent::fresh(by)?;
+/// Feeds the records to a state that has seen no access and holds each answer, and all totals after it, against what is expected. Says what differs.
+fn compare(mut lent: Lent, records: &[Numbers], expected: &[([u32; 3], Totals)]) -> Result<(), String> {
     lent.expect_totals(&Totals::NONE)?;
     for (at, (record, (expected, totals))) in records.iter().zip(expected).enumerate() {
         let fed = || {
@@ -165,12 +165,17 @@ fn compare(by: &Reckoning, records: &[Numbers], expected: &[([u32; 3], Totals)])
 
 /// Both reckonings answer each of these records, as it was read, just as the path search does, and count its verdicts.
 pub fn expect(tally: &mut Tally, name: &str, records: &[Numbers], reading: &Reading, judged: &[Judged]) {
+    for by in &BOTH {
+        expect_from(tally, &format!("{}, {name}", by.name), &Lent::fresh(by), records, reading, judged);
+    }
+}
+
+/// The same by one of them, from a state that has seen no access.
+pub fn expect_from(tally: &mut Tally, name: &str, state: &Result<Lent, String>, records: &[Numbers], reading: &Reading, judged: &[Judged]) {
     let expected: Vec<_> = oracle::answers(reading, judged).into_iter().zip(oracle::totals(reading, judged)).collect();
     assert_eq!(records.len(), expected.len());
-    for by in &BOTH {
-        let result = compare(by, records, &expected);
-        tally.check(result.is_ok(), || format!("{}, {name}: {}", by.name, result.unwrap_err()));
-    }
+    let result = state.clone().and_then(|lent| compare(lent, records, &expected));
+    tally.check(result.is_ok(), || format!("{name}: {}", result.unwrap_err()));
 }
 
 /// The records of a text. A mark gets any number as its task, which is not looked at; a line that yields no record is one of no known kind.

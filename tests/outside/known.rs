@@ -2,10 +2,10 @@
 //! read word for word (entries.rs).
 
 use crate::cuts::{Cuts, WAYS};
-use crate::entries::{self, Entries, Entry, MOST};
+use crate::entries::{self, Entries, Entry, DIGITS, MOST};
 use crate::examples::{self, text};
 use crate::generate::{damage, recording, replace, shape, Random, Shape};
-use crate::oracle::{self, Judged, Reading, Totals, Verdict, TASKS, VARIABLES};
+use crate::oracle::{self, Judged, Reading, Totals, Verdict, LIMIT, TASKS, VARIABLES};
 use crate::program::{self, spawn};
 use crate::streaming::{self, of_entries, Kept};
 use crate::tally::Tally;
@@ -197,14 +197,15 @@ fn see(tally: &mut Tally, entries: &Entries, deck: &Deck) {
 
 // ---- By hand
 
-/// Lines of a file in short: `accepted 5 0 1` is an entry for variable 5 and tasks 0 and 1, seen at the number of its line; other words are a line as
-/// they are.
+/// Lines of a file in short: `accepted 5 0 1` is an entry for variable 5 and tasks 0 and 1, seen at the number of its line, in five digits and in
+/// seven by turns; other words are a line as they are.
 fn file(lines: &str) -> Vec<u8> {
     let mut out = String::new();
     for (at, line) in lines.split(", ").filter(|line| !line.is_empty()).enumerate() {
         match line.split(' ').collect::<Vec<_>>()[..] {
             [mark @ ("accepted" | "open"), var, low, high] => {
-                out += &format!("rec={:05} var={var} low={low} high={high} mark={mark}\n", at + 1)
+                let (rec, digits) = (at + 1, DIGITS[at % DIGITS.len()]);
+                out += &format!("rec={rec:0digits$} var={var} low={low} high={high} mark={mark}\n")
             }
             _ => out += &format!("{line}\n"),
         }
@@ -347,11 +348,19 @@ fn run_short(tally: &mut Tally, order: Option<&Folder>) {
         by_hand(tally, order, &format!("{name}, no LF at the end"), whole.strip_suffix(b"\n").unwrap_or(b""), &deck, &expected);
     }
     let deck = Deck::short("start 0 1, start 0 3, write 1 5, read 3 5");
-    let known = "rec=00003 task=1 var=5 verdict=clear with=00000\nrec=00004 task=3 var=5 verdict=known with=00003\n";
+    let known = "rec=0000003 task=1 var=5 verdict=clear with=0000000\nrec=0000004 task=3 var=5 verdict=known with=0000003\n";
     let race = known.replace("known", "race");
     let line = "rec=00012 var=5 low=1 high=3 mark=accepted\n";
+    let seven = line.replace("rec=", "rec=00");
+    let open = |line: &str| line.replace("accepted", "open");
     let cases = [
         ("document 02's entry", line.to_string(), known.to_string()),
+        ("document 02's entry in seven digits", seven.clone(), known.to_string()),
+        ("document 02's entry in six digits", line.replace("rec=", "rec=0"), format!("entry=1 refused=12\n{race}")),
+        ("accepted in five digits, open in seven", format!("{line}{}", open(&seven)), race.clone()),
+        ("accepted in seven digits, open in five", format!("{seven}{}", open(line)), race.clone()),
+        ("open in five digits, accepted in seven", format!("{}{seven}", open(line)), known.to_string()),
+        ("open in seven digits, accepted in five", format!("{}{line}", open(&seven)), known.to_string()),
         ("document 02's refusal", format!("{}x\n", line.repeat(3)), format!("entry=4 refused=12\n{known}")),
         ("an empty file", String::new(), race.clone()),
         ("an empty line", "\n".to_string(), format!("entry=1 refused=12\n{race}")),
@@ -372,9 +381,12 @@ const SOUND: &str = "rec=00012 var=5 low=0 high=1 mark=accepted";
 const NOT_OF_THE_FORM: &[(&str, &str)] = &[
     (
         "rec=00012 ",
-        "|rec=00000 |rec=60001 |rec=60010 |rec=65548 |rec=99999 |rec=0012 |rec=12 |rec=000012 |rec=060000 |rec=0000012 |rec=100012 \
+        "|rec=00000 |rec=0000000 |rec=000000 |rec=0 |rec=4000001 |rec=4000010 |rec=4000012 |rec=4194316 |rec=9999999 |rec=0012 |rec=12 |rec=012 \
+         |rec=000012 |rec=060000 |rec=100000 |rec=100012 |rec=400000 |rec=999999 |rec=00000012 |rec=04000000 |rec=40000000 |rec=000000012 \
          |rec=4294967308 |rec= |rec=0001 2 |rec= 0012 |rec=+0012 |rec=-0012 |rec=0001a |rec=0x012 |rec=00012\t|rec=00012  |rec=00012|rec=00012, \
-         |rec:00012 |Rec=00012 |REC=00012 |reco=00012 |re=00012 |=00012 |rec00012 |00012 | rec=00012 |\u{feff}rec=00012 |rec=0001\u{662} ",
+         |rec=000001 2 |rec= 000012 |rec=+000012 |rec=-000012 |rec=000001a |rec=a000012 |rec=0x00012 |rec=0_00012 |rec=0000012\t|rec=0000012  \
+         |rec=0000012|rec:0000012 |rec:00012 |Rec=00012 |REC=00012 |reco=00012 |re=00012 |=00012 |rec00012 |00012 | rec=00012 \
+         |\u{feff}rec=00012 |rec=0001\u{662} |rec=000\u{662}12 ",
     ),
     (
         "var=5 ",
@@ -398,7 +410,7 @@ const NOT_OF_THE_FORM: &[(&str, &str)] = &[
     (
         SOUND,
         "|rec=00012 low=0 var=5 high=1 mark=accepted|rec=00012 mark=accepted var=5 low=0 high=1|var=5 low=0 high=1 mark=accepted rec=00012\
-         |# the lamp test reads a dimmer value|entry=1 refused=12|rec=00003 task=1 var=5 verdict=race with=00002",
+         |# the lamp test reads a dimmer value|entry=1 refused=12|rec=0000003 task=1 var=5 verdict=race with=0000002",
     ),
 ];
 
@@ -412,7 +424,7 @@ fn run_not_of_the_form(tally: &mut Tally, order: Option<&Folder>) {
             by_hand(tally, order, &name, format!("{line}\n").as_bytes(), &race, &report("?1 12, 2 0 clear 0, 3 1 race 2"));
             let undone = format!("{SOUND}\n{line}\n");
             by_hand(tally, None, &name, undone.as_bytes(), &race, &report("?2 12, 2 0 clear 0, 3 1 known 2"));
-            let followed = format!("{line}\nrec=60000 var=5 low=0 high=2 mark=accepted");
+            let followed = format!("{line}\nrec=4000000 var=5 low=0 high=2 mark=accepted");
             let expected = report("?1 12, 3 2 clear 0, 4 1 race 3, 5 0 race 4");
             by_hand(tally, None, &name, followed.as_bytes(), &other, &expected);
         }
@@ -427,7 +439,9 @@ fn pair_deck(var: u32, low: u32, high: u32) -> Deck {
 
 /// The ends of the ranges: each is taken, and an open after it too.
 fn run_edges(tally: &mut Tally, order: Option<&Folder>) {
-    for rec in ["00001", "00009", "00010", "00999", "09999", "10000", "59999", "60000"] {
+    let five = ["00001", "00009", "00010", "00999", "09999", "10000", "60000", "60001", "65536", "99999"];
+    let seven = ["0000001", "0000009", "0000010", "0009999", "0060001", "0065536", "0099999", "0100000", "1000000", "3999999", "4000000"];
+    for rec in five.iter().chain(&seven) {
         for (var, low, high) in [(0, 0, 1), (5, 0, 15), (9, 9, 10), (10, 1, 2), (62, 8, 9), (63, 14, 15)] {
             let deck = pair_deck(var, low, high);
             let said = |word: &str| oracle::report(&deck.reading, &deck.judged).replace("race", word);
@@ -459,10 +473,13 @@ fn every_variable() -> Deck {
 fn run_numbers(tally: &mut Tally, order: Option<&Folder>) {
     let (pairs, variables) = (every_pair(), every_variable());
     let beyond = [255, 256, 257, 319, 320, 32_768, 65_535, 65_536, 65_537, 65_600, 99_999, 100_000, 1 << 32, (1 << 32) + 1, (1 << 32) + 5];
+    let limit = LIMIT as u64;
+    let records = [0, 1, 2, 9, 10, 12, 99, 100, 9_999, 10_000, 59_999, 60_000, 60_001, 99_998, 999_999, 1_000_000, 1_000_001, 3_999_999]
+        .into_iter()
+        .chain([limit - 1, limit, limit + 1, limit + 2, limit + 65_536, 1 << 22, 1 << 23, 9_999_999, 10_000_000, 10 * limit, 99_999_999]);
     let mut lines = Vec::new();
-    for width in 1..=7 {
-        for rec in [0, 1, 2, 9, 10, 12, 99, 100, 5_999, 6_000, 9_999, 10_000, 59_999, 60_000, 60_001, 60_002, 65_536].iter().chain(&beyond)
-        {
+    for width in 1..=9 {
+        for rec in records.clone().chain(beyond) {
             lines.push((&variables, format!("rec={rec:0width$} var=5 low=0 high=1 mark=accepted")));
         }
     }
@@ -491,7 +508,7 @@ fn run_every_key(tally: &mut Tally, order: Option<&Folder>) {
         let mut lines = String::new();
         let mut records: Vec<String> = (1..TASKS).map(|task| format!("start 0 {task}")).collect();
         for &(var, low, high) in some {
-            lines += &format!("{}\n", Entry { rec: 1 + random.below(60_000), var, low, high, accepted: true }.line());
+            lines += &format!("{}\n", Entry { var, low, high, accepted: true, ..any_seen(&mut random) }.line());
             // The same pair or one beside it, of the same variable or of one beside it.
             let other =
                 (random.pick(&[var, (var + 1) % 64, var ^ 16]), random.pick(&[low, low / 2]), random.pick(&[high, (high + 1).min(15)]));
@@ -588,18 +605,27 @@ fn shuffle<T>(random: &mut Random, list: &mut [T]) {
     }
 }
 
+/// An entry of a fault that was seen at any record, in one of the two forms.
+fn any_seen(random: &mut Random) -> Entry {
+    let digits = random.pick(&DIGITS);
+    let most = LIMIT.min(10_usize.pow(digits as u32) - 1);
+    Entry { rec: 1 + random.below(most), digits, var: 0, low: 0, high: 1, accepted: true }
+}
+
 fn any_entry(random: &mut Random, variables: &[u32]) -> Entry {
     let any = [random.below(15) as u32, random.below(15) as u32];
     let low = random.pick(&[0, 0, 0, 1, 1, 2, any[0]]);
     let high = (low + 1 + random.pick(&[0, 0, 1, any[1]])).min(15);
-    Entry { rec: 1 + random.below(60_000), var: random.pick(variables), low, high, accepted: random.percent(60) }
+    Entry { var: random.pick(variables), low, high, accepted: random.percent(60), ..any_seen(random) }
 }
 
-/// Spoils a line, its LF included, or makes it one that is nearly an entry.
+/// Spoils a line, its LF included, or makes it one that is nearly an entry, or the same with other digits.
 fn spoil(random: &mut Random, line: &mut Vec<u8>) {
     let (old, new) = random.pick(&[
         ("rec=", "rec=0"),
+        ("rec=", "rec=00"),
         ("rec=0", "rec="),
+        ("rec=00", "rec="),
         ("rec=", "rec=9"),
         ("var=", "var=0"),
         ("var=", "var=9"),
@@ -637,7 +663,7 @@ fn entry_file(random: &mut Random, deck: &Deck) -> Vec<u8> {
         let mut places: Vec<u64> = marks.iter().map(|_| random.next()).collect();
         places.sort();
         for (place, accepted) in places.into_iter().zip(marks) {
-            lines.push((place, Entry { rec: 1 + random.below(60_000), var, low, high, accepted }));
+            lines.push((place, Entry { var, low, high, accepted, ..any_seen(random) }));
         }
     }
     let beside: Vec<u32> = keys.iter().flat_map(|key| [key.0, (key.0 + 1) % 64, key.0 ^ 16]).chain([0, 63]).collect();
@@ -697,7 +723,7 @@ fn run_generated(first: u64, program: Option<&str>) -> Tally {
 fn run_bad(tally: &mut Tally, order: Option<&Folder>) {
     let deck = every_pair_of_four();
     let sample =
-        b"rec=00012 var=5 low=0 high=1 mark=accepted\nrec=60000 var=5 low=0 high=2 mark=accepted\nrec=00001 var=5 low=0 high=1 mark=open";
+        b"rec=00012 var=5 low=0 high=1 mark=accepted\nrec=4000000 var=5 low=0 high=2 mark=accepted\nrec=0000001 var=5 low=0 high=1 mark=open";
     let mut files: Vec<Vec<u8>> = Vec::new();
     for at in 0..sample.len() {
         files.push(sample[..at].to_vec());
@@ -708,8 +734,10 @@ fn run_bad(tally: &mut Tally, order: Option<&Folder>) {
             files.push([&sample[..at], &[byte], &sample[at..]].concat());
         }
     }
-    let words: Vec<&[u8]> =
-        "rec=|0000|00012|60001| var=|5|64| low=|0|1| high=|2|16| mark=|accepted|open|\n|\n|\r| |\0".split('|').map(str::as_bytes).collect();
+    let words: Vec<&[u8]> = "rec=|0000|00|00012|4000001|4000000| var=|5|64| low=|0|1| high=|2|16| mark=|accepted|open|\n|\n|\r| |\0"
+        .split('|')
+        .map(str::as_bytes)
+        .collect();
     for seed in 0..1_000 {
         let mut random = Random::new(9_700_000 + seed);
         let length = random.below(if seed % 10 == 0 { 4_000 } else { 200 });
@@ -775,7 +803,7 @@ fn run_refused(tally: &mut Tally) {
     let mut try_one = |name: &str, result: Result<(), String>| tally.check(result.is_ok(), || format!("entries, {name}: {result:?}"));
     let file = format!("{SOUND}\nx\n");
     for len in 1..file.len() {
-        for before in [&b""[..], b"rec=00001 var=5 low=0 high=2 mark=open\nrec=0"] {
+        for before in [&b""[..], b"rec=0000001 var=5 low=0 high=2 mark=open\nrec=0"] {
             let refused = Kept::begun().and_then(|mut kept| {
                 kept.call(of_entries, before, 64 * before.len())?;
                 for length in [0, 1, 63, 64 * len - 64, 64 * len - 1] {

@@ -553,18 +553,19 @@ fn run_full(tally: &mut Tally) {
     };
     let full = repeat("start 0 1, write 0 5", "give 0 1", "read 1 5");
     assert_eq!(full.len(), LIMIT);
-    expect(tally, "as many as there may be", &full, [0, 1, 0, 59_997]);
-    for &(record, row) in REFUSED.iter().chain(&[([0, 0, 5], 5), ([11, 1, 63], 5), ([8, 0, 3], 5), ([3, 0, 1], 5)]) {
-        let row = if row < 5 { row } else { 5 };
-        let mut list = full.clone();
+    expect(tally, "as many as there may be", &full, [0, 1, 0, LIMIT as u64 - 3]);
+    // One record for each row, and some that only row 5 refuses.
+    let each = (1..=9).filter_map(|row| REFUSED.iter().find(|refused| refused.1 == row)).copied();
+    let mut list = full;
+    for (record, row) in each.chain([([0, 0, 5], 5), ([11, 1, 63], 5), ([8, 0, 3], 5), ([3, 0, 1], 5)]) {
+        let row = row.min(5);
+        list.truncate(LIMIT);
         list.push(record);
         expect(tally, &format!("one past the limit, {record:?}"), &list, [row, 0, 0, 0]);
         list.push([255, 0, 0]);
         expect(tally, &format!("two past the limit, {record:?}"), &list, [row, 0, 0, 0]);
     }
-    let mut list = full.clone();
     list[10] = [7, 0, 0];
-    list.extend(full);
     expect(tally, "refused long before the limit", &list, [8, 0, 0, 0]);
 
     let all = |word: &str| (0..16).map(|task| format!("{word} {task} 5")).collect::<Vec<_>>().join(", ");
@@ -572,14 +573,13 @@ fn run_full(tally: &mut Tally) {
     let writes = all("write");
     let name = "every task's pair walks to the end";
     // 31 records before and 1 after.
-    expect(tally, name, &repeat(&format!("{starts}, {writes}"), "give 0 0", "read 0 5"), [0, 0xfffe, 0, 15 * 59_968]);
-    // 15 records before, 3,749 times 16 writes, and 1 after.
+    expect(tally, name, &repeat(&format!("{starts}, {writes}"), "give 0 0", "read 0 5"), [0, 0xfffe, 0, 15 * (LIMIT as u64 - 32)]);
     expect(tally, "writes by all tasks in turn", &repeat(&starts, &writes, "write 15 5"), [0, 0x7fff, 0, 0]);
     let bumps = repeat(&format!("{starts}, write 3 5"), &all("bump"), "bump 15 5");
     expect(tally, "bumps by all tasks in turn, after a write", &bumps, [0, 8, 0, 0]);
     let name = "own writes without end, none in order";
-    // 2 records before, 29,998 times 2, and 1 after.
-    expect(tally, name, &repeat("start 0 1, write 0 5", "write 1 5, give 1 1", "read 1 5"), [0, 1, 0, 29_998]);
+    // 2 records before, 1 after, and every other one of those between is walked.
+    expect(tally, name, &repeat("start 0 1, write 0 5", "write 1 5, give 1 1", "read 1 5"), [0, 1, 0, (LIMIT as u64 - 3) / 2]);
     let name = "own writes without end, all in order";
     expect(tally, name, &repeat("start 0 1, write 0 5, give 0 1, take 1 1", "write 1 5, give 1 1", "read 1 5"), [0, 1, 1, 0]);
     let back_and_forth = "write 0 5, give 0 1, take 1 1, write 1 5, give 1 2, take 0 2";

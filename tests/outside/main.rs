@@ -1,13 +1,13 @@
-//! Tests from outside: the C entry, texts in pieces and the programs against the plain path search, byte for byte, and bad
-//! input at scale; the programs on input that pauses; the running state and the sets, fed without text, against the same search, answer for answer,
-//! and their totals after each record; the lazy reckoning, reports with a planner's entries, which side could have settled a Doubt, and the other
-//! requests, against a literal reading of document 02 over that search. `outside [ORDER TOTALS SETTLE]` runs them; without the programs only the
+//! Tests from outside: the C entry, texts in pieces and the programs `order` and `totals` against the plain path search, byte for byte, and bad
+//! input at scale; as many records as may be, and more; the programs on input that pauses; the running state and the sets, fed without text,
+//! against the same search, answer for answer, and their totals after each record; the lazy reckoning, reports with a planner's entries, and
+//! `settle`, against a literal reading of document 02 over that search. `outside [ORDER TOTALS SETTLE]` runs them; without the programs only the
 //! archive is tested.
 //! `outside --report [ENTRIES]` prints what the plain path search says of the recording on standard input, with a file of entries if one is given.
 
-
 mod bad;
 mod cuts;
+mod edge;
 mod entries;
 mod entry;
 mod examples;
@@ -26,7 +26,7 @@ mod totals;
 
 use cuts::{Cuts, WAYS};
 use generate::{filling, recording, shape, Random, Shape};
-use oracle::{Fate, Judged, Verdict};
+use oracle::{Fate, Verdict};
 use std::io::Read;
 use tally::Tally;
 
@@ -57,23 +57,6 @@ fn run_examples(tally: &mut Tally, order: Option<&str>) {
         for cuts in WAYS {
             tally.expect(&format!("program, {cuts:?}"), &example.text, &example.report, program::report(order, &example.text, cuts));
         }
-    }
-}
-
-fn run_full(tally: &mut Tally, order: Option<&str>) {
-    let example = examples::full();
-    let reading = oracle::read(&example.text);
-    let refused = reading.fates.iter().filter(|fate| matches!(fate, Fate::Refused(_))).count();
-    tally.check(refused == 7, || format!("oracle, row 5: {refused} lines refused"));
-    let whole = |answer: Result<Vec<u8>, String>| answer.is_ok_and(|got| got == example.report.as_bytes());
-    tally.check(whole(entry::report(&example.text, 0)), || "entry, row 5".to_string());
-    tally.check(whole(streaming::report(&example.text, Cuts::Anywhere(5))), || "pieces, row 5".to_string());
-    // The search would take too long; one task alone has no conflict.
-    let clear = |access| Judged { access, verdict: Verdict::Clear, with: 0, apart: Vec::new() };
-    let judged: Vec<_> = oracle::accesses(&reading.recording).into_iter().map(clear).collect();
-    feeding::expect(tally, "row 5", &feeding::records(&example.text), &reading, &judged);
-    if let Some(order) = order {
-        tally.check(whole(program::report(order, &example.text, Cuts::Nowhere)), || "program, row 5".to_string());
     }
 }
 
@@ -235,7 +218,7 @@ fn on_threads(tally: &mut Tally, part: impl Fn(u64) -> Tally + Sync) {
 
 /// A test that never met a verdict or a refusal says nothing about it.
 fn run_coverage(tally: &mut Tally) {
-    let rows = [1, 2, 3, 4, 6, 7, 8, 9].map(|row| format!("refused {row}"));
+    let rows = [1, 2, 3, 4, 5, 6, 7, 8, 9].map(|row| format!("refused {row}"));
     let unsayable = [1, 2, 3, 4].map(|row| format!("unsayable, refused {row}"));
     let others =
         ["race", "clear", "doubt", "doubt tipped by a random completion", "recordings with a mark", "tables of any content, accepted"]
@@ -264,8 +247,7 @@ fn run_all(order: Option<&str>, totals: Option<&str>, settle: Option<&str>) {
     let mut tally = Tally::new();
     run_examples(&mut tally, order);
     tally.part("examples");
-    run_full(&mut tally, order);
-    tally.part("row 5");
+    edge::run(&mut tally, order, totals);
     if let Some(order) = order {
         pauses::run(&mut tally, order);
     }

@@ -252,7 +252,7 @@ int main(void) {
     for (size_t length = 0; length < 64; length++) call("op=read task=0 on=1", 19, length, 0);
     for (size_t size = 1; size <= len; size = size < 70 ? size + 1 : 2 * size) cut(sample, len, size);
     static const char file[] = "rec=00012 var=5 low=0 high=1 mark=accepted\nrec=00000 var=5 low=0 high=1 mark=open\n\n"
-                               "rec=60000 var=63 low=14 high=15 mark=accepted\nrec=00001 var=5 low=1 high=15 mark=open\n"
+                               "rec=4000000 var=63 low=14 high=15 mark=accepted\nrec=0000001 var=5 low=1 high=15 mark=open\n"
                                "rec=00001 var=64 low=1";
     for (size_t cut = sizeof file - 1; cut > 50; cut -= 7) cut_entries(file, cut, sample, len);
     fed("clocks", order_begin, order_feed, ORDER_CLOCK_CELLS);

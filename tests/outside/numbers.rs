@@ -2,7 +2,7 @@
 
 use crate::feeding::{self, Lent, Numbers, BOTH};
 use crate::generate::{recording, shape, Random};
-use crate::oracle::{self, Fate, Reading};
+use crate::oracle::{self, Fate, Reading, LIMIT};
 use crate::tally::Tally;
 
 /// Task 1 is live, task 2 has ended, and task 0 has written variable 5.
@@ -81,7 +81,7 @@ fn any_tables(tally: &mut Tally) {
     for seed in 0..300 {
         for by in &BOTH {
             let mut random = Random::new(3_000_000 + seed);
-            let end = random.pick(&[2, 3, 60_000, 1 << 32]);
+            let end = random.pick(&[2, 3, LIMIT, 1 << 32]);
             let mut lent = Lent::holding(by, || random.below(end) as u32);
             let mut wrong = Vec::new();
             for _ in 0..100 {
@@ -93,7 +93,7 @@ fn any_tables(tally: &mut Tally) {
                     // Accesses have a verdict, and no others.
                     (_, Ok([said, number, _])) => {
                         tally.see("tables of any content, accepted", 1);
-                        (1..=60_000).contains(number) && *said <= 4 && (*said == 1) == !is_access(record)
+                        (1..=LIMIT as u32).contains(number) && *said <= 4 && (*said == 1) == !is_access(record)
                     }
                     (_, Err(_)) => false,
                 };

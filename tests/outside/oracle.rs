@@ -4,7 +4,10 @@ use std::fmt::Write;
 
 pub const TASKS: u32 = 16;
 pub const VARIABLES: usize = 64;
-pub const LIMIT: usize = 60_000;
+/// So many records are accepted, and no more.
+pub const LIMIT: usize = 4_000_000;
+/// So many digits have `rec` and `with` in a report.
+pub const RECORD_DIGITS: usize = 7;
 
 #[derive(Clone, Copy, PartialEq, Eq, Debug)]
 pub enum Op {
@@ -119,14 +122,16 @@ enum Life {
 
 /// The accepted records so far and what became of each task.
 struct Accepted {
+    /// So many were accepted before these.
+    before: usize,
     records: Vec<Record>,
     life: [Life; TASKS as usize],
 }
 
-fn fresh() -> Accepted {
+fn fresh(before: usize) -> Accepted {
     let mut life = [Life::Unseen; TASKS as usize];
     life[0] = Life::Live;
-    Accepted { records: Vec::new(), life }
+    Accepted { before, records: Vec::new(), life }
 }
 
 fn named(mask: u32) -> impl Iterator<Item = u32> {
@@ -141,7 +146,7 @@ fn highest(op: Op) -> u32 {
 /// The first of rows 1 to 9 that applies.
 fn refusal(so_far: &Accepted, record: Option<Record>) -> Option<u32> {
     let live = |task: u32| so_far.life[task as usize] == Life::Live;
-    let full = so_far.records.len() >= LIMIT;
+    let full = so_far.before + so_far.records.len() >= LIMIT;
     match record {
         None => Some(1),
         Some(Record::Act(Act { op, task, on })) => {
@@ -198,18 +203,30 @@ pub enum Fate {
 }
 
 pub struct Reading {
+    /// So many records were accepted before, each the line of a text: they were acts of task 0 and nothing more, so that they make no pair
+    /// and no path, and all that they do is to be counted.
+    pub before: usize,
     pub recording: Vec<Record>,
     pub fates: Vec<Fate>,
 }
 
 /// Feeds each line of a text to a state that starts fresh.
 pub fn read(text: &[u8]) -> Reading {
-    feed(lines(text).into_iter().map(read_line))
+    read_after(0, text)
+}
+
+/// The same after so many acts of task 0.
+pub fn read_after(before: usize, text: &[u8]) -> Reading {
+    feed_after(before, lines(text).into_iter().map(read_line))
 }
 
 /// Feeds records, or what stands for one and is none, to a state that starts fresh.
 pub fn feed(records: impl Iterator<Item = Option<Record>>) -> Reading {
-    let mut so_far = fresh();
+    feed_after(0, records)
+}
+
+fn feed_after(before: usize, records: impl Iterator<Item = Option<Record>>) -> Reading {
+    let mut so_far = fresh(before);
     let mut fates = Vec::new();
     for record in records {
         fates.push(match (refusal(&so_far, record), record) {
@@ -220,7 +237,7 @@ pub fn feed(records: impl Iterator<Item = Option<Record>>) -> Reading {
             (row, _) => Fate::Refused(row.unwrap_or(1)),
         });
     }
-    Reading { recording: so_far.records, fates }
+    Reading { before, recording: so_far.records, fates }
 }
 
 // ---- Order
@@ -302,7 +319,9 @@ pub fn accesses(recording: &[Record]) -> Vec<Access> {
     for (at, record) in recording.iter().enumerate() {
         match *record {
             Record::Act(Act { op: Fresh, on, .. }) => since[on as usize] = at + 1,
-            Record::Act(Act { op, task, on }) if is_access(op) => list.push(Access { rec: at + 1, task, var: on, op, since: since[on as usize] }),
+            Record::Act(Act { op, task, on }) if is_access(op) => {
+                list.push(Access { rec: at + 1, task, var: on, op, since: since[on as usize] })
+            }
             _ => {}
         }
     }
@@ -423,13 +442,13 @@ pub struct Totals(pub [[u32; 3]; VARIABLES]);
 impl Totals {
     pub const NONE: Totals = Totals([[0; 3]; VARIABLES]);
 
-    fn count(&mut self, one: &Judged) {
-        let of_verdict = match one.verdict {
+    pub fn count(&mut self, var: u32, verdict: Verdict) {
+        let of_verdict = match verdict {
             Verdict::Clear => 0,
             Verdict::Race => 1,
             Verdict::Doubt => 2,
         };
-        self.0[one.access.var as usize][of_verdict] += 1;
+        self.0[var as usize][of_verdict] += 1;
     }
 
     pub fn any_race(&self) -> bool {
@@ -437,7 +456,7 @@ impl Totals {
     }
 
     /// The table: a head, a line for each variable that was accessed, and the sums, in five right-aligned columns.
-    fn table(&self) -> String {
+    pub fn table(&self) -> String {
         let mut out = format!("{:>3} {:>7} {:>7} {:>7} {:>7}\n", "var", "clear", "race", "doubt", "all");
         let mut line = |name: &str, [clear, race, doubt]: [u32; 3]| {
             writeln!(out, "{name:>3} {clear:>7} {race:>7} {doubt:>7} {:>7}", clear + race + doubt).unwrap();
@@ -458,7 +477,7 @@ pub fn totals<'a>(reading: &'a Reading, judged: &'a [Judged]) -> impl Iterator<I
     let mut judged = judged.iter().peekable();
     reading.fates.iter().map(move |fate| {
         if let Fate::Accepted(rec) = *fate {
-            judged.next_if(|one| one.access.rec == rec).into_iter().for_each(|one| so_far.count(one));
+            judged.next_if(|one| one.access.rec == rec).into_iter().for_each(|one| so_far.count(one.access.var, one.verdict));
         }
         so_far
     })
@@ -485,14 +504,29 @@ pub fn tables(reading: &Reading, judged: &[Judged], every: usize, ended: bool) -
 
 // ---- Report
 
-/// The word for a verdict, and the partner.
-pub fn said(one: &Judged) -> (&'static str, usize) {
-    let word = match one.verdict {
+pub fn word(verdict: Verdict) -> &'static str {
+    match verdict {
         Verdict::Clear => "clear",
         Verdict::Race => "race",
         Verdict::Doubt => "doubt",
-    };
-    (word, one.with)
+    }
+}
+
+/// The word for a verdict, and the partner.
+pub fn said(one: &Judged) -> (&'static str, usize) {
+    (word(one.verdict), one.with)
+}
+
+/// The line of an accepted access.
+pub fn access_line(rec: usize, task: u32, var: u32, verdict: &str, with: usize) -> String {
+    format!("rec={rec:0RECORD_DIGITS$} task={task} var={var} verdict={verdict} with={with:0RECORD_DIGITS$}\n")
+}
+
+impl Reading {
+    /// The number that a record has in an answer, by its place among these; 0 is none.
+    fn number(&self, rec: usize) -> usize {
+        (rec > 0).then_some(self.before + rec).unwrap_or(0)
+    }
 }
 
 /// One line for an accepted access, one for a refused line, none for other records.
@@ -505,17 +539,26 @@ pub fn report_as(reading: &Reading, judged: &[Judged], said: impl Fn(&Judged) ->
     let mut out = String::new();
     for (at, fate) in reading.fates.iter().enumerate() {
         match *fate {
-            Fate::Refused(row) => writeln!(out, "line={} refused={row}", at + 1).unwrap(),
+            Fate::Refused(row) => writeln!(out, "line={} refused={row}", reading.before + at + 1).unwrap(),
             Fate::Accepted(rec) => {
                 if let Ok(found) = judged.binary_search_by_key(&rec, |one| one.access.rec) {
                     let Access { task, var, .. } = judged[found].access;
                     let (verdict, with) = said(&judged[found]);
-                    writeln!(out, "rec={rec:05} task={task} var={var} verdict={verdict} with={with:05}").unwrap();
+                    out += &access_line(reading.number(rec), task, var, verdict, reading.number(with));
                 }
             }
         }
     }
     out
+}
+
+/// What the answer is to an access with this verdict, fed without text.
+pub fn answer_of(verdict: Verdict) -> u32 {
+    match verdict {
+        Verdict::Clear => 2,
+        Verdict::Race => 3,
+        Verdict::Doubt => 4,
+    }
 }
 
 /// The same for records fed without text, three numbers for each: what the answer is, the refusal's or the record's number, the partner's.
@@ -525,14 +568,9 @@ pub fn answers(reading: &Reading, judged: &[Judged]) -> Vec<[u32; 3]> {
         Fate::Accepted(rec) => match judged.binary_search_by_key(&rec, |one| one.access.rec) {
             Ok(found) => {
                 let Judged { verdict, with, .. } = judged[found];
-                let said = match verdict {
-                    Verdict::Clear => 2,
-                    Verdict::Race => 3,
-                    Verdict::Doubt => 4,
-                };
-                [said, rec as u32, with as u32]
+                [answer_of(verdict), reading.number(rec) as u32, reading.number(with) as u32]
             }
-            Err(_) => [1, rec as u32, 0],
+            Err(_) => [1, reading.number(rec) as u32, 0],
         },
     };
     reading.fates.iter().map(answer).collect()

@@ -3,7 +3,7 @@
 use crate::cuts::{pieces, Cuts};
 use std::io::{Read, Write};
 use std::os::fd::{AsRawFd, RawFd};
-use std::process::{Child, Command, Stdio};
+use std::process::{Child, ChildStdin, Command, Stdio};
 use std::time::{Duration, Instant};
 
 pub const PATIENCE: Duration = Duration::from_secs(30);
@@ -34,14 +34,14 @@ fn drained(pipe: RawFd, child: &mut Child, since: Instant) -> Result<(), String>
     }
 }
 
-/// Feeds the pieces one by one, and says so where the program does not take them all.
-pub fn feed(child: &mut Child, pieces: &[&[u8]], since: Instant) -> Result<(), String> {
+/// Feeds the pieces, and answers the pipe, which ends the input once it is dropped.
+pub fn feed(child: &mut Child, pieces: &[&[u8]], since: Instant) -> Result<ChildStdin, String> {
     let mut input = child.stdin.take().unwrap();
     for piece in pieces {
         input.write_all(piece).map_err(|e| format!("the program does not take its input: {e}"))?;
         drained(input.as_raw_fd(), child, since)?;
     }
-    Ok(())
+    Ok(input)
 }
 
 pub fn ended(child: &mut Child, since: Instant) -> Result<(), String> {
@@ -83,7 +83,7 @@ pub fn answer(mut child: Child, text: &[u8], cuts: Cuts) -> Result<Vec<u8>, Stri
         let mut wrote = Vec::new();
         output.read_to_end(&mut wrote).map(|_| wrote)
     });
-    let result = feed(&mut child, &pieces(text, cuts), since).and_then(|()| ended(&mut child, since));
+    let result = feed(&mut child, &pieces(text, cuts), since).map(drop).and_then(|()| ended(&mut child, since));
     if result.is_err() {
         let _ = child.kill();
         let _ = child.wait();

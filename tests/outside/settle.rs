@@ -2,10 +2,10 @@
 //! filling of both sides in every interleaving; then `order_settle` and the program `settle` are held to that rule.
 
 use crate::cuts::{pieces, Cuts, WAYS};
-use crate::examples::{self, text};
+use crate::examples::text;
 use crate::feeding::{self, Lent, Numbers, CLOCKS};
 use crate::generate::{filling, recording, shape, Random, Shape};
-use crate::oracle::{self, Access, Act, Fate, Op, Record, Verdict, LIMIT, LOST, OPS, TASKS};
+use crate::oracle::{self, Access, Act, Fate, Op, Record, Verdict, LIMIT, LOST, OPS, RECORD_DIGITS, TASKS};
 use crate::program::{self, PATIENCE};
 use crate::tally::Tally;
 use crate::{on_threads, pauses, short_texts, BETWEEN, THREADS};
@@ -873,8 +873,8 @@ fn line(text: &[u8], home: u32) -> String {
 }
 
 /// The table of a whole recording: refused lines and Doubts as they come, each Doubt with the tasks whose lost records could settle it alone; and
-/// at the end, for each task, how many it could. Record numbers have so many digits.
-fn table(text: &[u8], digits: usize, ended: bool) -> String {
+/// at the end, for each task, how many it could.
+fn table(text: &[u8], ended: bool) -> String {
     let reading = oracle::read(text);
     let judged = oracle::judge(&reading.recording);
     // A task that no mark names writes nothing.
@@ -901,7 +901,7 @@ fn table(text: &[u8], digits: usize, ended: bool) -> String {
         let listed: Vec<String> = alone.iter().map(usize::to_string).collect();
         let listed = if alone.is_empty() { "none".to_string() } else { listed.join(",") };
         let (Access { var, task, .. }, with) = (one.access, one.with);
-        out += &format!("line={} rec={rec:0digits$} var={var} task={task} with={with:0digits$} alone={listed}\n", at + 1);
+        out += &format!("line={} rec={rec:0RECORD_DIGITS$} var={var} task={task} with={with:0RECORD_DIGITS$} alone={listed}\n", at + 1);
     }
     if ended {
         for (task, times) in settles.iter().enumerate().filter(|(_, times)| **times > 0) {
@@ -912,16 +912,8 @@ fn table(text: &[u8], digits: usize, ended: bool) -> String {
     out
 }
 
-/// As many digits as record numbers have in the report that `order` writes.
-fn digits(order: &str) -> usize {
-    let report = program::report(order, b"op=read task=0 on=1\n", Cuts::Nowhere).unwrap_or_default();
-    let report = String::from_utf8_lossy(&report).into_owned();
-    report.strip_prefix("rec=").and_then(|rest| rest.split(' ').next()).map_or(0, str::len)
-}
-
 struct Program<'a> {
     path: &'a str,
-    digits: usize,
 }
 
 impl Program<'_> {
@@ -930,7 +922,7 @@ impl Program<'_> {
     }
 
     fn expect_table(&self, tally: &mut Tally, name: &str, text: &[u8], cuts: Cuts) {
-        tally.expect(&format!("settle, {name}, cut {cuts:?}"), text, &table(text, self.digits, true), ran(self.path, &[], text, cuts));
+        tally.expect(&format!("settle, {name}, cut {cuts:?}"), text, &table(text, true), ran(self.path, &[], text, cuts));
     }
 
     fn run_by_hand(&self, tally: &mut Tally) {
@@ -978,15 +970,14 @@ impl Program<'_> {
             self.expect_table(tally, name, text, Cuts::Nowhere);
         }
         // The form of a table, by hand.
-        let d = self.digits;
         let doubtful = text("start 0 1, write 0 5, give 0 2, lost 2, lost 1, take 1 9, write 2 5, read 1 5, lost 3, read 0 6, write 1 6");
-        let first = format!("line=7 refused=6\nline=8 rec={:0d$} var=5 task=1 with={:0d$} alone=0,1\n", 7, 2);
-        let whole = format!("{first}task=0 settles=1\ntask=1 settles=1\ndoubts=1\n");
+        let whole =
+            "line=7 refused=6\nline=8 rec=0000007 var=5 task=1 with=0000002 alone=0,1\ntask=0 settles=1\ntask=1 settles=1\ndoubts=1\n";
         for cuts in WAYS {
-            tally.expect("settle, a table by hand", &doubtful, &whole, ran(self.path, &[], &doubtful, cuts));
+            tally.expect("settle, a table by hand", &doubtful, whole, ran(self.path, &[], &doubtful, cuts));
         }
-        let none = format!("line=4 rec={:0d$} var=5 task=1 with={:0d$} alone=none\ndoubts=1\n", 4, 2);
-        tally.expect("settle, a table by hand, K9", &k9, &none, ran(self.path, &[], &k9, Cuts::Nowhere));
+        let none = "line=4 rec=0000004 var=5 task=1 with=0000002 alone=none\ndoubts=1\n";
+        tally.expect("settle, a table by hand, K9", &k9, none, ran(self.path, &[], &k9, Cuts::Nowhere));
         for (text, whole) in [(&b""[..], "doubts=0\n"), (b"\n", "line=1 refused=1\ndoubts=0\n")] {
             tally.expect("settle, a table by hand, nearly empty", text, whole, ran(self.path, &[], text, Cuts::Nowhere));
         }
@@ -1070,7 +1061,7 @@ impl Program<'_> {
         cases.push(("Doubts line by line", doubtful.split_inclusive('\n').map(String::from).collect()));
         cases.push(("Doubts, cut within lines", doubtful.split_inclusive("task").map(String::from).collect()));
         for (name, parts) in cases {
-            let due = |text: &[u8], ended: bool| table(text, self.digits, ended);
+            let due = |text: &[u8], ended: bool| table(text, ended);
             let seen = program::start(self.path, &[]).and_then(|child| pauses::watch(child, &parts, &due));
             tally.check(seen.is_ok(), || format!("settle, pauses, {name}: {}", seen.unwrap_err()));
             if parts.concat().contains("on=64") || parts.concat().contains("task=2") {
@@ -1137,22 +1128,23 @@ impl Program<'_> {
         tally.check(one.is_ok() && one == other, || format!("settle and order, {name}: {one:?} and {other:?}\n{}", text.escape_ascii()));
     }
 
-    /// As many records as there may be, and more. The search would take too long; one task alone has no conflict.
+    /// As many records as there may be, and more. The search would take too long; the lines are by hand.
     fn run_full(&self, tally: &mut Tally) {
-        let text = examples::full().text;
-        let fates = oracle::read(&text).fates;
-        let refused = |(at, fate): (usize, &Fate)| {
-            if let Fate::Refused(row) = fate {
-                Some(format!("line={} refused={row}\n", at + 1))
-            } else {
-                None
-            }
-        };
-        let refused: Vec<String> = fates.iter().enumerate().filter_map(refused).collect();
-        let wrote = |words: &[&str]| ran(self.path, &words.iter().map(|word| word.to_string()).collect::<Vec<_>>(), &text, Cuts::Nowhere);
-        tally.check(wrote(&["0"]).is_ok_and(|got| got == refused[0].as_bytes()), || "settle 0, row 5".to_string());
-        let whole = refused.concat() + "doubts=0\n";
-        tally.check(wrote(&[]).is_ok_and(|got| got == whole.as_bytes()), || "settle, row 5".to_string());
+        let mut most = text("start 0 1, write 0 5, give 0 2");
+        most.extend(text("give 0 3").repeat(LIMIT - 5));
+        most.extend(text("lost 2, read 1 5"));
+        let more = [&most[..], &text("read 1 5, read 16 5")].concat();
+        let (at, past) = (LIMIT, LIMIT + 1);
+        let doubt = format!("line={at} rec={at:0RECORD_DIGITS$} var=5 task=1 with={:0RECORD_DIGITS$} alone=1\n", 2);
+        let refused = format!("line={past} refused=5\n");
+        let table = format!("{doubt}{refused}line={} refused=2\ntask=1 settles=1\ndoubts=1\n", past + 1);
+        let cases = [("1", &most, "settle=yes\n"), ("0", &most, "settle=no\n"), ("1", &more, &refused), ("", &more, &table)];
+        for (words, text, expected) in cases {
+            let given: Vec<String> = words.split(' ').filter(|word| !word.is_empty()).map(String::from).collect();
+            let wrote = ran(self.path, &given, text, Cuts::Nowhere);
+            let right = wrote.as_ref().is_ok_and(|wrote| wrote == expected.as_bytes());
+            tally.check(right, || format!("settle {words}, row 5: {:?}", wrote.map(|wrote| String::from_utf8_lossy(&wrote).into_owned())));
+        }
     }
 }
 
@@ -1170,7 +1162,7 @@ pub fn run(tally: &mut Tally, order: Option<&str>, program: Option<&str>) {
     on_threads(tally, run_long);
     tally.part("settle, long lists");
     if let (Some(order), Some(path)) = (order, program) {
-        let program = Program { path, digits: digits(order) };
+        let program = Program { path };
         program.run_by_hand(tally);
         program.run_bad_words(tally);
         tally.part("settle, the program by hand");

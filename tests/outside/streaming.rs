@@ -37,6 +37,7 @@ extern "C" {
 }
 
 /// What is kept of a text between its pieces.
+#[derive(Clone)]
 pub struct Kept {
     state: Lent<'static>,
     held: [u8; GUARD + HELD + GUARD],
@@ -109,7 +110,8 @@ impl Kept {
     }
 
     /// Answers a text that is cut so: its pieces, and a rest without LF.
-    fn text(&mut self, by: Call, text: &[u8], cuts: Cuts) -> Result<Vec<u8>, String> {
+    pub fn text(&mut self, by: Call, text: &[u8], cuts: Cuts) -> Result<Vec<u8>, String> {
+        let before = self.progress[0];
         let mut whole = Vec::new();
         for piece in pieces(text, cuts) {
             whole.extend(self.piece(by, piece)?);
@@ -117,7 +119,7 @@ impl Kept {
         if self.progress[1] > 0 {
             whole.extend(self.piece(by, b"\n")?);
         }
-        let lines = oracle::lines(text).len() as u64;
+        let lines = before + oracle::lines(text).len() as u64;
         let right = self.progress == [lines, 0];
         right.then_some(whole).ok_or_else(|| format!("the progress at the end of {lines} lines is {:?}", self.progress))
     }

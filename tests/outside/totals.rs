@@ -1,9 +1,9 @@
-//! The program `totals` against counts over the verdicts of the plain path search.
+//! The program `totals` against counts over the verdicts of the plain path search. The limit of records is in edge.rs.
 
 use crate::cuts::{Cuts, WAYS};
 use crate::examples;
 use crate::generate::{recording, shape, Random};
-use crate::oracle::{self, Fate, Judged, Verdict};
+use crate::oracle::{self, Fate};
 use crate::pauses;
 use crate::program::{self, ended, start};
 use crate::tally::Tally;
@@ -45,19 +45,6 @@ fn run_generated(tally: &mut Tally, program: &str) {
         let text = recording(&mut random, &shape);
         let cuts = if seed % 2 == 0 { Cuts::Anywhere(seed) } else { WAYS[seed as usize / 2 % (WAYS.len() - 1)] };
         compare(tally, program, &format!("recording {seed}"), &text, EVERY[seed as usize % EVERY.len()], cuts);
-    }
-}
-
-/// As many records as there may be, and more. The search would take too long; one task alone has no conflict.
-fn run_full(tally: &mut Tally, program: &str) {
-    let text = examples::full().text;
-    let reading = oracle::read(&text);
-    let clear = |access| Judged { access, verdict: Verdict::Clear, with: 0, apart: Vec::new() };
-    let judged: Vec<_> = oracle::accesses(&reading.recording).into_iter().map(clear).collect();
-    for every in [0, 1_000, 7_777, 60_000, 60_001] {
-        let expected = oracle::tables(&reading, &judged, every, true);
-        let answer = program::run(program, &words(every), &text, Cuts::Nowhere);
-        tally.check(answer.is_ok_and(|got| got == expected.as_bytes()), || format!("totals {every}, row 5"));
     }
 }
 
@@ -135,8 +122,6 @@ pub fn run(tally: &mut Tally, program: &str) {
     run_examples(tally, program);
     run_generated(tally, program);
     tally.part("tables of totals");
-    run_full(tally, program);
-    tally.part("tables of totals, row 5");
     run_pauses(tally, program);
     run_refused(tally, program);
     run_closed(tally, program);
