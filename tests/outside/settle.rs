@@ -26,7 +26,7 @@ const YES: u32 = 2;
 
 /// Short recordings for every filling, lists of records, and recordings for the program.
 const SHORT_RECORDINGS: u64 = 4_000;
-const LISTS: u64 = 1_600;
+const LISTS: u64 = 1_200;
 const PROGRAM_RECORDINGS: u64 = 120;
 const GUARD: usize = 16;
 const FILL: u32 = 0xa5a5_a5a5;
@@ -711,7 +711,7 @@ fn run_fillings(tally: &mut Tally, random: &mut Random, name: &str, recording: &
     for home in [0, part, 0xffff & !part, 0xffff] {
         let forced = forced(recording, home);
         let objects = random.pick(&[1, 2, 3]);
-        let mut fill = |random: &mut Random, mask: u32| if mask == 0 { Vec::new() } else { filling(random, mask, objects) };
+        let fill = |random: &mut Random, mask: u32| if mask == 0 { Vec::new() } else { filling(random, mask, objects) };
         let with_far = oracle::paths(&oracle::complete(recording, |mask| {
             let far = fill(random, mask & !home);
             shuffled(random, oracle::fullest(mask & home), far)
