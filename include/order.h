@@ -306,7 +306,7 @@ void order_lazy(const uint32_t (*list)[3], size_t len, uint64_t answer[4]);
  *              one, and a larger home never turns yes into no.
  *
  * Nothing is kept between two calls. The pointers must be valid for their sizes, aligned and not null, also where len is 0, and the two must
- * not overlap. The memory is fixed whatever the length of the list. Needs libhost.a. */
+ * not overlap. The memory is fixed whatever the length of the list: the call needs under 32 kilobytes of stack. Needs libhost.a. */
 void order_settle(const uint32_t (*list)[3], size_t len, uint16_t home, uint32_t answer[2]);
 
 #ifdef __cplusplus

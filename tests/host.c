@@ -1,6 +1,6 @@
 /* A host program in C over the archives: document 01's example, row 11 at its edge, kept bytes, the empty text; then the same example fed
  * record by record to a running state and to the sets, and as a text in pieces, and its totals at each moment; a planner's entries before
- * it; lists for the lazy reckoning; the stack that calls need. */
+ * it; lists for the lazy reckoning, and with home sets; the stack that calls need. */
 #include <stdio.h>
 #include <string.h>
 #include <ucontext.h>
@@ -786,6 +786,15 @@ static void stacked_lazy(void) {
     check("a list on a stack of its own", answer[0] == 0);
 }
 
+static void stacked_settle(void) {
+    static const uint32_t list[][3] = {{ORDER_START, 0, 1}, {ORDER_WRITE, 0, 5}, {ORDER_GIVE, 0, 2}, {ORDER_FRESH, 1, 6}, {ORDER_SET, 0, 2},
+                                       {ORDER_LOST, 0, 3},  {ORDER_LOOK, 1, 2},  {ORDER_MISS, 1, 2}, {ORDER_TAKE, 1, 3},  {ORDER_BUMP, 1, 5},
+                                       {ORDER_START, 0, 2}, {ORDER_LOST, 0, 6},  {ORDER_JOIN, 0, 2}, {ORDER_READ, 0, 5}};
+    uint32_t answer[2];
+    order_settle(list, sizeof list / sizeof list[0], 3, answer);
+    check("a list and a home set on a stack of its own", answer[0] == 0 && answer[1] != ORDER_NEITHER);
+}
+
 /* A call needs less stack than the header promises: it is made on a stack of its own, and the lowest byte that it changed is looked for. */
 static void on_stack(const char *what, void (*call)(void), size_t promised) {
     static uint8_t stack[256 * 1024];
@@ -809,6 +818,7 @@ static void stacks(void) {
     cut_begin(&cut);
     on_stack("order_piece", stacked_piece, 1024);
     on_stack("order_lazy", stacked_lazy, 16 * 1024);
+    on_stack("order_settle", stacked_settle, 32 * 1024);
 }
 
 int main(void) {
