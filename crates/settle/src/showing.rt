@@ -4,60 +4,63 @@ use crate::tally::Tallies;
 use crate::tally::has;
 use libc::STDOUT_FILENO;
 use theory::TASKS;
-ghost use Prim.Native.Nat.{_<_, _≤_};
+ghost use mathlib.Core.List.{[], _∷_};
+ghost use Prim.Native.Nat.{_+_, _*_, _<_, _≤_};
 ghost use lib.ListN.{length};
+ghost use Rattle.theory.specs.order.Limits.{tasks};
+ghost use Rattle.text.specs.Printing.{decimal};
+ghost use Rattle.text.specs.Wrote.{Wrote};
 ghost use Rattle.io.specs.Counts.{Counts};
+ghost use Rattle.settle.specs.Table.{named, namedBelow};
 
-// Room for the tasks of a mask: a comma or a space and at most two digits each, and the words around them.
-const ROOM: usize = 64;
+// Room for the tasks of a mask: a comma and at most two digits each.
+const ROOM: usize = 3 * TASKS as usize;
 
-// Puts a byte after the n that stand there, as far as there is room.
-fn put(out: &mut [u8], n: usize, b: u8) -> usize
-    requires { ⌜ n ≤ length (now out) ⌝ }
-    ensures { λ r. ⌜ r ≤ length (now (out .entry)) ⌝ }
+// A byte.
+fn put_byte(out: &mut [u8], at: usize, b: u8) -> usize
+    requires { ⌜ at < length (now out) ⌝ }
+    ensures { λ r. ⌜ Wrote (now (out .entry)) at (b ∷ []) (now (out .exit)) r ⌝ }
 {
-    if n == out.len() {
-        return n;
-    }
-    out[n] = b;
-    n + 1
+    out[at] = b;
+    at + 1
 }
 
-// Puts a task's number.
-fn put_task(out: &mut [u8], n: usize, t: u32) -> usize
-    requires { ⌜ (n ≤ length (now out)) × (t < 16) ⌝ }
-    ensures { λ r. ⌜ r ≤ length (now (out .entry)) ⌝ }
+// A task's number: it has two digits at most.
+fn put_task(out: &mut [u8], at: usize, t: u32) -> usize
+    requires { ⌜ (at + 2 ≤ length (now out)) × (t < tasks) ⌝ }
+    ensures { λ r. ⌜ Wrote (now (out .entry)) at (decimal t) (now (out .exit)) r × (r ≤ at + 2) ⌝ }
 {
     if t < 10 {
-        return put(out, n, b'0' + t as u8);
+        return put_byte(out, at, b'0' + t as u8);
     }
-    let m = put(out, n, b'1');
-    put(out, m, b'0' + (t - 10) as u8)
+    let last = put_byte(out, at, b'1');
+    put_byte(out, last, b'0' + (t - 10) as u8)
 }
 
-// Puts a comma and the task, if it is in the mask.
-fn put_named(out: &mut [u8], n: usize, mask: u16, t: u32) -> usize
-    requires { ⌜ (n ≤ length (now out)) × (t < 16) ⌝ }
-    ensures { λ r. ⌜ r ≤ length (now (out .entry)) ⌝ }
+// A task of the mask, behind a comma.
+fn put_named(out: &mut [u8], at: usize, mask: u16, t: u32) -> usize
+    requires { ⌜ (at + 3 ≤ length (now out)) × (t < tasks) ⌝ }
+    ensures { λ r. ⌜ Wrote (now (out .entry)) at (named mask t) (now (out .exit)) r × (r ≤ at + 3) ⌝ }
 {
-    if !has(mask, t) {
-        return n;
+    if has(mask, t) {
+        let number = put_byte(out, at, b',');
+        return put_task(out, number, t);
     }
-    let m = put(out, n, b',');
-    put_task(out, m, t)
+    at
 }
 
-// Puts the tasks of a mask, each behind a comma.
+// The tasks of a mask.
 fn put_tasks(out: &mut [u8], mask: u16) -> usize
-    ensures { λ r. ⌜ Counts r (now (out .exit)) ⌝ }
+    requires { ⌜ 3 * tasks ≤ length (now out) ⌝ }
+    ensures { λ r. ⌜ Wrote (now (out .entry)) 0 (namedBelow mask tasks) (now (out .exit)) r × Counts r (now (out .exit)) ⌝ }
 {
-    let mut n = 0;
+    let mut to = 0;
     let mut t: u32 = 0;
     while t < TASKS {
-        n = put_named(out, n, mask, t);
+        to = put_named(out, to, mask, t);
         t += 1;
     }
-    n
+    to
 }
 
 // Writes the tasks that could settle a Doubt alone, at the end of its line.
