@@ -16,7 +16,7 @@ use Rattle.theory.specs.feeding.Feeding.{eventRecord}
 use Rattle.theory.specs.feeding.Following.{fedRefusal}
 use Rattle.theory.specs.settling.Forcing.{Forced}
 use Rattle.theory.specs.settling.Fold.{homeOnly, saysNo, saysYes, settledOf, settles}
-use Rattle.theory.specs.settling.Examples.{Example, AllForced, no-rows, and-row, table, recordsOf, SettledExamples}
+use Rattle.theory.specs.settling.Examples.{Question, AllForced, no-rows, and-row, questions, recordsOf, SettledExamples}
 use Rattle.theory.proofs.basics.Reflects.{by-test, both, passed, is-true}
 use Rattle.theory.proofs.order.Numbered.{same, same-true}
 use Rattle.theory.proofs.order.Ops.{event-act, access-tests}
@@ -38,24 +38,24 @@ forced-found home before o t n none y = forced-by home (ends-middle before []) t
 forced-found home before o t n (some x) y = forced-by home (ends-middle before []) false x y
 
 -- the row ends in an access, and its answer is what the search finds
-right-row : Example → Bool
+right-row : Question → Bool
 right-row x = of (x .access)
   where
     of : Event → Bool
     of (act o t n) = isAccess o && same (nobody (partner (filling (homeOnly (x .home))) (act o t n) 1 (x .before))) (x .forced)
     of (lost mask) = false
 
-right-rows : List Example → Bool
+right-rows : List Question → Bool
 right-rows [] = true
 right-rows (x ∷ xs) = right-row x && right-rows xs
 
 -- Rows
 
-data Good : Example → Type 0 where
+data Good : Question → Type 0 where
   good : {before : List Event} {home : ℕ} {b : Bool} (o : Op) (t n : ℕ) → T (isAccess o) → Forced home (before ++ (act o t n ∷ [])) (length before) b →
       Good (record { before = before; access = act o t n; home = home; forced = b })
 
-good-row : (x : Example) → T (right-row x) → Good x
+good-row : (x : Question) → T (right-row x) → Good x
 unfolding right-row
 good-row x y = of (x .access) y
   where
@@ -70,26 +70,26 @@ good-row x y = of (x .access) y
         (forced-found (x .home) (x .before) o t n found (partner-outcome 1 (x .before))))
     of (lost mask) y = absurd y
 
-data AllGood : List Example → Type 0 where
+data AllGood : List Question → Type 0 where
   none-left : AllGood []
-  one-more : {x : Example} {xs : List Example} → Good x → AllGood xs → AllGood (x ∷ xs)
+  one-more : {x : Question} {xs : List Question} → Good x → AllGood xs → AllGood (x ∷ xs)
 
-all-good : (xs : List Example) → T (right-rows xs) → AllGood xs
+all-good : (xs : List Question) → T (right-rows xs) → AllGood xs
 unfolding right-rows
 all-good [] y = none-left
 all-good (x ∷ xs) y = let (a, b) = passed (both (by-test (right-row x)) (by-test (right-rows xs))) y in one-more (good-row x a) (all-good xs b)
 
 -- The table
 
-table-good : AllGood table
+table-good : AllGood questions
 unfolding right-rows right-row nobody part round rounds onEach rule
-table-good = all-good table tt
+table-good = all-good questions tt
 
-all-forced : {xs : List Example} → AllGood xs → AllForced xs
+all-forced : {xs : List Question} → AllGood xs → AllForced xs
 all-forced none-left = no-rows
 all-forced (one-more (good o t n a f) g) = and-row f (all-forced g)
 
-pub examples-forced : AllForced table
+pub examples-forced : AllForced questions
 examples-forced = all-forced table-good
 
 -- Fed
@@ -99,15 +99,15 @@ one-answer : {home : ℕ} {es : List Event} {k : ℕ} (b c : Bool) → Forced ho
 one-answer true c f g = sym (g .yes .1 (f .yes .0 refl))
 one-answer false c f g = sym (g .no .1 (f .no .0 refl))
 
-row-settled : {x : Example} → Good x → recording (map eventRecord (x .before)) ≡ x .before → fedRefusal (recordsOf x) ≡ 0 →
+row-settled : {x : Question} → Good x → recording (map eventRecord (x .before)) ≡ x .before → fedRefusal (recordsOf x) ≡ 0 →
     settles (x .home) (recordsOf x) ≡ settledOf 0 (cond (x .forced) saysYes saysNo)
 row-settled (good {before = before} {home = home} {b = b} o t n a f) e q =
     let (c, s, g) = settled .access-end home (map eventRecord before) (eventRecord (act o t n)) q (access-tests o a) .says in
     s ∙ ap (λ (d : Bool). settledOf 0 (cond d saysYes saysNo)) (one-answer c b (rw (e, event-act o t n) at g) f)
 
-rows-settled : {xs : List Example} → AllGood xs → map (λ (x : Example). recording (map eventRecord (x .before))) xs ≡ map (λ (x : Example). x .before) xs →
-    map (λ (x : Example). fedRefusal (recordsOf x)) xs ≡ map (λ (x : Example). 0) xs →
-    map (λ (x : Example). settles (x .home) (recordsOf x)) xs ≡ map (λ (x : Example). settledOf 0 (cond (x .forced) saysYes saysNo)) xs
+rows-settled : {xs : List Question} → AllGood xs → map (λ (x : Question). recording (map eventRecord (x .before))) xs ≡ map (λ (x : Question). x .before) xs →
+    map (λ (x : Question). fedRefusal (recordsOf x)) xs ≡ map (λ (x : Question). 0) xs →
+    map (λ (x : Question). settles (x .home) (recordsOf x)) xs ≡ map (λ (x : Question). settledOf 0 (cond (x .forced) saysYes saysNo)) xs
 rows-settled none-left e q = refl
 rows-settled (one-more g gs) e q = rw (row-settled g (ap first-list e) (ap first-number q), rows-settled gs (ap tail e) (ap tail q))
   where

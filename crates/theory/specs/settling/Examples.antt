@@ -14,20 +14,20 @@ use Rattle.theory.specs.settling.Forcing.{Forced}
 use Rattle.theory.specs.settling.Fold.{saysNo, saysYes, settledOf}
 
 -- what stands before the access, the access, the home set, and the answer
-pub record Example : Type 0 where
+pub record Question : Type 0 where
   pub before : List Event
   pub access : Event
   pub home : ℕ
   pub forced : Bool
 
 infix 10 _then_for_gets_
-abbrev pub _then_for_gets_ : List Event → Event → ℕ → Bool → Example
+abbrev pub _then_for_gets_ : List Event → Event → ℕ → Bool → Question
 before then access for home gets forced = record { before = before; access = access; home = home; forced = forced }
 
 -- each answer of the list is the right one
-pub data AllForced : List Example → Type 0 where
+pub data AllForced : List Question → Type 0 where
   no-rows : AllForced []
-  and-row : {x : Example} {xs : List Example} → Forced (x .home) (x .before ++ (x .access ∷ [])) (length (x .before)) (x .forced) → AllForced xs →
+  and-row : {x : Question} {xs : List Question} → Forced (x .home) (x .before ++ (x .access ∷ [])) (length (x .before)) (x .forced) → AllForced xs →
       AllForced (x ∷ xs)
 
 -- an idle task that a mark names and a later join ends
@@ -42,8 +42,8 @@ bothLost = act start 0 1 ∷ w0 ∷ lost 3 ∷ []
 abbrev pub twoControllers : List Event
 twoControllers = act start 0 1 ∷ act start 0 2 ∷ act start 0 3 ∷ w1 ∷ lost 15 ∷ act give 0 4 ∷ act take 2 4 ∷ []
 
-abbrev pub table : List Example
-table =
+abbrev pub questions : List Question
+questions =
     (idle then act read 2 5 for 2 gets true)
     ∷ (idle then act read 2 5 for 1 gets false)
     -- the empty and the full set
@@ -71,11 +71,11 @@ table =
     ∷ []
 
 -- the records of a row, as they are fed
-abbrev pub recordsOf : Example → List Record
+abbrev pub recordsOf : Question → List Record
 recordsOf x = map eventRecord (x .before) ++ (eventRecord (x .access) ∷ [])
 
 -- whatever answers lists of records gives the answers that stand there
 abbrev pub SettledExamples : (ℕ → List Record → Settled) → Type 0
 SettledExamples answer =
-    map (λ (x : Example). answer (x .home) (recordsOf x)) table
-    ≡ map (λ (x : Example). settledOf 0 (cond (x .forced) saysYes saysNo)) table
+    map (λ (x : Question). answer (x .home) (recordsOf x)) questions
+    ≡ map (λ (x : Question). settledOf 0 (cond (x .forced) saysYes saysNo)) questions
