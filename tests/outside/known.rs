@@ -73,13 +73,13 @@ impl Deck {
 }
 
 /// The folder in which a program is started, of its own for each of these.
-struct Folder {
+pub struct Folder {
     program: PathBuf,
-    path: PathBuf,
+    pub path: PathBuf,
 }
 
 impl Folder {
-    fn new(program: &str) -> Folder {
+    pub fn new(program: &str) -> Folder {
         static FOLDERS: AtomicUsize = AtomicUsize::new(0);
         let number = FOLDERS.fetch_add(1, Ordering::Relaxed);
         let path = std::env::temp_dir().join(format!("order-{}-{number}", std::process::id()));
@@ -109,7 +109,7 @@ impl Folder {
     }
 
     /// What it wrote, where there is nothing to say.
-    fn report(&self, text: &[u8], cuts: Cuts) -> Result<Vec<u8>, String> {
+    pub fn report(&self, text: &[u8], cuts: Cuts) -> Result<Vec<u8>, String> {
         match self.run(self.start(), text, cuts)? {
             (wrote, said) if said.is_empty() => Ok(wrote),
             (_, said) => Err(format!("it says {said:?} on standard error")),
@@ -117,7 +117,7 @@ impl Folder {
     }
 
     /// The same with this file there, which is gone afterwards.
-    fn report_with(&self, file: &[u8], text: &[u8], cuts: Cuts) -> Result<Vec<u8>, String> {
+    pub fn report_with(&self, file: &[u8], text: &[u8], cuts: Cuts) -> Result<Vec<u8>, String> {
         fs::write(self.accepted(), file).map_err(|e| e.to_string())?;
         let report = self.report(text, cuts);
         fs::remove_file(self.accepted()).map_err(|e| e.to_string())?;

@@ -19,6 +19,7 @@ mod oracle;
 mod pauses;
 mod program;
 mod streaming;
+mod swaps;
 mod tally;
 mod totals;
 
@@ -261,6 +262,7 @@ fn run_all(order: Option<&str>, totals: Option<&str>) {
     numbers::run(&mut tally);
     lazy::run(&mut tally);
     known::run(&mut tally, order, totals);
+    swaps::run(&mut tally, order);
     bad::run(&mut tally, order);
     run_coverage(&mut tally);
     tally.part("coverage");

@@ -9,3 +9,4 @@ pub mod totals
 pub mod feeding
 pub mod lazy
 pub mod entries
+pub mod swapping

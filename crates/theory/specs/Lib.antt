@@ -14,3 +14,5 @@ pub mod totals
 pub mod entries
 -- The lazy reckoning
 pub mod lazy
+-- The same run, logged in another order
+pub mod swapping

@@ -142,7 +142,7 @@ module _ (fs : List Fault) (fit : AllFit fs) (some : 0 < length fs) (few : lengt
   abbrev s : State
   s = afterAll byClocks (startWith fs) rs
 
-  represents : Represents (recording rs) s
+  pub represents : Represents (recording rs) s
   unfolding freshState
   represents = after-all clocks-simulate [] (startWith fs) rs (record { base = record { control-exact = start .exact fresh-control; history = fresh-base .history; ranged = fresh-base .ranged; seen = fresh-base .seen }; clocks = clocks-simulate .begins .clocks })
 

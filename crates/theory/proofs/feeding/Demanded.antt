@@ -37,7 +37,7 @@ chosen : (P : Meaning → Type 0) (b : Bool) {x y : Meaning} → P x → P y →
 chosen P true p q = p
 chosen P false p q = q
 
-accepted-taken : (es : List Event) (e : Event) → isRefusal (acceptedAnswer es e) ≡ false
+pub accepted-taken : (es : List Event) (e : Event) → isRefusal (acceptedAnswer es e) ≡ false
 accepted-taken es e = chosen (λ a. isRefusal a ≡ false) (isAccessEvent e) refl refl
 
 accepted-number : (es : List Event) (e : Event) → refusalNumber (acceptedAnswer es e) ≡ 0

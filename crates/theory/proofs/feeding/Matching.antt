@@ -115,7 +115,7 @@ fresh-beside : Beside freshState freshSets
 unfolding freshState freshSets
 fresh-beside = record { control = refl; last = refl }
 
-after-one-more : {S : Type 0} (c : Checker S) (s : S) (rs : List Record) (r : Record) → afterAll c s (rs ++ (r ∷ [])) ≡ c .next (afterAll c s rs) r
+pub after-one-more : {S : Type 0} (c : Checker S) (s : S) (rs : List Record) (r : Record) → afterAll c s (rs ++ (r ∷ [])) ≡ c .next (afterAll c s rs) r
 after-one-more c s [] r = refl
 after-one-more c s (x ∷ rs) r = after-one-more c (c .next s x) rs r
 

@@ -32,7 +32,7 @@ pub record Reach (w : Filling) (e : Event) (xs : List Event) (m : Node) : Type 0
 
 -- Along a list
 
-fill-append : (g : ℕ → List Event) (xs ys : List Event) → fillWith g (xs ++ ys) ≡ fillWith g xs ++ fillWith g ys
+pub fill-append : (g : ℕ → List Event) (xs ys : List Event) → fillWith g (xs ++ ys) ≡ fillWith g xs ++ fillWith g ys
 fill-append g [] ys = refl
 fill-append g (act o t n ∷ xs) ys = ap (λ (l : List Event). act o t n ∷ l) (fill-append g xs ys)
 fill-append g (lost mask ∷ xs) ys = ap (λ (l : List Event). g mask ++ l) (fill-append g xs ys) ∙ sym (append-assoc (g mask) (fillWith g xs) (fillWith g ys))

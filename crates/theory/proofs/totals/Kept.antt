@@ -77,7 +77,7 @@ went-nowhere : {es : List Event} {control : List ℕ} (r : Record) (n : ℕ) →
 went-nowhere r n b = record { totals = λ w v hv. omega arith; of-races = omega arith; below = b }
 
 -- how many of the answers are Races
-abbrev raceCount : List Meaning → ℕ
+abbrev pub raceCount : List Meaning → ℕ
 raceCount [] = 0
 raceCount (m ∷ answers) = indicator (isRace m) + raceCount answers
 
@@ -181,7 +181,7 @@ module _ {S : Type 0} {c : Checker S} {R : List Event → S → Type 0} (k : Kee
 
 -- A Race anywhere
 
-some-race : (answers : List Meaning) → (0 < raceCount answers) ↔ SomeRace answers
+pub some-race : (answers : List Meaning) → (0 < raceCount answers) ↔ SomeRace answers
 some-race [] = (λ h. absurd (omega arith), λ x. elim x [ ])
 some-race (m ∷ answers) = (λ h. decided (some-race answers) h (by-test (isRace m)), there (some-race answers))
   where

@@ -60,13 +60,13 @@ module _ {g : ℕ → List Event} {f : Event} where
       no-act : {t mask : ℕ} → ¬ ActsIn t (lost mask)
       no-act a = elim a [ ]
 
-  candidate-first : {t : ℕ} {e : Event} {es : List Event} → Apart g f t e es → Candidate g f (e ∷ es) t zero
+  pub candidate-first : {t : ℕ} {e : Event} {es : List Event} → Apart g f t e es → Candidate g f (e ∷ es) t zero
   candidate-first a = record { e = _; after = _; occurs = first; apart = a }
 
-  candidate-next : {t i : ℕ} {e : Event} {es : List Event} → Candidate g f es t i → Candidate g f (e ∷ es) t (suc i)
+  pub candidate-next : {t i : ℕ} {e : Event} {es : List Event} → Candidate g f es t i → Candidate g f (e ∷ es) t (suc i)
   candidate-next c = record { e = c .e; after = c .after; occurs = next (c .occurs); apart = c .apart }
 
-  candidate-cases : {t i : ℕ} {e : Event} {es : List Event} → Candidate g f (e ∷ es) t i → Apart g f t e es ⊎ ((j : ℕ) × Candidate g f es t j)
+  pub candidate-cases : {t i : ℕ} {e : Event} {es : List Event} → Candidate g f (e ∷ es) t i → Apart g f t e es ⊎ ((j : ℕ) × Candidate g f es t j)
   candidate-cases c = cases (c .occurs) (c .apart)
     where
       cases : {t i : ℕ} {d e : Event} {es after : List Event} → Occurs (e ∷ es) i d after → Apart g f t d after → Apart g f t e es ⊎ ((j : ℕ) × Candidate g f es t j)
