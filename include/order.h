@@ -1,6 +1,6 @@
 /* The order checker for a host program in C. Link the archives whose functions are used: `rt staticlib NAME` writes libNAME.a, where NAME is
- * report (order_report), host (a running state and the sets, fed record by record, and their totals; order_lazy), gateway (order_step) or
- * pieces (order_piece, order_entries). */
+ * report (order_report), host (a running state and the sets, fed record by record, and their totals; order_lazy, order_settle), gateway
+ * (order_step) or pieces (order_piece, order_entries). */
 #ifndef ORDER_H
 #define ORDER_H
 
@@ -277,6 +277,37 @@ static inline uint32_t order_sets_state_any_race(const struct order_sets *s) {
  * The pointers must be valid for their sizes, aligned and not null, also where len is 0, and the two must not overlap.
  * The memory is fixed whatever the length of the list: the call needs under 16 kilobytes of stack. Needs libhost.a. */
 void order_lazy(const uint32_t (*list)[3], size_t len, uint64_t answer[4]);
+
+/* What order_settle answers. */
+#define ORDER_NEITHER 0 /* a record is refused, there are no records, or the last is no access */
+#define ORDER_NO 1      /* home cannot force Clear */
+#define ORDER_YES 2     /* home can */
+
+/* Whose lost records could have settled a Doubt, for a host that has a recording in memory as a list of records and asks about the access
+ * that ends it. Some tasks are the home side, those of one controller say, and all others are the far side. Home can force Clear where
+ * there are records of its own for the loss marks such that, with any far records put among them at the same marks, the access is in order
+ * with every earlier one that it conflicts with. Each side writes for those of its tasks that the mark names, of the kinds that can be lost:
+ * takes, gives, looks, sets and misses. Where home cannot, far has records, whatever home's are, with which the access is not in order.
+ *
+ *     static const uint32_t list[][3] = {
+ *         {ORDER_START, 0, 1}, {ORDER_WRITE, 0, 5}, {ORDER_GIVE, 0, 2}, {ORDER_LOST, 0, 2}, {ORDER_READ, 1, 5}};
+ *     uint32_t answer[2];
+ *
+ *     order_settle(list, sizeof list / sizeof list[0], 1 << 1, answer);
+ *
+ * answers 0, ORDER_YES: one of the records that task 1 lost may have taken semaphore 2. For a home of task 0 alone it is ORDER_NO.
+ *
+ * list, len: the records since a fresh state, each a kind, a task and a number, any numbers at all; there may be none.
+ * home: the home side, bit i for task i; any set, also the empty and the full one. A task that no mark names makes no difference.
+ * answer: two numbers are written.
+ *   answer[0]  the number of the refusal of the first record that is refused, 0 where none is.
+ *   answer[1]  ORDER_NEITHER where a record is refused, there are no records or the last is no access; otherwise ORDER_YES or ORDER_NO. A
+ *              Clear gets ORDER_YES and a Race ORDER_NO, whatever home is; a Doubt gets ORDER_NO of the empty set and ORDER_YES of the full
+ *              one, and a larger home never turns yes into no.
+ *
+ * Nothing is kept between two calls. The pointers must be valid for their sizes, aligned and not null, also where len is 0, and the two must
+ * not overlap. The memory is fixed whatever the length of the list: the call needs under 32 kilobytes of stack. Needs libhost.a. */
+void order_settle(const uint32_t (*list)[3], size_t len, uint16_t home, uint32_t answer[2]);
 
 #ifdef __cplusplus
 }

@@ -1,6 +1,6 @@
 /* A host program in C over the archives: document 01's example, row 11 at its edge, kept bytes, the empty text; then the same example fed
  * record by record to a running state and to the sets, and as a text in pieces, and its totals at each moment; a planner's entries before
- * it; lists for the lazy reckoning; the stack that calls need. */
+ * it; lists for the lazy reckoning, and with home sets; the stack that calls need. */
 #include <stdio.h>
 #include <string.h>
 #include <ucontext.h>
@@ -686,6 +686,80 @@ static void lazily(void) {
     }
 }
 
+/* A list, a home set, and what is answered for the access that ends the list: the refusal, and whether home can force Clear. */
+struct question {
+    const char *name;
+    size_t len;
+    uint32_t records[8][3];
+    uint16_t home;
+    uint32_t answer[2];
+};
+
+static const struct question questions[] = {
+    {"no records", 0, {{0}}, 0, {0, ORDER_NEITHER}},
+    {"no records, the full set", 0, {{0}}, UINT16_MAX, {0, ORDER_NEITHER}},
+    {"a Clear, the empty set", 1, {{ORDER_WRITE, 0, 5}}, 0, {0, ORDER_YES}},
+    {"a Race, the full set", 3, {{ORDER_START, 0, 1}, {ORDER_WRITE, 0, 5}, {ORDER_READ, 1, 5}}, UINT16_MAX, {0, ORDER_NO}},
+    {"the reader's lost take",
+     5,
+     {{ORDER_START, 0, 1}, {ORDER_WRITE, 0, 5}, {ORDER_GIVE, 0, 2}, {ORDER_LOST, 0, 2}, {ORDER_READ, 1, 5}},
+     1 << 1,
+     {0, ORDER_YES}},
+    {"and the writer",
+     5,
+     {{ORDER_START, 0, 1}, {ORDER_WRITE, 0, 5}, {ORDER_GIVE, 0, 2}, {ORDER_LOST, UINT32_MAX, 2}, {ORDER_READ, 1, 5}},
+     UINT16_MAX - (1 << 1),
+     {0, ORDER_NO}},
+    {"a hand-over that both lost, one side",
+     4,
+     {{ORDER_START, 0, 15}, {ORDER_WRITE, 0, 5}, {ORDER_LOST, 0, 32769}, {ORDER_BUMP, 15, 5}},
+     1 << 15,
+     {0, ORDER_NO}},
+    {"and both", 4, {{ORDER_START, 0, 15}, {ORDER_WRITE, 0, 5}, {ORDER_LOST, 0, 32769}, {ORDER_BUMP, 15, 5}}, 32769, {0, ORDER_YES}},
+    {"a joined task that may have acted",
+     6,
+     {{ORDER_START, 0, 2}, {ORDER_WRITE, 0, 5}, {ORDER_START, 0, 1}, {ORDER_LOST, 77, 2}, {ORDER_JOIN, 2, 1}, {ORDER_READ, 2, 5}},
+     2,
+     {0, ORDER_YES}},
+    {"and the other two",
+     6,
+     {{ORDER_START, 0, 2}, {ORDER_WRITE, 0, 5}, {ORDER_START, 0, 1}, {ORDER_LOST, 77, 2}, {ORDER_JOIN, 2, 1}, {ORDER_READ, 2, 5}},
+     5,
+     {0, ORDER_NO}},
+    {"no access ends it",
+     4,
+     {{ORDER_START, 0, 1}, {ORDER_WRITE, 0, 5}, {ORDER_LOST, 0, 3}, {ORDER_TAKE, 1, 2}},
+     UINT16_MAX,
+     {0, ORDER_NEITHER}},
+    {"a mark ends it", 3, {{ORDER_START, 0, 1}, {ORDER_WRITE, 0, 5}, {ORDER_LOST, 0, 3}}, 3, {0, ORDER_NEITHER}},
+    {"a kind past a byte", 3, {{ORDER_START, 0, 1}, {ORDER_WRITE + 256, 0, 5}, {ORDER_READ, 1, 5}}, 3, {1, ORDER_NEITHER}},
+    {"a kind past a byte at the end", 2, {{ORDER_START, 0, 1}, {UINT32_MAX, 0, 5}}, 3, {1, ORDER_NEITHER}},
+    {"a task past the last", 2, {{ORDER_START, 0, 1}, {ORDER_READ, 16, 5}}, UINT16_MAX, {2, ORDER_NEITHER}},
+    {"a task of many bits at the end", 1, {{ORDER_READ, UINT32_MAX, 5}}, 1, {2, ORDER_NEITHER}},
+    {"a variable past the last", 1, {{ORDER_BUMP, 0, 64}}, 1, {3, ORDER_NEITHER}},
+    {"a mark past 16 bits", 2, {{ORDER_LOST, 0, 65537}, {ORDER_READ, 0, 5}}, 1, {4, ORDER_NEITHER}},
+    {"the first refused counts",
+     4,
+     {{ORDER_READ, 0, 5}, {ORDER_JOIN, 0, 0}, {ORDER_LOST, 0, 0}, {ORDER_READ, 0, 5}},
+     1,
+     {8, ORDER_NEITHER}},
+};
+
+/* The answer is just this, the memory beside it stays, and so does the list. */
+static void settled(void) {
+    enum { LENT = sizeof questions[0].records };
+    for (size_t i = 0; i < sizeof questions / sizeof questions[0]; i++) {
+        const struct question *q = &questions[i];
+        uint32_t lent[LENT / sizeof q->records[0]][3], got[4] = {77, 77, 77, 77};
+        memcpy(lent, q->records, LENT);
+        order_settle((const uint32_t(*)[3])lent, q->len, q->home, got + 1);
+        char what[160];
+        snprintf(what, sizeof what, "settle, %s: %u %u", q->name, (unsigned)got[1], (unsigned)got[2]);
+        check(what, memcmp(got + 1, q->answer, sizeof q->answer) == 0 && got[0] == 77 && got[3] == 77);
+        check("a list stays", memcmp(lent, q->records, LENT) == 0);
+    }
+}
+
 /* All kinds of records, each verdict, and lines that are refused. */
 static const char every[] = "op=start task=0 on=1\nop=start task=0 on=2\nop=write task=0 on=5\nop=read task=1 on=5\nop=give task=0 on=2\n"
                             "op=take task=1 on=2\nop=bump task=1 on=5\nop=set task=1 on=3\nop=look task=2 on=3\nop=miss task=2 on=4\n"
@@ -712,6 +786,15 @@ static void stacked_lazy(void) {
     check("a list on a stack of its own", answer[0] == 0);
 }
 
+static void stacked_settle(void) {
+    static const uint32_t list[][3] = {{ORDER_START, 0, 1}, {ORDER_WRITE, 0, 5}, {ORDER_GIVE, 0, 2}, {ORDER_FRESH, 1, 6}, {ORDER_SET, 0, 2},
+                                       {ORDER_LOST, 0, 3},  {ORDER_LOOK, 1, 2},  {ORDER_MISS, 1, 2}, {ORDER_TAKE, 1, 3},  {ORDER_BUMP, 1, 5},
+                                       {ORDER_START, 0, 2}, {ORDER_LOST, 0, 6},  {ORDER_JOIN, 0, 2}, {ORDER_READ, 0, 5}};
+    uint32_t answer[2];
+    order_settle(list, sizeof list / sizeof list[0], 3, answer);
+    check("a list and a home set on a stack of its own", answer[0] == 0 && answer[1] != ORDER_NEITHER);
+}
+
 /* A call needs less stack than the header promises: it is made on a stack of its own, and the lowest byte that it changed is looked for. */
 static void on_stack(const char *what, void (*call)(void), size_t promised) {
     static uint8_t stack[256 * 1024];
@@ -735,6 +818,7 @@ static void stacks(void) {
     cut_begin(&cut);
     on_stack("order_piece", stacked_piece, 1024);
     on_stack("order_lazy", stacked_lazy, 16 * 1024);
+    on_stack("order_settle", stacked_settle, 32 * 1024);
 }
 
 int main(void) {
@@ -755,6 +839,7 @@ int main(void) {
     partners();
     entries_refused();
     lazily();
+    settled();
     stacks();
     printf("host: %d passed, %d failed\n", passed, failed);
     return failed != 0;

@@ -1,7 +1,8 @@
 //! Tests from outside: the C entry, texts in pieces and the programs `order` and `totals` against the plain path search, byte for byte, and bad
 //! input at scale; as many records as may be, and more; the programs on input that pauses; the running state and the sets, fed without text,
-//! against the same search, answer for answer, and their totals after each record; the lazy reckoning, and reports with a planner's entries,
-//! against a literal reading of document 02 over that search. `outside [ORDER TOTALS]` runs them; without the programs only the archive is tested.
+//! against the same search, answer for answer, and their totals after each record; the lazy reckoning, reports with a planner's entries, and
+//! `settle`, against a literal reading of document 02 over that search. `outside [ORDER TOTALS SETTLE]` runs them; without the programs only the
+//! archive is tested.
 //! `outside --report [ENTRIES]` prints what the plain path search says of the recording on standard input, with a file of entries if one is given.
 
 mod bad;
@@ -18,6 +19,7 @@ mod numbers;
 mod oracle;
 mod pauses;
 mod program;
+mod settle;
 mod streaming;
 mod swaps;
 mod tally;
@@ -239,10 +241,10 @@ fn main() {
         print!("{}", entries::read(&file).report(&reading, &oracle::judge(&reading.recording)));
         return;
     }
-    run_all(word.as_deref(), std::env::args().nth(2).as_deref());
+    run_all(word.as_deref(), std::env::args().nth(2).as_deref(), std::env::args().nth(3).as_deref());
 }
 
-fn run_all(order: Option<&str>, totals: Option<&str>) {
+fn run_all(order: Option<&str>, totals: Option<&str>, settle: Option<&str>) {
     let mut tally = Tally::new();
     run_examples(&mut tally, order);
     tally.part("examples");
@@ -261,6 +263,7 @@ fn run_all(order: Option<&str>, totals: Option<&str>) {
     tally.part("long recordings");
     numbers::run(&mut tally);
     lazy::run(&mut tally);
+    settle::run(&mut tally, order, settle);
     known::run(&mut tally, order, totals);
     swaps::run(&mut tally, order);
     bad::run(&mut tally, order);

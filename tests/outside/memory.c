@@ -211,6 +211,12 @@ static void listed(size_t len, uint8_t last, uint64_t refusal) {
     int right = answer[0] == refusal && answer[1] <= UINT16_MAX && (answer[2] & ~answer[1]) == 0 && answer[3] <= 15 * len;
     if (len) right = right && (answer[1] >> list[len - 1][1] & 1) == 0;
     if (refusal) right = right && answer[1] == 0 && answer[3] == 0;
+    /* The same list with a home set. */
+    uint32_t *settled = malloc(2 * sizeof *settled);
+    if (!settled) abort();
+    order_settle(list, len, 0x5555, settled);
+    int access = len && last == ORDER_WRITE;
+    right = right && settled[0] == refusal && (access ? settled[1] == ORDER_NO || settled[1] == ORDER_YES : settled[1] == ORDER_NEITHER);
     if (right) {
         passed++;
     } else {
@@ -219,6 +225,7 @@ static void listed(size_t len, uint8_t last, uint64_t refusal) {
     }
     free(list);
     free(answer);
+    free(settled);
 }
 
 static void lazily(void) {

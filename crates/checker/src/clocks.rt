@@ -38,7 +38,7 @@ ghost use Rattle.theory.specs.order.Limits.{tasks};
 ghost use Rattle.theory.specs.order.Recording.{Op, kind as number};
 ghost use Rattle.theory.specs.acceptance.Table.{Fitting};
 ghost use Rattle.theory.specs.history.History.{slots};
-ghost use Rattle.theory.specs.tables.Rows.{anyNewer, actedRow, cellCount, cell, joinRow, rowOf, joinWith, acquiredWith, putRow, flow, joinsActed, onward, gather, spread, noteNamed, mix};
+ghost use Rattle.theory.specs.tables.Rows.{anyNewer, actedRow, cellCount, cell, joinRow, rowOf, joinWith, acquiredWith, putRow, flow, joinsActed, onward, gather, spread, noteNamed, mix, mark};
 ghost use Rattle.theory.specs.tables.Joining.{acquiredBy, afterAcquiring};
 ghost use Rattle.theory.specs.tables.Reckonings.{clockOwn, maskOf, clockMask, masksBy};
 ghost use Rattle.theory.proofs.history.Accesses.{OfAccess};
@@ -199,6 +199,16 @@ pub(crate) fn mix(cells: &mut Clocks, mask: u32)
     gather(cells, mask);
     spread(cells, mask);
     note_named(cells, mask);
+}
+
+// A mark of which the lost records of these tasks are filled in; where they are nobody's, nothing is released.
+pub(crate) fn mark(cells: &mut Clocks, mask: u32)
+    ensures { λ _. ⌜ now (cells .exit) ≡ mark max tasks mask (now (cells .entry)) ⌝ }
+{
+    if mask == 0 {
+        return;
+    }
+    mix(cells, mask);
 }
 
 // Whether a task has acted.

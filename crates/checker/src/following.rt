@@ -13,10 +13,12 @@ ghost use mathlib.Core.Path.{_≡_};
 ghost use mathlib.Core.List.{[], map};
 ghost use Prim.Native.Nat.{_<_, _≤_};
 ghost use lib.ListN.{length, getD, take};
-ghost use Rattle.theory.specs.lazy.Fold.{recordIn, runOf, followed};
+ghost use Rattle.theory.specs.feeding.Following.{recordIn, runOf, followed};
+ghost use Rattle.theory.specs.lazy.Fold.{lazyAfter};
 ghost use Rattle.theory.specs.lazy.Lent.{lent};
 ghost use Rattle.theory.proofs.history.Accesses.{OfAccess};
-ghost use Rattle.theory.proofs.lazy.Code.{clippedKind, clipped, Within};
+ghost use Rattle.theory.proofs.feeding.Listed.{clippedKind, clipped};
+ghost use Rattle.theory.proofs.lazy.Code.{Within};
 
 // A number as a kind: those that are no kind's are all taken for the first of them.
 fn kind_of(k: u32) -> u8
@@ -49,7 +51,7 @@ pub(crate) fn follow(
 ) -> Followed
     requires { ⌜ (upto ≤ length (now list)) × OfAccess (q .kind) (q .task) (q .on) × Within (now control) (walk .walked) ⌝ }
     ensures { λ f. let s = lent nodes counts in ⌜ runOf (f .refused) (now (control .exit)) (s .exit (f .walk))
-        ≡ followed q (now (control .entry)) (s .entry walk) (take upto (map recordIn (now (list .entry)))) ⌝ }
+        ≡ followed (lazyAfter q) (now (control .entry)) (s .entry walk) (take upto (map recordIn (now (list .entry)))) ⌝ }
 {
     let mut kept = walk;
     let mut i = 0;

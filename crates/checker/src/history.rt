@@ -20,7 +20,8 @@ ghost use lib.Dec.{ltb, eqb};
 ghost use lib.ListN.{set, length};
 ghost use Rattle.theory.specs.order.Limits.{tasks, variables};
 ghost use Rattle.theory.specs.order.Recording.{Op, kind as number, accesses, numberedKind};
-ghost use Rattle.theory.specs.history.History.{askers, asker, askAt, kindClashes, slot, slots, latestNumber, withAccess, emptiedUnder, emptied};
+ghost use Rattle.theory.specs.acceptance.Table.{Proper};
+ghost use Rattle.theory.specs.history.History.{askers, asker, askAt, kindClashes, slot, slots, latestNumber, withAccess, emptiedUnder, emptied, lastAfter};
 ghost use Rattle.theory.proofs.history.Accesses.{OfAccess};
 
 // The number of a kind of access among those that ask, and ASKERS for any other kind.
@@ -128,4 +129,16 @@ pub(crate) fn renew(last: &mut History, kind: u8, on: u32)
             return;
         }
     }
+}
+
+// The history after any accepted record.
+pub(crate) fn keep_record(last: &mut History, kind: u8, task: Task, on: u32, number: RecordNumber)
+    requires { ⌜ Proper kind (task .0) on ⌝ }
+    ensures { λ _. ⌜ now (last .exit) ≡ lastAfter kind (task .0) on (number .0) (now (last .entry)) ⌝ }
+{
+    if is_access(kind) {
+        keep(last, kind, task, Variable(on), number);
+        return;
+    }
+    renew(last, kind, on);
 }

@@ -30,7 +30,8 @@ ghost use mathlib.Core.List.{[], map};
 ghost use Prim.Native.Nat.{_<_, _-_, _^_};
 ghost use Rattle.theory.specs.order.Limits.{tasks};
 ghost use Rattle.theory.specs.tables.Reckonings.{wordBits};
-ghost use Rattle.theory.specs.lazy.Fold.{lazyOf, runOf, recordIn, pairsOf, question, walkBy, walks, told, ending, lazily};
+ghost use Rattle.theory.specs.feeding.Following.{recordIn, runOf, ending};
+ghost use Rattle.theory.specs.lazy.Fold.{lazyOf, pairsOf, question, walkBy, walks, told, lazyFollower, lazily};
 ghost use Rattle.theory.proofs.history.Accesses.{OfAccess};
 
 // The access that is asked about: where the list ends in none that is in range, one that says nothing.
@@ -106,7 +107,7 @@ fn no_pairs(refused: u32) -> Pairs
 
 // The answer for the last record, by what the records before it came to.
 fn ending(control: &Control, nodes: &Nodes, counts: &Counts, before: Followed, q: Record) -> Pairs
-    ensures { λ r. ⌜ r ≡ ending q (runOf (before .refused) (now (control .entry)) (lazyOf (now (nodes .entry)) (now (counts .entry)) (before .walk))) ⌝ }
+    ensures { λ r. ⌜ r ≡ ending lazyFollower q (runOf (before .refused) (now (control .entry)) (lazyOf (now (nodes .entry)) (now (counts .entry)) (before .walk))) ⌝ }
 {
     if before.refused != 0 {
         return no_pairs(before.refused);

@@ -2,6 +2,7 @@
 // have two callers, and the compiler would no longer make it part of the loop over lines.
 mod feeding;
 mod lazy;
+mod settling;
 mod totals;
 
 pub use feeding::answer_numbers;
@@ -10,5 +11,6 @@ pub use feeding::order_feed;
 pub use feeding::order_sets_begin;
 pub use feeding::order_sets_feed;
 pub use lazy::order_lazy;
+pub use settling::order_settle;
 pub use totals::order_any_race;
 pub use totals::order_totals;

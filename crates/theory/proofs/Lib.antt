@@ -10,3 +10,4 @@ pub mod feeding
 pub mod lazy
 pub mod entries
 pub mod swapping
+pub mod settling

@@ -6,3 +6,5 @@ pub mod Paths
 pub mod Asked
 pub mod Matching
 pub mod Unused
+pub mod Following
+pub mod Listed

@@ -16,3 +16,5 @@ pub mod entries
 pub mod lazy
 -- The same run, logged in another order
 pub mod swapping
+-- Which controller could have settled it
+pub mod settling

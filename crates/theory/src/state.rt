@@ -51,6 +51,9 @@ pub const CLOCK_CELLS: usize = ROWS * COLUMNS;
 
 pub type Clocks = [u32; CLOCK_CELLS];
 
+// For each task the clocks that it alone fills in.
+pub type Homes = [Clocks; COLUMNS];
+
 // Sets have a bit for each kept access, so many to a word.
 pub const WORD_BITS: usize = 32;
 

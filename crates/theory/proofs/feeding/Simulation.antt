@@ -45,7 +45,7 @@ pub data Shape (es : List Event) : Record → Type 0 where
   a-mark : (t n : ℕ) → MarkAllowed (standing es) n → Shape es (record { kind = lossMark; task = t; on = n })
 
 -- a mask that is not empty names a task
-some-bit : (k n : ℕ) → ¬ (n ≡ 0) → n < 2 ^ k → (t : ℕ) × (t < k) × (n / 2 ^ t % 2 ≡ 1)
+pub some-bit : (k n : ℕ) → ¬ (n ≡ 0) → n < 2 ^ k → (t : ℕ) × (t < k) × (n / 2 ^ t % 2 ≡ 1)
 some-bit zero n h l = absurd (h (omega arith))
 some-bit (suc k) n h l = decided (n % 2) refl (some-bit k (n / 2))
   where
@@ -123,16 +123,17 @@ base-next {control = control} b (a-mark t n m) =
       seen = seen-event (lost n) (mark-live m) (b .seen);
     }
 
+-- the clocks of any filling
+pub clocks-by : {w : Filling} → Restricts w → {es : List Event} {control last b : List ℕ} {r : Record} → Base es control last → ExactClocks w es b → Shape es r →
+    ExactClocks w (Then es r) (nextClocks w (r .kind) (r .task) (r .on) (nextNumber control) b)
+clocks-by w b x (an-act o t n a) =
+    rw (event-act o t n, no-mark o)
+    (clocks-act o x (a .fits .task-fits) (on-series o (a .fits)) (next-number (b .control-exact)) (starts-unseen w (b .seen) (a .starts-unseen)))
+clocks-by w b x (a-mark t n m) = clocks-mark n (w .asked n (m .fits)) (mark-filled w m) x
+
 clocks-next : {es : List Event} {control last clocks fullclocks : List ℕ} {r : Record} → Base es control last → Clocks es clocks fullclocks → Shape es r →
     Clocks (Then es r) (nextClocks arrived (r .kind) (r .task) (r .on) (nextNumber control) clocks) (nextClocks full (r .kind) (r .task) (r .on) (nextNumber control) fullclocks)
-clocks-next {es} {control} {last} {clocks} {fullclocks} b x (an-act o t n a) =
-    rw (event-act o t n, no-mark o)
-    (record {
-      as-arrived = clocks-act o (x .as-arrived) (a .fits .task-fits) (on-series o (a .fits)) (next-number (b .control-exact)) (starts-unseen arrived-restricts (b .seen) (a .starts-unseen));
-      in-full = clocks-act o (x .in-full) (a .fits .task-fits) (on-series o (a .fits)) (next-number (b .control-exact)) (starts-unseen full-restricts (b .seen) (a .starts-unseen));
-    })
-clocks-next b x (a-mark t n m) =
-    record { as-arrived = clocks-mark n (arrived-restricts .asked n) (mark-filled arrived-restricts m) (x .as-arrived); in-full = clocks-mark n (full-restricts .asked n) (mark-filled full-restricts m) (x .in-full) }
+clocks-next b x h = record { as-arrived = clocks-by arrived-restricts b (x .as-arrived) h; in-full = clocks-by full-restricts b (x .in-full) h }
 
 sets-next : {es : List Event} {sets fullsets : List ℕ} {r : Record} → Seen es → Sets es sets fullsets → Shape es r →
     Sets (Then es r) (nextSets arrived (r .kind) (r .task) (r .on) sets) (nextSets full (r .kind) (r .task) (r .on) fullsets)
@@ -143,7 +144,7 @@ sets-next s x (an-act o t n a) =
       in-full = sets-act o (x .in-full) (a .fits .task-fits) (on-series o (a .fits)) (starts-unseen full-restricts s (a .starts-unseen));
     })
 sets-next s x (a-mark t n m) =
-    record { as-arrived = sets-mark n (arrived-restricts .asked n) (mark-filled arrived-restricts m) (x .as-arrived); in-full = sets-mark n (full-restricts .asked n) (mark-filled full-restricts m) (x .in-full) }
+    record { as-arrived = sets-mark n (arrived-restricts .asked n (m .fits)) (mark-filled arrived-restricts m) (x .as-arrived); in-full = sets-mark n (full-restricts .asked n (m .fits)) (mark-filled full-restricts m) (x .in-full) }
 
 -- What is answered
 

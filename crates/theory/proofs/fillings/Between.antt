@@ -14,11 +14,11 @@ use Rattle.theory.proofs.order.Places.{Ends, ends, onward, ends-at, Occ
 
 -- What stands between
 
-ends-behind : {es before : List Event} {k : ℕ} {f : Event} (gs : List Event) → Ends es k before f → Ends (gs ++ es) (length gs + k) (gs ++ before) f
+pub ends-behind : {es before : List Event} {k : ℕ} {f : Event} (gs : List Event) → Ends es k before f → Ends (gs ++ es) (length gs + k) (gs ++ before) f
 ends-behind [] d = rw zero-add d
 ends-behind (g ∷ gs) d = rw suc-add (onward (ends-behind gs d))
 
-occurs-behind : {es after : List Event} {i : ℕ} {e : Event} (gs : List Event) → Occurs es i e after → Occurs (gs ++ es) (length gs + i) e after
+pub occurs-behind : {es after : List Event} {i : ℕ} {e : Event} (gs : List Event) → Occurs es i e after → Occurs (gs ++ es) (length gs + i) e after
 occurs-behind [] o = rw zero-add o
 occurs-behind (g ∷ gs) o = rw suc-add (next (occurs-behind gs o))
 
@@ -50,12 +50,12 @@ between (fill {gs = gs} x c) (onward d) (next o) =
 
 -- Completions by a function
 
-map-filled : {F G : ℕ → List Event → Type 0} {es fs : List Event} → ((mask : ℕ) (gs : List Event) → F mask gs → G mask gs) → Filled F es fs → Filled G es fs
+unfoldable pub map-filled : {F G : ℕ → List Event → Type 0} {es fs : List Event} → ((mask : ℕ) (gs : List Event) → F mask gs → G mask gs) → Filled F es fs → Filled G es fs
 map-filled h done = done
 map-filled h (keep c) = keep (map-filled h c)
 map-filled h (fill x c) = fill (h _ _ x) (map-filled h c)
 
-place-map : {F G : ℕ → List Event → Type 0} {es fs : List Event} (h : (mask : ℕ) (gs : List Event) → F mask gs → G mask gs) (c : Filled F es fs) (i : ℕ) →
+pub place-map : {F G : ℕ → List Event → Type 0} {es fs : List Event} (h : (mask : ℕ) (gs : List Event) → F mask gs → G mask gs) (c : Filled F es fs) (i : ℕ) →
     place (map-filled h c) i ≡ place c i
 unfolding map-filled
 place-map h done i = refl
@@ -63,6 +63,13 @@ place-map h (keep c) zero = refl
 place-map h (keep c) (suc i) = ap suc (place-map h c i)
 place-map h (fill x c) zero = refl
 place-map h (fill {gs = gs} x c) (suc i) = ap (λ (j : ℕ). length gs + j) (place-map h c i)
+
+-- what stands between two arrived records where g fills each mark is what stood between them, filled in by g
+pub with-between : (g : ℕ → List Event) {es before mid : List Event} {i k : ℕ} {o p : Op} {t u n m : ℕ} → Ends es k before (act p u m) → Occurs before i (act o t n) mid →
+    HappensBefore (fillWith g es) (place (filled-with g es) i) (place (filled-with g es) k) ↔ Leads (act o t n) (fillWith g mid) (act p u m)
+with-between g {es} d o =
+    let b = between (filled-with g es) d o in
+    (λ q. rw (← filled-is (b .filled)) (path-leads (b .to) (b .from) q), λ q. leads-path (b .to) (b .from) (rw (← filled-is (b .filled)) at q))
 
 -- `g` fills each mark with fillers
 module _ (g : ℕ → List Event) (fillers : (mask : ℕ) → Every (Filler mask) (g mask)) where
@@ -72,13 +79,10 @@ module _ (g : ℕ → List Event) (fillers : (mask : ℕ) → Every (Filler mask
   pub completes : (es : List Event) → Completion es (fillWith g es)
   completes es = map-filled allowed (filled-with g es)
 
-  -- what stands between two arrived records in that completion is what stood between them, filled in by g
   pub completes-between : {es before mid : List Event} {i k : ℕ} {o p : Op} {t u n m : ℕ} → Ends es k before (act p u m) → Occurs before i (act o t n) mid →
       HappensBefore (fillWith g es) (place (completes es) i) (place (completes es) k) ↔ Leads (act o t n) (fillWith g mid) (act p u m)
   unfolding completes
-  completes-between {es} {i = i} {k = k} d o =
-      let b = between (filled-with g es) d o in
-      (λ q. rw (← filled-is (b .filled)) (path-leads (b .to) (b .from) (rw (place-map allowed (filled-with g es) i, place-map allowed (filled-with g es) k) at q)), λ q. rw (place-map allowed (filled-with g es) i, place-map allowed (filled-with g es) k) (leads-path (b .to) (b .from) (rw (← filled-is (b .filled)) at q)))
+  completes-between {es} {i = i} {k = k} d o = rw (place-map allowed (filled-with g es) i, place-map allowed (filled-with g es) k) (with-between g d o)
 
 -- Places by what comes before them
 
@@ -92,12 +96,7 @@ place-behind {g} (fill {mask = mask} is c) (there {es = es} {i = i} a) = rw (pla
 -- a path between two of them where g fills each mark
 pub filled-path : (g : ℕ → List Event) {es before mid : List Event} {i k : ℕ} {o p : Op} {t u n m : ℕ} → Ends es k before (act p u m) → Occurs before i (act o t n) mid →
     HappensBefore (fillWith g es) (length (fillWith g (take i es))) (length (fillWith g (take k es))) ↔ Leads (act o t n) (fillWith g mid) (act p u m)
-filled-path g {es} d o =
-    let c = filled-with g es in
-    let b = between c d o in
-    let ei = place-behind c (occurs-at d o) in
-    let ek = place-behind c (ends-at d) in
-    (λ q. rw (← filled-is (b .filled)) (path-leads (b .to) (b .from) (rw (ei, ek) q)), λ q. rw (← ei, ← ek) (leads-path (b .to) (b .from) (rw (filled-is (b .filled)) q)))
+filled-path g {es} d o = rw (← place-behind (filled-with g es) (occurs-at d o), ← place-behind (filled-with g es) (ends-at d)) (with-between g d o)
 
 -- Places keep their order
 

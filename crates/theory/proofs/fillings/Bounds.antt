@@ -6,7 +6,7 @@ use Prim.Native.Nat.{ℕ, suc, _<_}
 use native.Mathlib.Omega.{arith}
 use Rattle.theory.specs.order.Recording.{Op, Event, act, At}
 use Rattle.theory.specs.order.Path.{HappensBefore}
-use Rattle.theory.specs.fillings.Completion.{Filled, Completion, place, fillWith, nothing, rounds, fullest}
+use Rattle.theory.specs.fillings.Completion.{Filled, Completion, place, fillWith, nothing, rounds, fullest, full}
 use Rattle.theory.specs.verdicts.Verdict.{ApartInAll, ApartAsArrived}
 use Rattle.theory.proofs.basics.Reflects.{Reflects, right, wrong, at-most}
 use Rattle.theory.proofs.order.Leads.{Leads, leads-survives, leads-as-arrived, filled-with}
@@ -47,7 +47,7 @@ path-most c ai ak p =
     let (before, d) = at-ends ak in
     let (mid, o) = at-occurs d ai (placed-later c p) in
     let b = between c d o in
-    completes-between rounds filler-rounds d o .1 (leads-most (b .filled) (path-leads (b .to) (b .from) p))
+    completes-between rounds filler-rounds d o .1 (leads-most full (b .filled) (path-leads (b .to) (b .from) p))
 
 pub path-arrived : {es : List Event} {i k : ℕ} {o p : Op} {t u n m : ℕ} → At es i (act o t n) → At es k (act p u m) →
     HappensBefore (fillWith nothing es) (place (arrived-completes es) i) (place (arrived-completes es) k) → HappensBefore es i k
@@ -70,5 +70,5 @@ module _ {es before mid : List Event} {i k : ℕ} {o p : Op} {t u n m : ℕ} (d 
   unfolding fullest-completes
   apart-in-all = (
     λ a l. a (fullest es) (fullest-completes es) (completes-between rounds filler-rounds d x .1 l),
-    λ a fs c q. let b = between c d x in a (leads-most (b .filled) (path-leads (b .to) (b .from) q)),
+    λ a fs c q. let b = between c d x in a (leads-most full (b .filled) (path-leads (b .to) (b .from) q)),
   )

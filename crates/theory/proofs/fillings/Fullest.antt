@@ -7,7 +7,7 @@ use Prim.Native.Nat.{ℕ, zero, suc, _<_, zero-le, suc-le-suc}
 use lib.Dec.{T, lit<}
 use Rattle.theory.specs.order.Limits.{tasks}
 use Rattle.theory.specs.order.Recording.{Every, no-more, and-more, Op, take, give, look, set, Event, act, series, losable}
-use Rattle.theory.specs.fillings.Completion.{bit, names, Named, Filler, filler, done, keep, fill, Completion, inTurn, onEach, part, partIf, round, rounds, fullest, nothing}
+use Rattle.theory.specs.fillings.Completion.{bit, names, Named, Filler, filler, Filled, done, keep, fill, inTurn, onEach, part, partIf, round, rounds, nothing, fillWith, Filling, filling}
 use Rattle.theory.proofs.basics.Reflects.{by-test, both, at-most, passed, is-true}
 use Rattle.theory.proofs.order.Leads.{Leads}
 use Rattle.theory.proofs.order.Carry.{Node, due, semaphore, Acquires, own, by-take, by-look, by-join, Releases, own-next, own-acted, by-give, by-set, by-start, Carry, stay, pass, move, carry-skip, carry-append, carry-split, carry-one, carry-in-turn, leads-carried, carried-leads}
@@ -87,18 +87,20 @@ unfolding rounds
 mix-rounds {mask} same = carry-skip (rounds mask)
 mix-rounds (mixed acquired released) = carry-append (acquired-round acquired) (released-round released)
 
--- The fullest has every path of every completion
+-- A filling has every path of whatever its tasks may put for the marks; so the fullest has every path of every completion
 
-pub carry-most : {mid mid′ : List Event} {n m : Node} → Completion mid mid′ → Carry n mid′ m → Carry n (fullest mid) m
-carry-most done c = c
-carry-most (keep d) (pass c) = pass (carry-most d c)
-carry-most (keep d) (move h t c) = move h t (carry-most d c)
-carry-most (fill {gs = gs} g d) c =
+pub carry-most : (w : Filling) {mid mid′ : List Event} {n m : Node} → Filled (λ mask. Every (Filler (w mask))) mid mid′ → Carry n mid′ m →
+    Carry n (fillWith (filling w) mid) m
+carry-most w done c = c
+carry-most w (keep d) (pass c) = pass (carry-most w d c)
+carry-most w (keep d) (move h t c) = move h t (carry-most w d c)
+carry-most w (fill {gs = gs} g d) c =
     let (p, inside, rest) = carry-split gs c in
-    carry-append (mix-rounds (carry-mix g inside)) (carry-most d rest)
+    carry-append (mix-rounds (carry-mix g inside)) (carry-most w d rest)
 
-pub leads-most : {mid mid′ : List Event} {e f : Event} → Completion mid mid′ → Leads e mid′ f → Leads e (fullest mid) f
-leads-most d p = let (n, m, t, c, h) = leads-carried p in carried-leads t (carry-most d c) h
+pub leads-most : (w : Filling) {mid mid′ : List Event} {e f : Event} → Filled (λ mask. Every (Filler (w mask))) mid mid′ → Leads e mid′ f →
+    Leads e (fillWith (filling w) mid) f
+leads-most w d p = let (n, m, t, c, h) = leads-carried p in carried-leads t (carry-most w d c) h
 
 -- The fullest is a completion, and so is the recording as it arrived
 

@@ -39,13 +39,13 @@ pub record Ended (w : Filling) (Chosen : Event → List Event → Type 0) (es : 
 pub record Restricts (w : Filling) : Type 0 where
   pub within : (mask t : ℕ) → Named (w mask) t → Named mask t
   pub bounded : (mask : ℕ) → mask < 2 ^ tasks → w mask < 2 ^ tasks
-  pub asked : (mask : ℕ) → ¬ (w mask ≡ 0) → T (fills w)
+  pub asked : (mask : ℕ) → mask < 2 ^ tasks → ¬ (w mask ≡ 0) → T (fills w)
 
 pub arrived-restricts : Restricts arrived
-arrived-restricts = record { within = λ mask t d. absurd (nobody-named d); bounded = λ mask h. omega arith; asked = λ mask n. absurd (n refl) }
+arrived-restricts = record { within = λ mask t d. absurd (nobody-named d); bounded = λ mask h. omega arith; asked = λ mask h n. absurd (n refl) }
 
 pub full-restricts : Restricts full
-full-restricts = record { within = λ mask t d. d; bounded = λ mask h. h; asked = λ mask n. tt }
+full-restricts = record { within = λ mask t d. d; bounded = λ mask h. h; asked = λ mask h n. tt }
 
 -- In the fullest filling each has acted who has in another
 

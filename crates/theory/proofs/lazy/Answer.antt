@@ -15,22 +15,20 @@ use Rattle.theory.specs.order.Limits.{tasks, variables}
 use Rattle.theory.specs.order.Recording.{Op, read, Event, act, ActsIn, acts, kind, kinds, lossMark, eventOf, isAccess, kindAccesses, accesses}
 use Rattle.theory.specs.order.Path.{HappensBefore, Conflict, conflict}
 use Rattle.theory.specs.fillings.Completion.{bit}
-use Rattle.theory.specs.acceptance.Table.{refusal, appendUnless, extended, recording}
-use Rattle.theory.specs.acceptance.Control.{controlRefusal}
+use Rattle.theory.specs.acceptance.Table.{refusal, recording}
 use Rattle.theory.specs.verdicts.Verdict.{Latest}
 use Rattle.theory.specs.feeding.Step.{freshControl, freshSets}
-use Rattle.theory.specs.feeding.Feeding.{refusalsAfter}
 use Rattle.theory.specs.feeding.Paths.{sets, leftBy, Retained, RetainedApart}
 use Rattle.theory.specs.lazy.Walk.{Walks, Counted, WalkOf, no-pair, no-walk, walk, Between, pair}
-use Rattle.theory.specs.lazy.Fold.{Lazy, wordAt, byEnd, column, pairsOf, walkBy, told, question, answeredAt, lazyEnd, Run, followed, freshLazy, lazily}
-use Rattle.theory.specs.lazy.Answer.{firstRefused, fedRefusal, Told, AnswersLazily}
+use Rattle.theory.specs.lazy.Fold.{Lazy, wordAt, byEnd, column, pairsOf, walkBy, told, question, lazyAfter, freshLazy, lazyFollower, lazily}
+use Rattle.theory.specs.lazy.Answer.{Told, AnswersLazily}
 use Rattle.theory.proofs.basics.Reflects.{Reflects, right, wrong, by-test, equal, at-most}
 use Rattle.theory.proofs.order.Ops.{event-act, opOf-kind, op-of, on-series, access-on, access-tests}
 use Rattle.theory.proofs.order.Numbered.{kind-above}
-use Rattle.theory.proofs.acceptance.ControlTable.{same-refusal}
 use Rattle.theory.proofs.history.Numbers.{number-final, final-number}
 use Rattle.theory.proofs.verdicts.Latest.{Final}
 use Rattle.theory.proofs.feeding.Simulation.{Shape, an-act, a-mark, shape-of, RepresentsSets, after-all, sets-simulate}
+use Rattle.theory.proofs.feeding.Following.{Keeps, Over, follows-list, before, RightBefore, accepted, answers-without}
 use Rattle.theory.proofs.feeding.Paths.{set-paths}
 use Rattle.theory.proofs.feeding.Asked.{access-op, sets-tell}
 use Rattle.theory.proofs.lazy.Columns.{low-bit, and-bit, sum-walks, walks-least}
@@ -38,7 +36,7 @@ use Rattle.theory.proofs.lazy.Longer.{pair-final, final-one, counted-ol
 use Rattle.theory.proofs.lazy.Tracks.{StandsFor, Tracks, path-own}
 use Rattle.theory.proofs.lazy.Passed.{access-plain}
 use Rattle.theory.proofs.lazy.Steps.{asked-for, Lazily}
-use Rattle.theory.proofs.lazy.Followed.{Holds, Over, follows-list, fresh-holds, first-after}
+use Rattle.theory.proofs.lazy.Followed.{Holds, lazy-keeps, fresh-holds}
 
 -- What is told of an access at the end
 
@@ -219,110 +217,28 @@ asks-of q = decided (accesses (q .kind)) refl (at-most (suc (q .task)) tasks) (a
     decided true e (wrong h) l = record { p = read; t = 0; v = 0; isa = tt; ht = omega arith; for = rw (e, le-ltb (q .task) tasks (omega arith)) }
     decided false e h l = record { p = read; t = 0; v = 0; isa = tt; ht = omega arith; for = rw e }
 
--- A list with one record more
-
--- the first number, or the second where that is 0
-abbrev orElse : ℕ → ℕ → ℕ
-orElse zero k = k
-orElse (suc n) k = suc n
-
--- the refusal of the first refused record of a list with q behind it
-with-last : (rs : List Record) (es : List Event) (q : Record) →
-    firstRefused (refusalsAfter es (rs ++ (q ∷ []))) ≡ orElse (firstRefused (refusalsAfter es rs)) (refusal (extended es rs) q)
-with-last [] es q = alone (refusal es q)
-  where
-    alone : (n : ℕ) → firstRefused (n ∷ []) ≡ n
-    alone zero = refl
-    alone (suc n) = first-after (suc n) [] (λ e. omega arith)
-with-last (r ∷ rs) es q = of (refusal es r) (λ es. with-last rs es q)
-  where
-    of : (n : ℕ) →
-        ((es : List Event) → firstRefused (refusalsAfter es (rs ++ (q ∷ []))) ≡ orElse (firstRefused (refusalsAfter es rs)) (refusal (extended es rs) q)) →
-        firstRefused (n ∷ refusalsAfter (appendUnless es r n) (rs ++ (q ∷ [])))
-        ≡ orElse (firstRefused (n ∷ refusalsAfter (appendUnless es r n) rs)) (refusal (extended (appendUnless es r n) rs) q)
-    of zero rest = rest (appendUnless es r zero)
-    of (suc n) rest =
-        rw (first-after (suc n) (refusalsAfter (appendUnless es r (suc n)) (rs ++ (q ∷ []))) (λ e. omega arith), first-after (suc n) (refusalsAfter (appendUnless es r (suc n)) rs) (λ e. omega arith))
-
--- what is answered for it is asked of its last record
-lazily-last : (rs : List Record) (q : Record) → lazily (rs ++ (q ∷ [])) ≡ lazyEnd rs q
-lazily-last [] q = refl
-lazily-last (r ∷ rs) q =
-    let e : length (rs ++ (q ∷ [])) ≡ suc (length rs) = omega (arith, length-append rs (q ∷ [])) in
-    rw (e, firsts rs, last rs)
-  where
-    firsts : (rs : List Record) → take (length rs) (rs ++ (q ∷ [])) ≡ rs
-    firsts [] = refl
-    firsts (x ∷ rs) = ap (λ (l : List Record). x ∷ l) (firsts rs)
-
-    last : (rs : List Record) → getD (rs ++ (q ∷ [])) (length rs) r ≡ q
-    last [] = refl
-    last (x ∷ rs) = last rs
-
--- a list is empty, or has a last record
-pub data Snoc : List Record → Type 0 where
-  empty : Snoc []
-  snoc : (rs : List Record) (q : Record) → Snoc (rs ++ (q ∷ []))
-
-snoc-of : (rs : List Record) → Snoc rs
-snoc-of [] = empty
-snoc-of (r ∷ rs) = of (snoc-of rs)
-  where
-    of : {rs : List Record} → Snoc rs → Snoc (r ∷ rs)
-    of empty = snoc [] r
-    of (snoc rs q) = snoc (r ∷ rs) q
-
 -- The claim
 
-module _ (rs : List Record) (q : Record) where
-  abbrev run : Run
-  run = followed (question q) freshControl freshLazy rs
+-- what is kept for a record that may end the list is right
+HoldsFor : Record → List Event → List ℕ → Lazy → Type 0
+HoldsFor q = let a = asks-of q in Holds (a .p) (a .t) (a .v) (a .isa) (a .ht)
 
-  over : let a = asks-of q in Over (a .p) (a .t) (a .v) (a .isa) (a .ht) [] rs run
-  over =
-      let a = asks-of q in
-      subst (λ (x : Record). Over (a .p) (a .t) (a .v) (a .isa) (a .ht) [] rs (followed x freshControl freshLazy rs)) (sym (a .for))
-      (follows-list (a .p) (a .t) (a .v) (a .isa) (a .ht) rs [] freshControl freshLazy (fresh-holds (a .p) (a .t) (a .v) (a .isa) (a .ht)))
-
-  -- the refusal of the whole list
-  refusal-last : fedRefusal (rs ++ (q ∷ [])) ≡ orElse (run .refused) (controlRefusal (run .control) q)
-  refusal-last = with-last rs [] q ∙ (rw (← over .refused) (of (run .refused) (over .holds)))
-    where
-      of : (n : ℕ) → (n ≡ 0 → let a = asks-of q in Holds (a .p) (a .t) (a .v) (a .isa) (a .ht) (extended [] rs) (run .control) (run .lazy)) →
-          orElse n (refusal (extended [] rs) q) ≡ orElse n (controlRefusal (run .control) q)
-      of zero h = sym (same-refusal (h refl .base .control-exact) q)
-      of (suc n) h = refl
-
-  refused-end : (n : ℕ) → fedRefusal (rs ++ (q ∷ [])) ≡ suc n → lazyEnd rs q ≡ pairsOf (suc n) 0 0 0
-  unfolding lazyEnd
-  refused-end n e = of (run .refused) (controlRefusal (run .control) q) (sym refusal-last ∙ e)
-    where
-      of : (m k : ℕ) → orElse m (k) ≡ suc n → elim m [ zero ↦ answeredAt q run k | suc n ↦ pairsOf (suc n) 0 0 0 ] ≡ pairsOf (suc n) 0 0 0
-      of zero k e = rw e
-      of (suc m) k e = rw e
-
-  accepted-end : fedRefusal (rs ++ (q ∷ [])) ≡ 0 →
-      (run .refused ≡ 0) × (controlRefusal (run .control) q ≡ 0) × (lazyEnd rs q ≡ cond (accesses (q .kind)) (told q (run .lazy)) (pairsOf 0 0 0 0))
-  unfolding lazyEnd
-  accepted-end e = of (run .refused) (controlRefusal (run .control) q) (sym refusal-last ∙ e)
-    where
-      of : (m k : ℕ) → orElse m k ≡ 0 →
-          (m ≡ 0) × (k ≡ 0) × (elim m [ zero ↦ answeredAt q run k | suc n ↦ pairsOf (suc n) 0 0 0 ] ≡ cond (accesses (q .kind)) (told q (run .lazy)) (pairsOf 0 0 0 0))
-      of zero k e = (refl, e, rw e)
-      of (suc m) k e = absurd (omega arith)
-
-  -- where all are accepted, so is the last
-  last-accepted : fedRefusal (rs ++ (q ∷ [])) ≡ 0 → refusal (recording rs) q ≡ 0
-  last-accepted e = let (z, c, _) = accepted-end e in sym (same-refusal (over .holds z .base .control-exact) q) ∙ c
+right-before : RightBefore lazyFollower HoldsFor
+unfolding HoldsFor
+right-before =
+    record {
+      keeps = λ q. let a = asks-of q in subst (λ (x : Record). Keeps (lazyAfter x) (HoldsFor q)) (sym (a .for)) (lazy-keeps (a .p) (a .t) (a .v) (a .isa) (a .ht));
+      begins = λ q. let a = asks-of q in fresh-holds (a .p) (a .t) (a .v) (a .isa) (a .ht);
+    }
 
 -- an access in range is what is asked for
 asked-itself : (o : Op) (t n : ℕ) → T (isAccess o) → t < tasks → n < variables → question (record { kind = kind o; task = t; on = n }) ≡ record { kind = kind o; task = t; on = n }
 asked-itself o t n a ht hn = rw (access-tests o a, lt-ltb t tasks ht, lt-ltb n variables hn)
 
-access-told : (rs : List Record) {q : Record} → Shape (recording rs) q → accesses (q .kind) ≡ true → refusal (recording rs) q ≡ 0 → (run rs q) .refused ≡ 0 →
-    Told (recording rs ++ (eventOf q ∷ [])) (q .task) (q .on) (length (recording rs)) (sets .masks (leftBy sets rs) q) (told q ((run rs q) .lazy))
+access-told : (rs : List Record) {q : Record} → Shape (recording rs) q → accesses (q .kind) ≡ true → refusal (recording rs) q ≡ 0 → (before lazyFollower rs q) .refused ≡ 0 →
+    Told (recording rs ++ (eventOf q ∷ [])) (q .task) (q .on) (length (recording rs)) (sets .masks (leftBy sets rs) q) (told q ((before lazyFollower rs q) .kept))
 access-told rs (a-mark t n m) e h z = absurd (true≢false (sym e))
-access-told rs (an-act o t n a) e h z = rw (event-act o t n) (told-of rs o t n isa ht hn _ (sets .masks (leftBy sets rs) r) (x .holds (x-refused z) .lazily) apart)
+access-told rs (an-act o t n a) e h z = rw (event-act o t n) (told-of rs o t n isa ht hn _ (sets .masks (leftBy sets rs) r) (x .holds z .lazily) apart)
   where
     r : Record
     r = record { kind = kind o; task = t; on = n }
@@ -336,13 +252,11 @@ access-told rs (an-act o t n a) e h z = rw (event-act o t n) (told-of rs o t n i
     hn : n < variables
     hn = access-on o isa (on-series o (a .fits))
 
-    x : Over o t n isa ht [] rs (run rs r)
-    x =
-        subst (λ (y : Record). Over o t n isa ht [] rs (followed y freshControl freshLazy rs)) (sym (asked-itself o t n isa ht hn))
-        (follows-list o t n isa ht rs [] freshControl freshLazy (fresh-holds o t n isa ht))
+    keeps : Keeps (lazyAfter (question r)) (Holds o t n isa ht)
+    keeps = subst (λ (y : Record). Keeps (lazyAfter y) (Holds o t n isa ht)) (sym (asked-itself o t n isa ht hn)) (lazy-keeps o t n isa ht)
 
-    x-refused : (run rs r) .refused ≡ 0 → (run rs r) .refused ≡ 0
-    x-refused z = z
+    x : Over (Holds o t n isa ht) [] rs (before lazyFollower rs r)
+    x = follows-list keeps rs [] freshControl freshLazy (fresh-holds o t n isa ht)
 
     apart : (u : ℕ) → u < tasks → T (bit ((sets .masks (leftBy sets rs) r) .arrived) u) ↔ RetainedApart HappensBefore (recording rs) (act o t n) o n u
     apart u hu =
@@ -353,16 +267,9 @@ access-told rs (an-act o t n a) e h z = rw (event-act o t n) (told-of rs o t n i
 pub answers-lazily : AnswersLazily lazily
 answers-lazily =
     record {
-      refused = λ rs n e. refused (snoc-of rs) n e;
-      empty = refl;
-      other-end = λ rs q e a. lazily-last rs q ∙ (accepted-end rs q e .2 ∙ rw a);
+      without = answers-without right-before;
       access-end = λ rs q e a.
-          let (z, c, t) = accepted-end rs q e in
-          let h = last-accepted rs q e in
-          subst (Told (recording rs ++ (eventOf q ∷ [])) (q .task) (q .on) (length (recording rs)) (sets .masks (leftBy sets rs) q)) (sym (lazily-last rs q ∙ (t ∙ rw a)))
-          (access-told rs (shape-of (recording rs) q h) a h z);
+          let x = accepted right-before rs q e in
+          subst (Told (recording rs ++ (eventOf q ∷ [])) (q .task) (q .on) (length (recording rs)) (sets .masks (leftBy sets rs) q)) (sym (x .answer ∙ rw a))
+          (access-told rs (shape-of (recording rs) q (x .last)) a (x .last) (x .through));
     }
-  where
-    refused : {rs : List Record} → Snoc rs → (n : ℕ) → fedRefusal rs ≡ suc n → lazily rs ≡ pairsOf (suc n) 0 0 0
-    refused empty n e = absurd (omega arith)
-    refused (snoc rs q) n e = lazily-last rs q ∙ refused-end rs q n e

@@ -1,35 +1,27 @@
--- What the lazy reckoning keeps over a list is right of the recording that the list makes, up to the first refused record. Assumes nothing.
-use mathlib.Core.Path.{_≡_, refl, sym, subst}
+-- What the lazy reckoning keeps is right of each recording, so that following a list keeps it right. Assumes nothing.
+use mathlib.Core.Path.{_≡_, sym, subst}
 use mathlib.Core.List.{List, [], _∷_, _++_}
-use Prim.Native.Nat.{ℕ, zero, suc, _<_}
-use native.Mathlib.Omega.{arith}
-use borrow.Author.Tests.{ne-eqb}
+use Prim.Native.Nat.{ℕ, _<_}
 use lib.Dec.{T}
 use lib.ListN.{replicate, length-replicate}
 use Rattle.theory.specs.declared.record.Record.{Record}
 use Rattle.theory.specs.order.Limits.{tasks}
 use Rattle.theory.specs.order.Recording.{Op, Event, kind, eventOf, isAccess}
-use Rattle.theory.specs.acceptance.Table.{refusal, appendUnless, extended}
+use Rattle.theory.specs.acceptance.Table.{refusal}
 use Rattle.theory.specs.acceptance.Control.{controlAfter}
 use Rattle.theory.specs.history.History.{slots}
 use Rattle.theory.specs.tables.Rows.{hub}
 use Rattle.theory.specs.tables.Reckonings.{wordBits}
 use Rattle.theory.specs.feeding.Step.{freshControl}
-use Rattle.theory.specs.feeding.Feeding.{refusalsAfter}
-use Rattle.theory.specs.lazy.Fold.{Lazy, column, recorded, Run, runOf, followed, freshLazy}
-use Rattle.theory.specs.lazy.Answer.{firstRefused}
+use Rattle.theory.specs.lazy.Fold.{Lazy, column, recorded, lazyAfter, freshLazy}
 use Rattle.theory.proofs.order.Ops.{event-act, no-mark, on-series}
 use Rattle.theory.proofs.order.Places.{nowhere}
-use Rattle.theory.proofs.acceptance.ControlTable.{same-refusal}
 use Rattle.theory.proofs.fillings.HasActed.{none-acted}
+use Rattle.theory.proofs.feeding.Following.{Keeps}
 use Rattle.theory.proofs.feeding.Simulation.{Shape, an-act, a-mark, shape-of, Base, base-next, fresh-base}
 use Rattle.theory.proofs.lazy.Columns.{none-of-zero}
 use Rattle.theory.proofs.lazy.Tracks.{Tracks}
 use Rattle.theory.proofs.lazy.Steps.{asked-for, asking, Lazily, lazily-mark, lazily-act}
-
--- the refusal of the first refused record, record by record
-pub first-after : (n : ℕ) (ns : List ℕ) → ¬ (n ≡ 0) → firstRefused (n ∷ ns) ≡ n
-first-after n ns h = rw (ne-eqb n 0 h)
 
 module _ (p : Op) (t v : ℕ) (isa : T (isAccess p)) (ht : t < tasks) where
   -- what is kept, and the control table, are right of a recording
@@ -46,29 +38,8 @@ module _ (p : Op) (t v : ℕ) (isa : T (isAccess p)) (ht : t < tasks) where
       of (an-act o k n a) = rw (event-act o k n, no-mark o) (lazily-act p t v isa ht es s (x .lazily) o k n (on-series o (a .fits)) (x .base .seen) (x .base .ranged) a)
       of (a-mark k mask m) = lazily-mark p t v isa ht es s (x .lazily) mask
 
-  -- over a list: the refusal is that of feeding it, and without one what is kept is right
-  pub record Over (es : List Event) (rs : List Record) (x : Run) : Type 0 where
-    pub refused : x .refused ≡ firstRefused (refusalsAfter es rs)
-    pub holds : x .refused ≡ 0 → Holds (extended es rs) (x .control) (x .lazy)
-
-  -- what is done with a record that gets the refusal n
-  abbrev Then : ℕ → List ℕ → Lazy → Record → List Record → Run
-  Then n control s r rs =
-      elim n [ zero ↦ followed (asked-for p t v isa ht) (controlAfter (r .kind) (r .on) control) (recorded (asked-for p t v isa ht) r s) rs | suc m ↦ runOf (suc m) control s ]
-
-  over-next : (n : ℕ) (es : List Event) (control : List ℕ) (s : Lazy) (r : Record) (rs : List Record) → refusal es r ≡ n → Holds es control s →
-      (Holds (es ++ (eventOf r ∷ [])) (controlAfter (r .kind) (r .on) control) (recorded (asked-for p t v isa ht) r s) →
-      Over (es ++ (eventOf r ∷ [])) rs (followed (asked-for p t v isa ht) (controlAfter (r .kind) (r .on) control) (recorded (asked-for p t v isa ht) r s) rs)) →
-      Over es (r ∷ rs) (Then n control s r rs)
-  over-next zero es control s r rs e h rest = let x = rest (holds-next h r e) in record { refused = rw e (x .refused); holds = λ z. rw e (x .holds z) }
-  over-next (suc m) es control s r rs e h rest =
-      record { refused = rw e (sym (first-after (suc m) (refusalsAfter (appendUnless es r (suc m)) rs) (λ z. omega arith))); holds = λ z. absurd (omega arith) }
-
-  pub follows-list : (rs : List Record) (es : List Event) (control : List ℕ) (s : Lazy) → Holds es control s → Over es rs (followed (asked-for p t v isa ht) control s rs)
-  follows-list [] es control s h = record { refused = refl; holds = λ _. h }
-  follows-list (r ∷ rs) es control s h =
-      subst (λ (n : ℕ). Over es (r ∷ rs) (Then n control s r rs)) (sym (same-refusal (h .base .control-exact) r))
-      (over-next (refusal es r) es control s r rs refl h (λ g. follows-list rs _ _ _ g))
+  pub lazy-keeps : Keeps (lazyAfter (asked-for p t v isa ht)) Holds
+  lazy-keeps = record { exact = λ h. h .base .control-exact; step = λ h. holds-next h }
 
   -- nothing is kept of the empty recording
   pub fresh-holds : Holds [] freshControl freshLazy

@@ -24,7 +24,7 @@ use Rattle.theory.specs.entries.Table.{takenIn, excuse}
 use Rattle.theory.specs.entries.Known.{Fault, AllFit, paired, startWith, Reported}
 use Rattle.theory.specs.swapping.Unrelated.{UnrelatedRecords, MissedRecords}
 use Rattle.theory.specs.swapping.Swaps.{Swaps, no-swap, swap-then, movedBy}
-use Rattle.theory.specs.swapping.Compared.{judged, known, taskOf, told, linesOf, lines, excused, toldBeside, linesFrom, linesBeside, SameBeside}
+use Rattle.theory.specs.swapping.Compared.{judged, known, taskOf, said, linesOf, lines, excused, saidBeside, linesFrom, linesBeside, SameBeside}
 use Rattle.theory.proofs.basics.Reflects.{Reflects, right, wrong, by-test, is-true}
 use Rattle.theory.proofs.order.Ops.{event-act, access-tests}
 use Rattle.theory.proofs.fillings.Bounds.{apart-in-all}
@@ -91,7 +91,7 @@ recorded-one-more es (q ∷ rs) r = recorded-one-more (appendUnless es q (refusa
 module _ (fs : List Fault) (fit : AllFit fs) (some-fault : 0 < length fs) (few : length fs ≤ entries) (all : List Record) where
   -- where a list has come to: the records passed, the recording of them and the state
   record Passed (passed : List Record) (es : List Event) (s : State) : Type 0 where
-    recorded : recording passed ≡ es
+    logged : recording passed ≡ es
     state : afterAll byClocks (startWith fs) passed ≡ s
     exact : Represents es s
 
@@ -99,7 +99,7 @@ module _ (fs : List Fault) (fit : AllFit fs) (some-fault : 0 < length fs) (few :
     passed-on : (r : Record) → refusal es r ≡ 0 → Passed (passed ++ (r ∷ [])) (es ++ (eventOf r ∷ [])) (byClocks .next s r)
     passed-on r z =
         record {
-          recorded = recorded-one-more [] passed r ∙ (ap (λ (l : List Event). appendUnless l r (refusal l r)) (x .recorded) ∙ ap (appendUnless es r) z);
+          logged = recorded-one-more [] passed r ∙ (ap (λ (l : List Event). appendUnless l r (refusal l r)) (x .logged) ∙ ap (appendUnless es r) z);
           state = after-one-more byClocks (startWith fs) passed r ∙ ap (λ (y : State). byClocks .next y r) (x .state);
           exact = subst (λ (n : ℕ). Represents (appendUnless es r n) (byClocks .next s r)) z (clocks-simulate .steps es s r (x .exact) .1);
         }
@@ -113,13 +113,13 @@ module _ (fs : List Fault) (fit : AllFit fs) (some-fault : 0 < length fs) (few :
 
       reported : (n w : ℕ) → meaning (byClocks .answer s r) ≡ judges n Race w → Reported (paired fs v t) (es ++ (act o t v ∷ [])) (length es) w (excuse (byClocks .next s r) r w)
       reported n w m =
-          rw (x .recorded, x .state, event-act o t v) at
-          (faults-known fs fit some-fault few passed r (rw (x .recorded) z) (access-tests o isa) n w (rw (x .state) m))
+          rw (x .logged, x .state, event-act o t v) at
+          (faults-known fs fit some-fault few passed r (rw (x .logged) z) (access-tests o isa) n w (rw (x .state) m))
 
       said-race : {x y : Option Found} (n : ℕ) → Outcome rounds (act o t v) 1 es x → Outcome nothing (act o t v) 1 es y →
           meaning (byClocks .answer s r) ≡ judges n (judgement x y .verdict) (judgement x y .partner) →
           Says (paired fs v t) (HasCandidate rounds (act o t v) es) (HasCandidate nothing (act o t v) es)
-          (toldBeside all (byClocks .next s r) r (judges n (judgement x y .verdict) (judgement x y .partner)))
+          (saidBeside all (byClocks .next s r) r (judges n (judgement x y .verdict) (judgement x y .partner)))
       said-race n (somebody {x = x} i c q low) y m =
           let number : x .number ≡ suc i = omega arith in
           said-excused (paired fs v t) all es rest begin o t v c number low (reported n (x .number) m)
@@ -129,20 +129,20 @@ module _ (fs : List Fault) (fit : AllFit fs) (some-fault : 0 < length fs) (few :
       said-race n (nobody k) (nobody l) m = says-clear (λ u h. k u _ (h .1)) (λ u h. l u _ (h .1))
 
       -- the access is told so
-      said-access : SaidTo (pairedOf fs) es (act o t v) (toldBeside all (byClocks .next s r) r (meaning (byClocks .answer s r)))
+      said-access : SaidTo (pairedOf fs) es (act o t v) (saidBeside all (byClocks .next s r) r (meaning (byClocks .answer s r)))
       unfolding judge
       said-access =
           let m : meaning (byClocks .answer s r) ≡ judges (suc (length es)) ((judge es (act o t v)) .verdict) ((judge es (act o t v)) .partner) = answered r z ∙ rw (event-act o t v, is-true (by-test (isAccess o)) isa) in
           rw m (to-access isa (said-race (suc (length es)) (partner-outcome 1 es) (partner-outcome 1 es) m))
 
     said-to : (rest : List Event) → map eventOf all ≡ es ++ rest → {r : Record} → Shape es r → refusal es r ≡ 0 →
-        SaidTo (pairedOf fs) es (eventOf r) (toldBeside all (byClocks .next s r) r (meaning (byClocks .answer s r)))
+        SaidTo (pairedOf fs) es (eventOf r) (saidBeside all (byClocks .next s r) r (meaning (byClocks .answer s r)))
     said-to rest begin (an-act o t n y) z = rw (event-act o t n) (decided (by-test (isAccess o)))
       where
         r : Record
         r = record { kind = kind o; task = t; on = n }
 
-        decided : {b : Bool} → Reflects (T (isAccess o)) b → SaidTo (pairedOf fs) es (act o t n) (toldBeside all (byClocks .next s r) r (meaning (byClocks .answer s r)))
+        decided : {b : Bool} → Reflects (T (isAccess o)) b → SaidTo (pairedOf fs) es (act o t n) (saidBeside all (byClocks .next s r) r (meaning (byClocks .answer s r)))
         decided (right a) = said-access rest begin o t n a z
         decided (wrong k) =
             let m : meaning (byClocks .answer s r) ≡ takes (suc (length es)) = answered r z ∙ rw (event-act o t n, bool-false {b = isAccess o} k) in
@@ -161,7 +161,7 @@ module _ (fs : List Fault) (fit : AllFit fs) (some-fault : 0 < length fs) (few :
 
 module _ (fs : List Fault) (fit : AllFit fs) (some-fault : 0 < length fs) (few : length fs ≤ entries) where
   said-beside : (rs : List Record) → Taken [] rs → SaidAll (pairedOf fs) [] rs (linesBeside fs rs)
-  said-beside rs k = said-from fs fit some-fault few rs {passed = []} (record { recorded = refl; state = refl; exact = represents fs fit some-fault few [] }) k refl
+  said-beside rs k = said-from fs fit some-fault few rs {passed = []} (record { logged = refl; state = refl; exact = represents fs fit some-fault few [] }) k refl
 
   beside-taken : {R : Record → Record → Type 0} {rs rs′ : List Record} → Separates R → (s : Swaps R rs rs′) → Taken [] rs → (k : ℕ) → getElem? (linesBeside fs rs′) (movedBy s k) ≡ getElem? (linesBeside fs rs) k
   beside-taken i no-swap a k = refl
@@ -171,7 +171,7 @@ module _ (fs : List Fault) (fit : AllFit fs) (some-fault : 0 < length fs) (few :
 
 -- Without entries a Race is told as by document 01
 
-told-without : (all : List Record) (s : State) (r : Record) (m : Meaning) → takenIn (s .control) ≡ 0 → toldBeside all s r m ≡ told all m
+told-without : (all : List Record) (s : State) (r : Record) (m : Meaning) → takenIn (s .control) ≡ 0 → saidBeside all s r m ≡ said all m
 told-without all s r (refuses n) e = refl
 told-without all s r (takes n) e = refl
 told-without all s r (judges n Race w) e = rw (no-excuse s r w e)

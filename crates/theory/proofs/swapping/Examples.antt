@@ -19,8 +19,8 @@ use Rattle.theory.specs.totals.Totals.{verdictPlace}
 use Rattle.theory.specs.feeding.Meaning.{Meaning, isRefusal}
 use Rattle.theory.specs.feeding.Feeding.{answersFrom, eventRecord}
 use Rattle.theory.specs.swapping.Unrelated.{Series, task, semaphore, flag, variable, seriesOf, Names, names, sharing, MayShare, may-share, Premise, two-acts, actors-differ, names-no-actor, names-no-same, no-semaphore, no-flag, no-variable, Holds}
-use Rattle.theory.specs.swapping.Compared.{Accepted, none-left, and-accepted, Told, refused, taken, judged, known}
-use Rattle.theory.specs.swapping.Examples.{Related, recorded, exchanged, newPlace, toldAt, Changes, AllChange, EachNeeded, related, Pair, AllUnrelated, unrelatedPairs, NumbersShift}
+use Rattle.theory.specs.swapping.Compared.{Accepted, none-left, and-accepted, Said, refused, taken, judged, known}
+use Rattle.theory.specs.swapping.Examples.{Related, logged, exchanged, newPlace, saidAt, Changes, AllChange, EachNeeded, related, Pair, AllUnrelated, unrelatedPairs, NumbersShift}
 use Rattle.theory.proofs.basics.Reflects.{fails, equal, passed}
 use Rattle.theory.proofs.order.Ops.{same-op}
 
@@ -203,37 +203,37 @@ abbrev partnerNumber : Option ℕ → ℕ
 partnerNumber none = 0
 partnerNumber (some t) = suc t
 
-abbrev toldNumber : Told → ℕ
+abbrev toldNumber : Said → ℕ
 toldNumber (refused n) = 100 + n
 toldNumber taken = 99
 toldNumber (judged v w) = 20 * verdictPlace v + partnerNumber w
 toldNumber (known w) = 60 + partnerNumber w
 
 abbrev rowTest : Related → Bool
-rowTest x = allOf (metOr x) premises && (noRefusal (answersFrom [] (map eventRecord (recorded x))) && not (eqb (toldNumber (x .was)) (toldNumber (x .becomes))))
+rowTest x = allOf (metOr x) premises && (noRefusal (answersFrom [] (map eventRecord (logged x))) && not (eqb (toldNumber (x .was)) (toldNumber (x .becomes))))
 
 abbrev allRows : List Related → Bool
 allRows [] = true
 allRows (x ∷ xs) = rowTest x && allRows xs
 
-row-changes : (x : Related) → rowTest x ≡ true → toldAt (recorded x) (x .place) ≡ some (x .was) → toldAt (exchanged x) (newPlace x) ≡ some (x .becomes) → Changes x
+row-changes : (x : Related) → rowTest x ≡ true → saidAt (logged x) (x .place) ≡ some (x .was) → saidAt (exchanged x) (newPlace x) ≡ some (x .becomes) → Changes x
 row-changes x e b a =
     let met = and-elim-left (allOf (metOr x) premises) _ e in
     let rest = and-elim-right (allOf (metOr x) premises) _ e in
     record {
       others = others-met x met;
-      accepted = no-refusal (answersFrom [] (map eventRecord (recorded x))) (and-elim-left (noRefusal (answersFrom [] (map eventRecord (recorded x)))) _ rest);
+      accepted = no-refusal (answersFrom [] (map eventRecord (logged x))) (and-elim-left (noRefusal (answersFrom [] (map eventRecord (logged x)))) _ rest);
       before = b;
       after = a;
-      differ = λ q. of (eqb (toldNumber (x .was)) (toldNumber (x .becomes))) (and-elim-right (noRefusal (answersFrom [] (map eventRecord (recorded x)))) _ rest) (eq-eqb _ _ (ap toldNumber q));
+      differ = λ q. of (eqb (toldNumber (x .was)) (toldNumber (x .becomes))) (and-elim-right (noRefusal (answersFrom [] (map eventRecord (logged x)))) _ rest) (eq-eqb _ _ (ap toldNumber q));
     }
   where
     of : (b : Bool) → not b ≡ true → ¬ (b ≡ true)
     of true e q = true≢false (sym e)
     of false e q = true≢false (sym q)
 
-rows-change : (xs : List Related) → allRows xs ≡ true → map (λ (x : Related). toldAt (recorded x) (x .place)) xs ≡ map (λ (x : Related). some (x .was)) xs →
-    map (λ (x : Related). toldAt (exchanged x) (newPlace x)) xs ≡ map (λ (x : Related). some (x .becomes)) xs → AllChange xs
+rows-change : (xs : List Related) → allRows xs ≡ true → map (λ (x : Related). saidAt (logged x) (x .place)) xs ≡ map (λ (x : Related). some (x .was)) xs →
+    map (λ (x : Related). saidAt (exchanged x) (newPlace x)) xs ≡ map (λ (x : Related). some (x .becomes)) xs → AllChange xs
 rows-change [] e b a = tt
 rows-change (x ∷ xs) e b a =
     (row-changes x (and-elim-left (rowTest x) (allRows xs) e) (head-eq-of-cons-eq b) (head-eq-of-cons-eq a), rows-change xs (and-elim-right (rowTest x) (allRows xs) e) (tail-eq-of-cons-eq b) (tail-eq-of-cons-eq a))

@@ -14,7 +14,7 @@ use Rattle.theory.specs.fillings.Completion.{nothing, rounds}
 use Rattle.theory.specs.verdicts.Verdict.{Race, Clear, Doubt}
 use Rattle.theory.specs.verdicts.Search.{isAccessEvent}
 use Rattle.theory.specs.swapping.Swaps.{Swapped, these, later, moved}
-use Rattle.theory.specs.swapping.Compared.{Told, taken, judged, known, Line}
+use Rattle.theory.specs.swapping.Compared.{Said, taken, judged, known, Line}
 use Rattle.theory.proofs.swapping.Independent.{Separates, Independent, either-way}
 use Rattle.theory.proofs.swapping.Candidates.{swapped-back, swapped-before, HasCandidate, candidate-swapped, candidate-longer, candidate-shorter}
 
@@ -27,7 +27,7 @@ pub record Lowest (Q : ℕ → Type 0) (t : ℕ) : Type 0 where
 
 -- what an access is told that is apart from the tasks `Full` in the fullest filling and from the tasks `Arrived` as it arrived, `paired` being those
 -- that are paired with its task as accepted
-pub data Says (paired : ℕ → Bool) (Full Arrived : ℕ → Type 0) : Told → Type 0 where
+pub data Says (paired : ℕ → Bool) (Full Arrived : ℕ → Type 0) : Said → Type 0 where
   says-known : {t : ℕ} → Lowest Full t → ((u : ℕ) → Full u → paired u ≡ true) → Says paired Full Arrived (known (some t))
   says-race : {t : ℕ} → Lowest (λ u. Full u × (paired u ≡ false)) t → Says paired Full Arrived (judged Race (some t))
   says-doubt : {t : ℕ} → ((u : ℕ) → ¬ Full u) → Lowest Arrived t → Says paired Full Arrived (judged Doubt (some t))
@@ -39,7 +39,7 @@ lowest-same : {Q Q′ : ℕ → Type 0} {t t′ : ℕ} → ((u : ℕ) → Q u �
 lowest-same {t = t} {t′ = t′} to from a b = let h = a .lowest t′ (from t′ (b .holds)) in let l = b .lowest t (to t (a .holds)) in omega arith
 
 module _ {paired : ℕ → Bool} {F F′ A A′ : ℕ → Type 0} (f : (u : ℕ) → F u → F′ u) (f′ : (u : ℕ) → F′ u → F u) (a : (u : ℕ) → A u → A′ u) (a′ : (u : ℕ) → A′ u → A u) where
-  pub says-same : {x y : Told} → Says paired F A x → Says paired F′ A′ y → x ≡ y
+  pub says-same : {x y : Said} → Says paired F A x → Says paired F′ A′ y → x ≡ y
   says-same (says-known l p) (says-known l′ p′) = ap (λ (t : ℕ). known (some t)) (lowest-same f f′ l l′)
   says-same (says-known l p) (says-race l′) = absurd (true≢false (sym (p _ (f′ _ (l′ .holds .0))) ∙ l′ .holds .1))
   says-same (says-known l p) (says-doubt n l′) = absurd (n _ (f _ (l .holds)))
@@ -61,19 +61,19 @@ module _ {paired : ℕ → Bool} {F F′ A A′ : ℕ → Type 0} (f : (u : ℕ)
 
 -- `paired` has, for an access, the tasks that are paired with its own
 module _ (paired : Event → ℕ → Bool) where
-  pub data SaidTo (es : List Event) (e : Event) : Told → Type 0 where
-    to-access : {x : Told} → T (isAccessEvent e) → Says (paired e) (HasCandidate rounds e es) (HasCandidate nothing e es) x → SaidTo es e x
+  pub data SaidTo (es : List Event) (e : Event) : Said → Type 0 where
+    to-access : {x : Said} → T (isAccessEvent e) → Says (paired e) (HasCandidate rounds e es) (HasCandidate nothing e es) x → SaidTo es e x
     to-other : ¬ T (isAccessEvent e) → SaidTo es e taken
 
   -- the lines of a list of records that are taken in one after the other
   pub data SaidAll : List Event → List Record → List Line → Type 0 where
     said-none : {es : List Event} → SaidAll es [] []
-    said-next : {es : List Event} {r : Record} {rs : List Record} {x : Told} {ls : List Line} → SaidTo es (eventOf r) x → SaidAll (es ++ (eventOf r ∷ [])) rs ls →
-        SaidAll es (r ∷ rs) (record { of = r; told = x } ∷ ls)
+    said-next : {es : List Event} {r : Record} {rs : List Record} {x : Said} {ls : List Line} → SaidTo es (eventOf r) x → SaidAll (es ++ (eventOf r ∷ [])) rs ls →
+        SaidAll es (r ∷ rs) (record { of = r; said = x } ∷ ls)
 
 module _ {paired : Event → ℕ → Bool} where
   -- two recordings after which e is apart from the same tasks
-  same-said : {es es′ : List Event} {e : Event} {x y : Told} →
+  same-said : {es es′ : List Event} {e : Event} {x y : Said} →
       ((g : ℕ → List Event) (u : ℕ) → HasCandidate g e es u → HasCandidate g e es′ u) → ((g : ℕ → List Event) (u : ℕ) → HasCandidate g e es′ u → HasCandidate g e es u) →
       SaidTo paired es e x → SaidTo paired es′ e y → x ≡ y
   same-said to from (to-access a s) (to-access b s′) = says-same (to rounds) (from rounds) (to nothing) (from nothing) s s′
@@ -81,13 +81,13 @@ module _ {paired : Event → ℕ → Bool} where
   same-said to from (to-other n) (to-access a s) = absurd (n a)
   same-said to from (to-other n) (to-other n′) = refl
 
-  pub said-once : {es : List Event} {e : Event} {x y : Told} → SaidTo paired es e x → SaidTo paired es e y → x ≡ y
+  pub said-once : {es : List Event} {e : Event} {x y : Said} → SaidTo paired es e x → SaidTo paired es e y → x ≡ y
   said-once = same-said (λ g u c. c) (λ g u c. c)
 
-  said-swapped : {es es′ : List Event} {e : Event} {x y : Told} → Swapped Independent es es′ → SaidTo paired es e x → SaidTo paired es′ e y → x ≡ y
+  said-swapped : {es es′ : List Event} {e : Event} {x y : Said} → Swapped Independent es es′ → SaidTo paired es e x → SaidTo paired es′ e y → x ≡ y
   said-swapped s = same-said (λ g u c. candidate-swapped s c) (λ g u c. candidate-swapped (swapped-back s) c)
 
-  pub said-longer : {es : List Event} {d e : Event} {x y : Told} → Independent d e → SaidTo paired es e x → SaidTo paired (es ++ (d ∷ [])) e y → x ≡ y
+  pub said-longer : {es : List Event} {d e : Event} {x y : Said} → Independent d e → SaidTo paired es e x → SaidTo paired (es ++ (d ∷ [])) e y → x ≡ y
   said-longer {es} z = same-said (λ g u c. candidate-longer es z c) (λ g u c. candidate-shorter es z c)
 
 -- Lists

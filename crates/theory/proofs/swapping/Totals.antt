@@ -17,7 +17,7 @@ use Rattle.theory.specs.totals.Totals.{verdictPlace, total, anyRace}
 use Rattle.theory.specs.totals.Counting.{counts, given, isRace, SomeRace, KeepsTotals}
 use Rattle.theory.specs.swapping.Unrelated.{UnrelatedRecords, MissedRecords}
 use Rattle.theory.specs.swapping.Swaps.{Swapped, these, later, Swaps, no-swap, swap-then}
-use Rattle.theory.specs.swapping.Compared.{Told, refused, taken, judged, known, told, Line, linesOf, lines, controlAfterAll, SameTotals}
+use Rattle.theory.specs.swapping.Compared.{Said, refused, taken, judged, known, said, Line, linesOf, lines, controlAfterAll, SameTotals}
 use Rattle.theory.proofs.totals.Kept.{raceCount, some-race, clocks-keep-totals, sets-keep-totals}
 use Rattle.theory.proofs.feeding.Demanded.{clocks-demanded, sets-demanded}
 use Rattle.theory.proofs.swapping.Acceptance.{Taken, taken-swapped}
@@ -42,26 +42,26 @@ module _ (weight : Line → ℕ) where
 -- Totals as such sums
 
 -- what counts for the verdict w on variable v
-abbrev weight : Verdict → ℕ → Record → Told → ℕ
+abbrev weight : Verdict → ℕ → Record → Said → ℕ
 weight w v r (refused n) = 0
 weight w v r taken = 0
 weight w v r (judged x p) = indicator (eqb (verdictPlace x) (verdictPlace w) && eqb (r .on) v)
 weight w v r (known p) = 0
 
 abbrev weighs : Verdict → ℕ → Line → ℕ
-weighs w v l = weight w v (l .of) (l .told)
+weighs w v l = weight w v (l .of) (l .said)
 
 -- what is a Race
-abbrev raceWeight : Told → ℕ
+abbrev raceWeight : Said → ℕ
 raceWeight (refused n) = 0
 raceWeight taken = 0
 raceWeight (judged x p) = indicator (eqb (verdictPlace x) (verdictPlace Race))
 raceWeight (known p) = 0
 
 abbrev weighsRace : Line → ℕ
-weighsRace l = raceWeight (l .told)
+weighsRace l = raceWeight (l .said)
 
-counted : (w : Verdict) (v : ℕ) (all : List Record) (r : Record) (m : Meaning) → counts w v r m ≡ weight w v r (told all m)
+counted : (w : Verdict) (v : ℕ) (all : List Record) (r : Record) (m : Meaning) → counts w v r m ≡ weight w v r (said all m)
 counted w v all r (refuses n) = refl
 counted w v all r (takes n) = refl
 counted w v all r (judges n x p) = refl
@@ -71,7 +71,7 @@ given-sum w v all [] answers = refl
 given-sum w v all (r ∷ rs) [] = refl
 given-sum w v all (r ∷ rs) (m ∷ answers) = rw (counted w v all r m, given-sum w v all rs answers)
 
-counted-race : (all : List Record) (m : Meaning) → indicator (isRace m) ≡ raceWeight (told all m)
+counted-race : (all : List Record) (m : Meaning) → indicator (isRace m) ≡ raceWeight (said all m)
 counted-race all (refuses n) = refl
 counted-race all (takes n) = refl
 counted-race all (judges n x p) = refl

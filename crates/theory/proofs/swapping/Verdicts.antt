@@ -17,7 +17,7 @@ use Rattle.theory.specs.feeding.Meaning.{judges, takes, meaning}
 use Rattle.theory.specs.feeding.Feeding.{acceptedAnswer, answerUnless, answersFrom, AnswersByTable, fed, setFed}
 use Rattle.theory.specs.swapping.Unrelated.{UnrelatedRecords, MissedRecords}
 use Rattle.theory.specs.swapping.Swaps.{Swaps, no-swap, swap-then, movedBy}
-use Rattle.theory.specs.swapping.Compared.{Accepted, none-left, and-accepted, judged, taskOf, told, linesOf, lines, SameVerdicts}
+use Rattle.theory.specs.swapping.Compared.{Accepted, none-left, and-accepted, judged, taskOf, said, linesOf, lines, SameVerdicts}
 use Rattle.theory.proofs.basics.Reflects.{Reflects, right, wrong, by-test}
 use Rattle.theory.proofs.order.Places.{Occurs, first, next}
 use Rattle.theory.proofs.verdicts.Search.{Candidate, Outcome, nobody, somebody, partner-outcome}
@@ -81,11 +81,11 @@ module _ (all : List Record) (es : List Event) (rest : List Event) (begin : map 
       rw (candidate-task c number) (says-doubt (λ u h. n u _ (h .1)) (record { holds = (i, c); lowest = λ u h. low u _ (h .1) }))
   said-judged (nobody n) (nobody m) = says-clear (λ u h. n u _ (h .1)) (λ u h. m u _ (h .1))
 
-  pub said-answer : (e : Event) → SaidTo unpaired es e (told all (acceptedAnswer es e))
+  pub said-answer : (e : Event) → SaidTo unpaired es e (said all (acceptedAnswer es e))
   unfolding judge
   said-answer e = decided (by-test (isAccessEvent e))
     where
-      decided : {b : Bool} → Reflects (T (isAccessEvent e)) b → SaidTo unpaired es e (told all (cond b (judges (suc (length es)) ((judge es e) .verdict) ((judge es e) .partner)) (takes (suc (length es)))))
+      decided : {b : Bool} → Reflects (T (isAccessEvent e)) b → SaidTo unpaired es e (said all (cond b (judges (suc (length es)) ((judge es e) .verdict) ((judge es e) .partner)) (takes (suc (length es)))))
       decided (right a) = to-access a (said-judged (partner-outcome 1 es) (partner-outcome 1 es))
       decided (wrong n) = to-other n
 

@@ -75,7 +75,7 @@ lowest p (suc n) h =
     rw (trailing-next n (indicator (p (tasks - 1 - n))) (upper p n) (bit-le (p (tasks - 1 - n))))
     (lowest-next p n (trailingZeros n (upper p n)) (p (tasks - 1 - n)) (omega arith) refl (lowest p n (omega arith)))
 
-mask-lt : (p : ℕ → Bool) → maskOf p < 2 ^ tasks
+pub mask-lt : (p : ℕ → Bool) → maskOf p < 2 ^ tasks
 unfolding maskOf
 mask-lt p = upper-lt p tasks
 

@@ -22,7 +22,7 @@ use Rattle.theory.proofs.verdicts.Search.{Outcome, partner-outcome, out
 -- Racy accesses between the bounds
 
 -- the two accesses of an earlier conflicting one are acts
-both-act : {es : List Event} {t i k : ℕ} {A : Type 0} → Earlier es t i k →
+pub both-act : {es : List Event} {t i k : ℕ} {A : Type 0} → Earlier es t i k →
     ((o p : Op) (v u w : ℕ) → At es i (act o v w) → At es k (act p u w) → A) → A
 both-act a h = apply (a .from) (a .to) (a .against .conflict) h
   where

@@ -1,10 +1,10 @@
 -- F-6: what the lazy reckoning answers, for every list of records. proofs/lazy proves it of `lazily`.
-use Prim.Native.Nat.{ℕ, suc, _≤_, _<_}
+use Prim.Native.Nat.{ℕ, _≤_, _<_}
 use mathlib.Core.Path.{_≡_}
-use mathlib.Core.Bool.{true, false, cond, not, _&&_}
+use mathlib.Core.Bool.{true, not, _&&_}
 use mathlib.Core.Logic.{_↔_}
 use mathlib.Core.List.{List, [], _∷_, _++_}
-use lib.Dec.{T, eqb}
+use lib.Dec.{T}
 use lib.ListN.{length}
 use Rattle.theory.specs.declared.record.Record.{Record}
 use Rattle.theory.specs.declared.masks.Masks.{Masks}
@@ -15,18 +15,10 @@ use Rattle.theory.specs.order.Path.{HappensBefore}
 use Rattle.theory.specs.fillings.Completion.{bit}
 use Rattle.theory.specs.acceptance.Table.{recording}
 use Rattle.theory.specs.verdicts.Verdict.{Latest}
-use Rattle.theory.specs.feeding.Feeding.{refusalsAfter}
+use Rattle.theory.specs.feeding.Following.{fedRefusal, AnswersWithout}
 use Rattle.theory.specs.feeding.Paths.{sets, leftBy}
 use Rattle.theory.specs.lazy.Walk.{WalkedInAll, BetweenInAll}
 use Rattle.theory.specs.lazy.Fold.{pairsOf}
-
--- "the refusal number of its first refused record", of those that feeding the list gives; 0 where there is none
-abbrev pub firstRefused : List ℕ → ℕ
-firstRefused [] = 0
-firstRefused (n ∷ ns) = cond (eqb n 0) (firstRefused ns) n
-
-abbrev pub fedRefusal : List Record → ℕ
-fedRefusal rs = firstRefused (refusalsAfter [] rs)
 
 -- the answer for an access of task t to variable v that stands at place k and ends the recording es, beside the eager sets' masks for it
 pub record Told (es : List Event) (t v k : ℕ) (eager : Masks) (a : Pairs) : Type 0 where
@@ -44,10 +36,7 @@ pub record Told (es : List Event) (t v k : ℕ) (eager : Masks) (a : Pairs) : Ty
 
 -- of whatever answers lists of records
 pub record AnswersLazily (answer : List Record → Pairs) : Type 0 where
-  -- "A list that the step would not accept throughout gets the refusal number of its first refused record"
-  pub refused : (rs : List Record) (n : ℕ) → fedRefusal rs ≡ suc n → answer rs ≡ pairsOf (suc n) 0 0 0
-  -- "An empty list, or one that ends in another kind of record, gets no pairs and a count of 0"
-  pub empty : answer [] ≡ pairsOf 0 0 0 0
-  pub other-end : (rs : List Record) (q : Record) → fedRefusal (rs ++ (q ∷ [])) ≡ 0 → accesses (q .kind) ≡ false → answer (rs ++ (q ∷ [])) ≡ pairsOf 0 0 0 0
+  -- "gets no pairs and a count of 0", or the refusal
+  pub without : AnswersWithout (λ n. pairsOf n 0 0 0) answer
   pub access-end : (rs : List Record) (q : Record) → fedRefusal (rs ++ (q ∷ [])) ≡ 0 → accesses (q .kind) ≡ true →
       Told (recording rs ++ (eventOf q ∷ [])) (q .task) (q .on) (length (recording rs)) (sets .masks (leftBy sets rs) q) (answer (rs ++ (q ∷ [])))

@@ -1,11 +1,11 @@
 -- What the lazy reckoning computes, in one pass over the list. It reads the access that ends the list first, and follows order from the accesses
 -- that this one asks about, and from those that a write of the acting task would ask about, in words that have a bit for each of them.
-use Prim.Native.Nat.{ℕ, zero, suc, _+_, _*_, _-_, _%_, _^_}
+use Prim.Native.Nat.{ℕ, _+_, _*_, _-_, _%_, _^_}
 use mathlib.Core.Bool.{Bool, cond, not, _&&_, _||_}
-use mathlib.Core.List.{List, [], _∷_}
+use mathlib.Core.List.{List}
 use lib.Bits.{bitAnd, bitOr}
 use lib.Dec.{ltb, eqb}
-use lib.ListN.{getD, set, length, replicate, take as firstOf}
+use lib.ListN.{getD, set, replicate}
 use Rattle.theory.specs.declared.record.Record.{Record}
 use Rattle.theory.specs.declared.walk.Walk.{Walk}
 use Rattle.theory.specs.declared.walk.Pairs.{Pairs}
@@ -14,11 +14,10 @@ use Rattle.theory.specs.order.Limits.{tasks, variables}
 use Rattle.theory.specs.order.Recording.{read, write, take, give, look, set as sets, start, join, fresh, kind, lossMark, accesses, numberedKind}
 use Rattle.theory.specs.fillings.Completion.{bit}
 use Rattle.theory.specs.acceptance.Table.{anyBelow}
-use Rattle.theory.specs.acceptance.Control.{controlRefusal, controlAfter}
 use Rattle.theory.specs.history.History.{asker, askAt, kindClashes}
 use Rattle.theory.specs.tables.Rows.{hub, taskRow, acquiredRow, releasedRow}
 use Rattle.theory.specs.tables.Reckonings.{wordBits, withBit, withoutBit}
-use Rattle.theory.specs.feeding.Step.{freshControl}
+use Rattle.theory.specs.feeding.Following.{Follower, answerBy}
 
 -- The columns: what the ending access asks of each task, and beside it what a write asks
 
@@ -134,20 +133,9 @@ acted q k task on s =
 abbrev pub recorded : Record → Record → Lazy → Lazy
 recorded q r s = cond (eqb (r .kind) lossMark) s (acted q (r .kind) (r .task) (r .on) s)
 
--- Over a list, up to the first refused record
-
-pub record Run : Type 0 where
-  pub refused : ℕ
-  pub control : List ℕ
-  pub lazy : Lazy
-
-abbrev pub runOf : ℕ → List ℕ → Lazy → Run
-runOf refused control lazy = record { refused = refused; control = control; lazy = lazy }
-
-abbrev pub followed : Record → List ℕ → Lazy → List Record → Run
-followed q control s [] = runOf 0 control s
-followed q control s (r ∷ rs) =
-    elim (controlRefusal control r) [ zero ↦ followed q (controlAfter (r .kind) (r .on) control) (recorded q r s) rs | suc n ↦ runOf (suc n) control s ]
+-- as following a list has it: the control table is not asked
+abbrev pub lazyAfter : Record → List ℕ → Record → Lazy → Lazy
+lazyAfter q control r s = recorded q r s
 
 unfoldable pub freshLazy : Lazy
 freshLazy = lazyOf (replicate hub 0) (replicate wordBits 0) (walkOf 0 0 0 0)
@@ -176,23 +164,9 @@ asksInRange q = accesses (q .kind) && (ltb (q .task) tasks && ltb (q .on) variab
 abbrev pub question : Record → Record
 question q = cond (asksInRange q) q (record { kind = kind read; task = 0; on = 0 })
 
--- the answer for the ending record q, by its refusal, and by what was followed before it
-abbrev pub answeredAt : Record → Run → ℕ → Pairs
-answeredAt q x zero = cond (accesses (q .kind)) (told q (x .lazy)) (pairsOf 0 0 0 0)
-answeredAt q x (suc n) = pairsOf (suc n) 0 0 0
+abbrev pub lazyFollower : Follower Lazy Pairs
+lazyFollower = record { fresh = freshLazy; next = λ q. lazyAfter (question q); without = λ n. pairsOf n 0 0 0; told = told }
 
-abbrev pub ending : Record → Run → Pairs
-ending q x = elim (x .refused) [ zero ↦ answeredAt q x (controlRefusal (x .control) q) | suc n ↦ pairsOf (suc n) 0 0 0 ]
-
--- the answer for records that have the last one, q, behind them
-unfoldable pub lazyEnd : List Record → Record → Pairs
-lazyEnd rs q = ending q (followed (question q) freshControl freshLazy rs)
-
--- the answer for a list of records: for the last of them
+-- the answer for a list of records
 abbrev pub lazily : List Record → Pairs
-lazily [] = pairsOf 0 0 0 0
-lazily (r ∷ rs) = lazyEnd (firstOf (length rs) (r ∷ rs)) (getD (r ∷ rs) (length rs) r)
-
--- a record as it is lent: three numbers
-abbrev pub recordIn : List ℕ → Record
-recordIn x = record { kind = getD x 0 0; task = getD x 1 0; on = getD x 2 0 }
+lazily = answerBy lazyFollower

@@ -26,35 +26,35 @@ pub data Accepted : List Meaning → Type 0 where
 
 -- What planners compare: what a record is told, without record numbers, for "Partner record numbers may shift"
 
-pub data Told : Type 0 where
-  refused : (row : ℕ) → Told
+pub data Said : Type 0 where
+  refused : (row : ℕ) → Said
   -- taken in, and no access
-  taken : Told
+  taken : Said
   -- "verdict" and "partner task", which a Clear access has not
-  judged : Verdict → (partner : Option ℕ) → Told
+  judged : Verdict → (partner : Option ℕ) → Said
   -- a Race that is known (F-7), and its partner task
-  known : (partner : Option ℕ) → Told
+  known : (partner : Option ℕ) → Said
 
 -- the task of the record that has this number, in a list whose every record is accepted
 abbrev pub taskOf : List Record → ℕ → Option ℕ
 taskOf rs zero = none
 taskOf rs (suc i) = Option·map (λ r. r .task) (getElem? rs i)
 
-abbrev pub told : List Record → Meaning → Told
-told rs (refuses n) = refused n
-told rs (takes n) = taken
-told rs (judges n v w) = judged v (taskOf rs w)
+abbrev pub said : List Record → Meaning → Said
+said rs (refuses n) = refused n
+said rs (takes n) = taken
+said rs (judges n v w) = judged v (taskOf rs w)
 
 -- a record beside what it is told
 pub record Line : Type 0 where
   pub of : Record
-  pub told : Told
+  pub said : Said
 
 -- the lines of the records `left` of a list rs, by their answers
 abbrev pub linesOf : List Record → List Record → List Meaning → List Line
 linesOf rs [] answers = []
 linesOf rs (r ∷ left) [] = []
-linesOf rs (r ∷ left) (m ∷ answers) = record { of = r; told = told rs m } ∷ linesOf rs left answers
+linesOf rs (r ∷ left) (m ∷ answers) = record { of = r; said = said rs m } ∷ linesOf rs left answers
 
 abbrev pub lines : (List Record → List Answer) → List Record → List Line
 lines answers rs = linesOf rs rs (map meaning (answers rs))
@@ -82,22 +82,22 @@ pub record SameTotals {S : Type 0} (R : Record → Record → Type 0) (c : Check
 -- The faults already accepted of F-7
 
 -- a Race beside the entries
-abbrev pub excused : List Record → Excuse → Told
+abbrev pub excused : List Record → Excuse → Said
 excused rs x = cond (x .known) (known (taskOf rs (x .partner .0))) (judged Race (taskOf rs (x .partner .0)))
 
 -- what the record r is told that left the state s
-abbrev pub toldBeside : List Record → State → Record → Meaning → Told
-toldBeside rs s r (refuses n) = refused n
-toldBeside rs s r (takes n) = taken
-toldBeside rs s r (judges n Race w) = excused rs (excuse s r w)
-toldBeside rs s r (judges n Clear w) = judged Clear (taskOf rs w)
-toldBeside rs s r (judges n Doubt w) = judged Doubt (taskOf rs w)
+abbrev pub saidBeside : List Record → State → Record → Meaning → Said
+saidBeside rs s r (refuses n) = refused n
+saidBeside rs s r (takes n) = taken
+saidBeside rs s r (judges n Race w) = excused rs (excuse s r w)
+saidBeside rs s r (judges n Clear w) = judged Clear (taskOf rs w)
+saidBeside rs s r (judges n Doubt w) = judged Doubt (taskOf rs w)
 
 -- the lines of the records `left` of a list rs, from the state s on
 abbrev pub linesFrom : List Record → State → List Record → List Line
 linesFrom rs s [] = []
 linesFrom rs s (r ∷ left) =
-    record { of = r; told = toldBeside rs (byClocks .next s r) r (meaning (byClocks .answer s r)) } ∷ linesFrom rs (byClocks .next s r) left
+    record { of = r; said = saidBeside rs (byClocks .next s r) r (meaning (byClocks .answer s r)) } ∷ linesFrom rs (byClocks .next s r) left
 
 abbrev pub linesBeside : List Fault → List Record → List Line
 linesBeside fs rs = linesFrom rs (startWith fs) rs

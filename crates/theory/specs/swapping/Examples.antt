@@ -14,7 +14,7 @@ use Rattle.theory.specs.verdicts.Examples.{_∶_with_, w0, w1, r0, r1, b
 use Rattle.theory.specs.feeding.Feeding.{answersFrom, eventRecord, verdictsOf}
 use Rattle.theory.specs.swapping.Unrelated.{Premise, two-acts, actors-differ, names-no-actor, names-no-same, no-semaphore, no-flag, no-variable, Holds, Unrelated}
 use Rattle.theory.specs.swapping.Swaps.{Swapped, these, later, moved}
-use Rattle.theory.specs.swapping.Compared.{Accepted, Told, refused, taken, judged, linesOf}
+use Rattle.theory.specs.swapping.Compared.{Accepted, Said, refused, taken, judged, linesOf}
 
 -- two neighbours in a recording that fail a premise; and a record of it, by its place, which is told one thing, and another when the two are swapped
 pub record Related : Type 0 where
@@ -24,12 +24,12 @@ pub record Related : Type 0 where
   pub other : Event
   pub behind : List Event
   pub place : ℕ
-  pub was : Told
-  pub becomes : Told
+  pub was : Said
+  pub becomes : Said
 
 -- the recording, and the same with the two swapped
-abbrev pub recorded : Related → List Event
-recorded x = x .ahead ++ (x .one ∷ (x .other ∷ x .behind))
+abbrev pub logged : Related → List Event
+logged x = x .ahead ++ (x .one ∷ (x .other ∷ x .behind))
 
 abbrev pub exchanged : Related → List Event
 exchanged x = x .ahead ++ (x .other ∷ (x .one ∷ x .behind))
@@ -44,20 +44,20 @@ abbrev pub newPlace : Related → ℕ
 newPlace x = moved (anySwap (x .one) (x .other) (x .behind) (x .ahead)) (x .place)
 
 -- what the record at a place of a recording is told when it is fed
-abbrev pub toldOf : List Record → ℕ → Option Told
-toldOf rs k = Option·map (λ l. l .told) (getElem? (linesOf rs rs (answersFrom [] rs)) k)
+abbrev pub saidOf : List Record → ℕ → Option Said
+saidOf rs k = Option·map (λ l. l .said) (getElem? (linesOf rs rs (answersFrom [] rs)) k)
 
-abbrev pub toldAt : List Event → ℕ → Option Told
-toldAt es k = toldOf (map eventRecord es) k
+abbrev pub saidAt : List Event → ℕ → Option Said
+saidAt es k = saidOf (map eventRecord es) k
 
 pub record Changes (x : Related) : Type 0 where
   -- the two meet every other premise
   pub others : (p : Premise) → p ≢ x .premise → Holds p (x .one) (x .other)
   -- every record of the recording is accepted
-  pub accepted : Accepted (answersFrom [] (map eventRecord (recorded x)))
+  pub accepted : Accepted (answersFrom [] (map eventRecord (logged x)))
   -- what the record is told as it is, and with the two swapped
-  pub before : toldAt (recorded x) (x .place) ≡ some (x .was)
-  pub after : toldAt (exchanged x) (newPlace x) ≡ some (x .becomes)
+  pub before : saidAt (logged x) (x .place) ≡ some (x .was)
+  pub after : saidAt (exchanged x) (newPlace x) ≡ some (x .becomes)
   pub differ : x .was ≢ x .becomes
 
 -- every row of a table does
@@ -69,18 +69,18 @@ AllChange (x ∷ xs) = Changes x × AllChange xs
 abbrev pub EachNeeded : Type 0
 EachNeeded = (q : Premise) → (x : Related) × (x .premise ≡ q) × Changes x
 
-abbrev pub row : Premise → List Event → Event → Event → List Event → ℕ → Told → Told → Related
+abbrev pub row : Premise → List Event → Event → Event → List Event → ℕ → Said → Said → Related
 row q ahead e f behind k was becomes =
     record { premise = q; ahead = ahead; one = e; other = f; behind = behind; place = k; was = was; becomes = becomes }
 
-abbrev pub clear : Told
+abbrev pub clear : Said
 clear = judged Clear none
 
 -- by the partner's task
-abbrev pub race : ℕ → Told
+abbrev pub race : ℕ → Said
 race t = judged Race (some t)
 
-abbrev pub doubt : ℕ → Told
+abbrev pub doubt : ℕ → Said
 doubt t = judged Doubt (some t)
 
 -- the recording up to the two, the two, the rest; the place of the record that is told otherwise, and what

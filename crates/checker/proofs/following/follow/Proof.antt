@@ -4,9 +4,11 @@ use mathlib.Core.List.{map}
 use Prim.Native.Nat.{_≤_, _-_}
 use native.Mathlib.Omega.{arith}
 use lib.ListN.{take}
-use Rattle.theory.specs.lazy.Fold.{lazyOf, followed, recordIn}
+use Rattle.theory.specs.feeding.Following.{followed, recordIn}
+use Rattle.theory.specs.lazy.Fold.{lazyOf, lazyAfter}
 use Rattle.theory.proofs.acceptance.Accepted.{Accepts, accepts, names-task}
-use Rattle.theory.proofs.lazy.Code.{Within, within-more, Goes, goes-first, goes-out, goes-refused, goes-on}
+use Rattle.theory.proofs.feeding.Listed.{Goes, goes-first, goes-out, goes-refused, goes-on}
+use Rattle.theory.proofs.lazy.Code.{Within, within-more}
 use borrow.Author.Needs.{needs}
 use Rattle.checker.proofs.following.follow.Statement.{statement}
 use Rattle.checker.proofs.following.follow.Tie as tie
@@ -14,7 +16,7 @@ use Rattle.checker.proofs.following.follow.Tie as tie
 abbrev Inv-loop : tie.InvT-loop
 Inv-loop list upto q control₀ nodes₀ counts₀ kept₀ i₀ control nodes counts kept i =
     (i ≤ upto) × Within control (kept .walked)
-    × Goes q list upto (followed q control₀ (lazyOf nodes₀ counts₀ kept₀) (take upto (map recordIn list))) i control (lazyOf nodes counts kept)
+    × Goes (lazyAfter q) list upto (followed (lazyAfter q) control₀ (lazyOf nodes₀ counts₀ kept₀) (take upto (map recordIn list))) i control (lazyOf nodes counts kept)
 
 abbrev μ-loop : tie.MeasureT-loop
 μ-loop list upto q control₀ nodes₀ counts₀ kept₀ i₀ control nodes counts kept i = upto - i

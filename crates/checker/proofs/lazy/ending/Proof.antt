@@ -1,27 +1,28 @@
 -- By the refusal before, by its own, and by its kind.
 -- what it was lent, as one
 use mathlib.Core.Path.{sym, _∙_}
-use Rattle.theory.specs.lazy.Fold.{lazyOf, Run, runOf}
+use Rattle.theory.specs.feeding.Following.{Run, runOf}
+use Rattle.theory.specs.lazy.Fold.{Lazy, lazyOf, lazyFollower}
 use Rattle.theory.proofs.acceptance.Accepted.{accepts}
 use Rattle.theory.proofs.tables.Ranges.{access-acts}
-use Rattle.theory.proofs.lazy.Code.{ending-refused, ending-own}
+use Rattle.theory.proofs.feeding.Listed.{ending-refused, ending-own}
 use borrow.Author.Needs.{needs}
 use Rattle.checker.proofs.lazy.ending.Statement.{statement}
 use Rattle.checker.proofs.lazy.ending.Tie as tie
 
-run : tie.Start → Run
+run : tie.Start → Run Lazy
 run c = let a = c .args in runOf (a .before .refused) (a .control .now) (lazyOf (a .nodes .now) (a .counts .now) (a .before .walk))
 
 returns : tie.Need-returns
 unfolding run
-returns c = let at-entry = c .before .before .before in c .no-pairs .ensures ∙ ending-refused (at-entry .args .q) (run at-entry) (c .before .if1 .taken)
+returns c = let at-entry = c .before .before .before in c .no-pairs .ensures ∙ ending-refused lazyFollower (at-entry .args .q) (run at-entry) (c .before .if1 .taken)
 
 returns-2 : tie.Need-returns-2
 unfolding run
 returns-2 c =
     let at-refusal = c .before .before in
     let at-entry = at-refusal .before .before .before in
-    c .no-pairs2 .ensures ∙ ending-own (at-entry .args .q) (run at-entry) (at-refusal .before .if1 .left) (at-refusal .refusal .ensures) (c .before .if2 .taken)
+    c .no-pairs2 .ensures ∙ ending-own lazyFollower (at-entry .args .q) (run at-entry) (at-refusal .before .if1 .left) (at-refusal .refusal .ensures) (c .before .if2 .taken)
 
 told-requires : tie.Need-told-requires
 told-requires c κs =

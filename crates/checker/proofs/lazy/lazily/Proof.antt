@@ -1,16 +1,17 @@
 -- The records before the last are followed, and the last is answered.
-use mathlib.Core.Path.{refl, _∙_}
+use mathlib.Core.Path.{refl, ap, _∙_}
 use Prim.Native.Nat.{_-_}
 use native.Mathlib.Omega.{arith}
 use lib.ListN.{length}
-use Rattle.theory.specs.lazy.Fold.{freshLazy}
-use Rattle.theory.proofs.lazy.Code.{lazily-by, lazily-empty}
+use Rattle.theory.specs.lazy.Fold.{lazyAfter, lazyFollower, freshLazy}
+use Rattle.theory.proofs.feeding.Listed.{answered-by, answered-empty}
+use Rattle.theory.proofs.lazy.Code.{question-clipped}
 use borrow.Author.Needs.{needs}
 use Rattle.checker.proofs.lazy.lazily.Statement.{statement}
 use Rattle.checker.proofs.lazy.lazily.Tie as tie
 
 returns : tie.Need-returns
-returns c = c .no-pairs .ensures ∙ lazily-empty (c .before .before .args .list .now) (c .before .if1 .taken)
+returns c = c .no-pairs .ensures ∙ answered-empty lazyFollower (c .before .before .args .list .now) (c .before .if1 .taken)
 
 returns-2 : tie.Need-returns-2
 unfolding freshLazy
@@ -19,7 +20,7 @@ returns-2 c =
     let at-question = at-follow .before .before .before .before in
     let at-record = at-question .before .before in
     let xs = at-record .before .before .args .list .now in
-    lazily-by xs (length xs - 1) (omega (arith, at-record .before .if1 .left)) (at-record .record-at .ensures) (at-question .question .ensures .0) (at-question .before .fresh-control .ensures)
+    answered-by lazyFollower (λ q. ap lazyAfter (question-clipped q)) xs (length xs - 1) (omega (arith, at-record .before .if1 .left)) (at-record .record-at .ensures) (ap lazyAfter (at-question .question .ensures .0)) (at-question .before .fresh-control .ensures)
     (at-follow .follow .ensures) (c .ending .ensures) refl
 
 pub lazily-spec : {M : Type 1} → statement M

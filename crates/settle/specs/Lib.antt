@@ -1,0 +1,3 @@
+pub mod Argument
+pub mod Line
+pub mod Table
