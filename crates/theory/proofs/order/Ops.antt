@@ -44,7 +44,7 @@ not-true false e = refl
 pub same-op : (o p : Op) → Reflects (o ≡ p) (o is p)
 same-op o p = same-as (λ e. sym (opOf-kind o) ∙ ap opOf e ∙ opOf-kind p) (ap kind) (equal (kind o) (kind p))
 
-is-not : {o p : Op} → ¬ (o ≡ p) → (o is p) ≡ false
+pub is-not : {o p : Op} → ¬ (o ≡ p) → (o is p) ≡ false
 is-not {o} {p} n = decided (same-op o p)
   where
     decided : {b : Bool} → Reflects (o ≡ p) b → b ≡ false

@@ -57,11 +57,6 @@ pub record Proper (k task on : ℕ) : Type 0 where
   pub act-fits : k ≢ lossMark → Fitting k task on
   pub mark-names : k ≡ lossMark → 0 < on
 
--- a start and a join name a task
-pub record NamesTask (k on : ℕ) : Type 0 where
-  pub started : k ≡ kind start → on < tasks
-  pub joined : k ≡ kind join → on < tasks
-
 -- the record is a loss mark
 abbrev pub isMark : Record → Bool
 isMark r = eqb (r .kind) lossMark
