@@ -18,14 +18,14 @@ use Rattle.theory.specs.order.Recording.{Op, Event, act, lost, kind, kin
 use Rattle.theory.specs.fillings.Completion.{names}
 use Rattle.theory.specs.acceptance.Table.{Phase, isLive, isUnseen, nextPhase, laterPhase, phase, Fitting, hasKind, anyBelow, Standing, _when_, firstRow, standingRefusal, standing, refusal}
 use Rattle.theory.specs.acceptance.Owning.{isOwned, under, Who, nobody, by, isSomebody, isBy, nextHolder, holder}
-use Rattle.theory.specs.acceptance.Control.{liveIn, unseenIn, countIn, profileAt, underIn, holderAt, heldIn, holdsIn, controlStanding, controlRefusal, counted, withHolder, controlAfter}
+use Rattle.theory.specs.acceptance.Control.{liveIn, unseenIn, countIn, profileAt, underIn, holderAt, acceptanceCells, heldIn, holdsIn, controlStanding, controlRefusal, counted, withHolder, controlAfter}
 use Rattle.theory.specs.totals.Totals.{controlCells}
 use Rattle.theory.specs.feeding.Step.{freshControl}
 use Rattle.theory.proofs.basics.Reflects.{Reflects, right, wrong, equal, at-most}
 use Rattle.theory.proofs.acceptance.Rows.{OfAct, actRows, markRows, act-rows, mark-rows}
 use Rattle.theory.proofs.order.Ops.{Role, a-take, a-give, a-look, a-set, a-start, a-join, plain, role, keeps-phases, same-op, is-not}
 use Rattle.theory.proofs.order.Numbered.{or-true}
-use Rattle.theory.proofs.acceptance.Noted.{Rewritten, as-before, and-set, rewritten-length, rewritten-count}
+use Rattle.theory.proofs.acceptance.Updated.{Rewritten, as-before, and-set, rewritten-length, rewritten-count}
 use Rattle.theory.proofs.acceptance.Owning.{under-snoc, under-kept, holder-snoc, holder-kept, none-held}
 
 -- Definition
@@ -63,6 +63,22 @@ fresh-control =
       profile = refl;
       holders = λ s h. getD-set-other (replicate controlCells 0) 0 (holderAt s) 1 0 (λ q. omega arith) ∙ getD-replicate {A = ℕ} controlCells (holderAt s) 0 0 (omega arith);
     }
+
+-- Acceptance does not look at what lies after its own cells
+
+pub exact-elsewhere : {es : List Event} {control : List ℕ} → ExactControl es control → (i v : ℕ) → acceptanceCells ≤ i → ExactControl es (set control i v)
+exact-elsewhere {es} {control} x i v h =
+    record {
+      size = length-set control i v ∙ x .size;
+      count = other tasks (omega arith) ∙ x .count;
+      live = λ t l. ap (λ (n : ℕ). eqb n 1) (other t (omega arith)) ∙ x .live t l;
+      unseen = λ t l. ap (λ (n : ℕ). eqb n 0) (other t (omega arith)) ∙ x .unseen t l;
+      profile = ap (λ (n : ℕ). eqb n 1) (other profileAt (omega arith)) ∙ x .profile;
+      holders = λ s l. other (holderAt s) (omega arith) ∙ x .holders s l;
+    }
+  where
+    other : (j : ℕ) → j < acceptanceCells → getD (set control i v) j 0 ≡ getD control j 0
+    other j l = getD-set-other control i j v 0 (λ q. omega arith)
 
 -- One more event
 

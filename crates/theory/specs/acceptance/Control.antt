@@ -67,8 +67,8 @@ abbrev pub withHolder : ℕ → ℕ → List ℕ → List ℕ
 withHolder s who control = cond (underIn control) (set control (holderAt s) who) control
 
 -- what an accepted record does to phases, profile and holders
-abbrev pub noted : ℕ → ℕ → ℕ → List ℕ → List ℕ
-noted k task on control =
+abbrev pub updated : ℕ → ℕ → ℕ → List ℕ → List ℕ
+updated k task on control =
     cond (eqb k (kind Op.start)) (set control on 1)
     (cond (eqb k (kind Op.join)) (set control on 2)
     (cond (eqb k (kind Op.take)) (withHolder on (task + 1) control)
@@ -77,4 +77,4 @@ noted k task on control =
 
 -- the table after an accepted record
 abbrev pub controlAfter : ℕ → ℕ → ℕ → List ℕ → List ℕ
-controlAfter k task on control = counted (noted k task on control)
+controlAfter k task on control = counted (updated k task on control)

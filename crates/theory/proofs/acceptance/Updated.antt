@@ -11,7 +11,7 @@ use lib.Seq.{getD-set-other}
 use Rattle.theory.specs.order.Limits.{semaphores}
 use Rattle.theory.specs.order.Recording.{Op, kind}
 use Rattle.theory.specs.acceptance.Table.{Proper}
-use Rattle.theory.specs.acceptance.Control.{countAt, countIn, profileAt, holderAt, acceptanceCells, counted, withHolder, noted, controlAfter}
+use Rattle.theory.specs.acceptance.Control.{countAt, countIn, profileAt, holderAt, acceptanceCells, counted, withHolder, updated, controlAfter}
 use Rattle.theory.proofs.basics.Reflects.{Reflects, right, wrong, equal}
 use Rattle.theory.proofs.acceptance.Accepted.{fits-of}
 
@@ -33,8 +33,8 @@ rewritten-above as-before i l = refl
 rewritten-above (and-set {c} x j v h n) i l = getD-set-other c j i v 0 (λ q. omega arith) ∙ rewritten-above x i l
 
 module _ (k task on : ℕ) (control : List ℕ) (p : Proper k task on) where
-  pub noted-rewrites : Rewritten control (noted k task on control)
-  noted-rewrites = decided (equal k (kind Op.start)) (equal k (kind Op.join)) (equal k (kind Op.take)) (equal k (kind Op.give)) (equal k (kind Op.owned))
+  pub updated-rewrites : Rewritten control (updated k task on control)
+  updated-rewrites = decided (equal k (kind Op.start)) (equal k (kind Op.join)) (equal k (kind Op.take)) (equal k (kind Op.give)) (equal k (kind Op.owned))
     where
       one : (i v : ℕ) → i < acceptanceCells → i ≢ countAt → Rewritten control (set control i v)
       one i v h n = and-set as-before i v h n
@@ -58,8 +58,8 @@ module _ (k task on : ℕ) (control : List ℕ) (p : Proper k task on) where
 
   -- the size of the table stays
   pub after-length : length (controlAfter k task on control) ≡ length control
-  after-length = length-set (noted k task on control) countAt _ ∙ rewritten-length noted-rewrites
+  after-length = length-set (updated k task on control) countAt _ ∙ rewritten-length updated-rewrites
 
   -- and so does what acceptance does not look at
-  pub noted-elsewhere : (i : ℕ) → acceptanceCells ≤ i → getD (controlAfter k task on control) i 0 ≡ getD control i 0
-  noted-elsewhere i l = getD-set-other (noted k task on control) countAt i _ 0 (λ q. omega arith) ∙ rewritten-above noted-rewrites i l
+  pub updated-elsewhere : (i : ℕ) → acceptanceCells ≤ i → getD (controlAfter k task on control) i 0 ≡ getD control i 0
+  updated-elsewhere i l = getD-set-other (updated k task on control) countAt i _ 0 (λ q. omega arith) ∙ rewritten-above updated-rewrites i l
