@@ -4,3 +4,4 @@ pub mod Accepted
 pub mod Updated
 pub mod Owning
 pub mod ControlTable
+pub mod Examples

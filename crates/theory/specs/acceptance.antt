@@ -2,3 +2,4 @@
 pub mod Owning
 pub mod Table
 pub mod Control
+pub mod Examples
