@@ -53,3 +53,11 @@ holder-snoc es e s = ap (λ (l : List Event). laterHolder nobody l s) (since-sno
 
 pub none-held : (es : List Event) (s : ℕ) → under es ≡ false → holder es s ≡ nobody
 none-held es s q = ap (λ (l : List Event). laterHolder nobody l s) (none-since es q)
+
+-- a record that leaves the holder
+pub holder-left : (es : List Event) (e : Event) (s : ℕ) → nextHolder e s (holder es s) ≡ holder es s → holder (es ++ (e ∷ [])) s ≡ holder es s
+holder-left es e s k = holder-snoc es e s ∙ of (under es) refl
+  where
+    of : (b : Bool) → under es ≡ b → cond b (nextHolder e s (holder es s)) nobody ≡ holder es s
+    of true q = k
+    of false q = sym (none-held es s q)
