@@ -26,7 +26,7 @@ use Rattle.theory.proofs.acceptance.Rows.{OfAct, actRows, markRows, act
 use Rattle.theory.proofs.order.Ops.{Role, a-take, a-give, a-look, a-set, a-start, a-join, plain, role, keeps-phases, same-op, is-not}
 use Rattle.theory.proofs.order.Numbered.{or-true}
 use Rattle.theory.proofs.acceptance.Updated.{Rewritten, as-before, and-set, rewritten-length, rewritten-count}
-use Rattle.theory.proofs.acceptance.Owning.{under-snoc, under-kept, holder-snoc, holder-kept, none-held}
+use Rattle.theory.proofs.acceptance.Owning.{under-snoc, under-kept, holder-snoc, holder-left, none-held}
 
 -- Definition
 
@@ -122,7 +122,7 @@ module _ {es : List Event} {control : List ℕ} (x : ExactControl es control) wh
   -- an event that changes no holder, if it begins the profile or not
   same-holders : (e : Event) → ((s : ℕ) (h : Who) → nextHolder e s h ≡ h) → (s : ℕ) → s < semaphores →
       getD control (holderAt s) 0 ≡ whoNumber (holder (es ++ (e ∷ [])) s)
-  same-holders e k s l = x .holders s l ∙ ap whoNumber (sym (holder-kept es e s (k s)))
+  same-holders e k s l = x .holders s l ∙ ap whoNumber (sym (holder-left es e s (k s (holder es s))))
 
   same-profile : (e : Event) → isOwned e ≡ false → underIn control ≡ under (es ++ (e ∷ []))
   same-profile e q = x .profile ∙ sym (under-kept es e q)

@@ -54,15 +54,13 @@ holder-snoc es e s = ap (λ (l : List Event). laterHolder nobody l s) (since-sno
 pub none-held : (es : List Event) (s : ℕ) → under es ≡ false → holder es s ≡ nobody
 none-held es s q = ap (λ (l : List Event). laterHolder nobody l s) (none-since es q)
 
--- A record that changes nothing here
-
 pub under-kept : (es : List Event) (e : Event) → isOwned e ≡ false → under (es ++ (e ∷ [])) ≡ under es
 under-kept es e q = under-snoc es e ∙ rw (q, or-false (under es))
 
--- a record that changes semaphore s's holder under no circumstances, the one that begins the profile too
-pub holder-kept : (es : List Event) (e : Event) (s : ℕ) → ((h : Who) → nextHolder e s h ≡ h) → holder (es ++ (e ∷ [])) s ≡ holder es s
-holder-kept es e s k = holder-snoc es e s ∙ of (under es) refl
+-- a record that leaves the holder
+pub holder-left : (es : List Event) (e : Event) (s : ℕ) → nextHolder e s (holder es s) ≡ holder es s → holder (es ++ (e ∷ [])) s ≡ holder es s
+holder-left es e s k = holder-snoc es e s ∙ of (under es) refl
   where
     of : (b : Bool) → under es ≡ b → cond b (nextHolder e s (holder es s)) nobody ≡ holder es s
-    of true q = k (holder es s)
+    of true q = k
     of false q = sym (none-held es s q)
