@@ -37,6 +37,7 @@ pub use limits::LAST_FLAG;
 pub use limits::LAST_SEMAPHORE;
 pub use limits::LAST_TASK;
 pub use limits::LAST_VARIABLE;
+pub use limits::PROFILES;
 pub use limits::RECORDS;
 pub use limits::SEMAPHORES;
 pub use limits::TASKS;
