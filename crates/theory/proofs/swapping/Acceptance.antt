@@ -23,7 +23,7 @@ use Rattle.theory.proofs.acceptance.Rows.{OfAct, actRows, act-rows, all
 use Rattle.theory.proofs.acceptance.Owning.{under-snoc, holder-snoc, holder-left}
 use Rattle.theory.proofs.acceptance.ControlTable.{phase-snoc}
 use Rattle.theory.proofs.feeding.Simulation.{Shape, an-act, a-mark, shape-of}
-use Rattle.theory.proofs.swapping.Independent.{Separates, Independent, TwoActs, two, ChangesHolder, by-take, by-give, either-way, phase-kept, phases-commute, holder-kept, holders-commute, is-unowned}
+use Rattle.theory.proofs.swapping.Independent.{Separates, Independent, TwoActs, two, ChangesHolder, by-take, by-give, either-way, phase-kept, phases-commute, holder-kept, holders-commute, is-unowned, unowned}
 
 -- A list whose every record is accepted, after a recording
 
@@ -137,13 +137,6 @@ module _ {o p : Op} {t u n m : ℕ} (x : Independent (act o t n) (act p u m)) (e
       OfAct (record { kind = kind p; task = u; on = m }) →
       refusal (es ++ (act o t n ∷ [])) (record { kind = kind p; task = u; on = m }) ≡ refusal es (record { kind = kind p; task = u; on = m })
   refused-alike room room′ a = same-act p u m (es ++ (act o t n ∷ [])) es room room′ actor-kept named-kept other-unowned profile-kept held-kept a
-
--- neither is an `owned`
-unowned : {e f : Event} → Independent e f → isOwned e ≡ false
-unowned z = of (z .both) z
-  where
-    of : {e f : Event} → TwoActs e f → Independent e f → isOwned e ≡ false
-    of two z = is-unowned (λ k. z .no-owned k .0)
 
 -- the holder after both
 holder-after : (es : List Event) (e f : Event) (s : ℕ) → isOwned e ≡ false →

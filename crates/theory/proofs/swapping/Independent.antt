@@ -11,7 +11,7 @@ use lib.Dec.{T, eqb}
 use Rattle.theory.specs.declared.record.Record.{Record}
 use Rattle.theory.specs.order.Recording.{Op, take, give, start, join, owned, fresh, miss, _is_, Event, act, acts, Unmarked, no-events, an-act, isAccess, eventOf, Kind, of-op, of-mark, kinds}
 use Rattle.theory.specs.order.Path.{Step, same-task, gives-takes, sets-looks, starts, joins, rule, Conflict, conflict, Empties, empties}
-use Rattle.theory.specs.acceptance.Owning.{Who, nobody, by, nextHolder}
+use Rattle.theory.specs.acceptance.Owning.{isOwned, Who, nobody, by, nextHolder}
 use Rattle.theory.specs.acceptance.Table.{Phase, nextPhase}
 use Rattle.theory.specs.swapping.Unrelated.{Series, task, semaphore, flag, variable, profile, seriesOf, Names, names, sharing, MayShare, may-share, Premise, two-acts, actors-differ, names-no-actor, names-no-same, no-semaphore, no-flag, no-variable, none-owned, Holds, Unrelated, UnrelatedRecords, OneMisses, first-misses, second-misses, UnrelatedByMiss, MissedRecords}
 use Rattle.theory.proofs.basics.Reflects.{Reflects, right, wrong, by-test, is-true, equal}
@@ -270,3 +270,10 @@ is-unowned {o} {n = n} d = decided (same-op o owned)
     decided : {b : Bool} → Reflects (o ≡ owned) b → b ≡ false
     decided (right q) = absurd (d n (names (ap seriesOf q)))
     decided (wrong f) = refl
+
+-- neither is an `owned`
+pub unowned : {e f : Event} → Independent e f → isOwned e ≡ false
+unowned z = of (z .both) z
+  where
+    of : {e f : Event} → TwoActs e f → Independent e f → isOwned e ≡ false
+    of two z = is-unowned (λ k. z .no-owned k .0)
