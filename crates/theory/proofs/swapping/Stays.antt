@@ -11,11 +11,11 @@ use Rattle.theory.specs.acceptance.Owning.{isOwned}
 use Rattle.theory.specs.swapping.Unrelated.{UnrelatedRecords, MissedRecords}
 use Rattle.theory.specs.swapping.Swaps.{Swapped, these, later, moved, Swaps, no-swap, swap-then, movedBy}
 use Rattle.theory.specs.swapping.Compared.{OwnedStays}
-use Rattle.theory.proofs.swapping.Independent.{Separates, Independent, either-way, unowned, unrelated-separates, missed-separates}
+use Rattle.theory.proofs.swapping.Independent.{Separates, Independent, either-way, unrelated-separates, missed-separates}
 
 -- it is none of the two that are swapped
 not-swapped : {q r : Record} {f : Event} → Independent (eventOf q) f → some q ≡ some r → ¬ (isOwned (eventOf r) ≡ true)
-not-swapped {q} {r} z e w = let p : q ≡ r = cc in true≢false (sym w ∙ (ap (λ (x : Record). isOwned (eventOf x)) (sym p) ∙ unowned z))
+not-swapped {q} {r} z e w = let p : q ≡ r = cc in true≢false (sym w ∙ (ap (λ (x : Record). isOwned (eventOf x)) (sym p) ∙ z .unowned))
 
 module _ {R : Record → Record → Type 0} (i : Separates R) where
   stays-once : {rs rs′ : List Record} (s : Swapped R rs rs′) (k : ℕ) (r : Record) → getElem? rs k ≡ some r → isOwned (eventOf r) ≡ true → (moved s k ≡ k) × (getElem? rs′ k ≡ some r)
