@@ -15,7 +15,7 @@ use Rattle.theory.specs.order.Limits.{records}
 use Rattle.theory.specs.order.Recording.{Op, take, give, start, join, owned, _is_, Event, act, lost, kind, lossMark, eventOf, acts}
 use Rattle.theory.specs.acceptance.Owning.{isOwned, under, Who, nobody, isSomebody, isBy, nextHolder, holder}
 use Rattle.theory.specs.acceptance.Table.{Phase, isLive, isUnseen, nextPhase, phase, standing, firstRow, standingRefusal, refusal}
-use Rattle.theory.specs.swapping.Unrelated.{task, profile, seriesOf, Names, names}
+use Rattle.theory.specs.swapping.Unrelated.{task, seriesOf, names}
 use Rattle.theory.specs.swapping.Swaps.{Swapped, these, later}
 use Rattle.theory.proofs.basics.Reflects.{Reflects, right, wrong}
 use Rattle.theory.proofs.order.Ops.{same-op, no-mark, event-act}
@@ -72,8 +72,8 @@ pub taken-same : {es es′ : List Event} {rs : List Record} → SameStanding es 
 taken-same s none-left = none-left
 taken-same s (and-taken {r = r} z k) = and-taken (sym (same-refusal s r) ∙ z) (taken-same (standing-next (eventOf r) s) k)
 
--- An act is refused alike after two recordings that have room and agree on the task that acts, the task that it names, the profile and the holder of the
--- semaphore that it takes or gives; an `owned` is not
+-- An act that is no `owned` is refused alike after two recordings that have room and agree on the task that acts, the task that it names, the profile and
+-- the holder of the semaphore that it takes or gives
 
 module _ (p : Op) (u m : ℕ) (es es′ : List Event) (room : length es < records) (room′ : length es′ < records)
     (actor : phase es u ≡ phase es′ u) (named : seriesOf p ≡ task → phase es m ≡ phase es′ m)

@@ -22,7 +22,7 @@ use Rattle.theory.proofs.order.Ops.{all, each-op, Role, a-take, a-give,
 pub data TwoActs : Event → Event → Type 0 where
   two : {o p : Op} {t u n m : ℕ} → TwoActs (act o t n) (act p u m)
 
--- an act after which semaphore s has a holder, or none
+-- a take or a give of semaphore s: who holds it changes by it
 pub data ChangesHolder (s : ℕ) : Event → Type 0 where
   by-take : {t : ℕ} → ChangesHolder s (act take t s)
   by-give : {t : ℕ} → ChangesHolder s (act give t s)
