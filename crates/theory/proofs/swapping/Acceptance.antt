@@ -2,7 +2,7 @@
 -- the same.
 -- Assumes nothing.
 use mathlib.Core.Path.{_≡_, refl, sym, _∙_, ap, ap₂, subst}
-use mathlib.Core.Bool.{Bool, true, false, cond, not, _&&_, _||_, or-false}
+use mathlib.Core.Bool.{Bool, true, false, cond, not, _&&_, _||_}
 use mathlib.Core.Logic.{_≢_}
 use mathlib.Core.List.{List, [], _∷_, _++_}
 use Prim.Native.Nat.{ℕ, zero, suc, _+_, _<_}
@@ -15,15 +15,15 @@ use Rattle.theory.specs.order.Limits.{records}
 use Rattle.theory.specs.order.Recording.{Op, take, give, start, join, owned, _is_, Event, act, lost, kind, lossMark, eventOf, acts}
 use Rattle.theory.specs.acceptance.Owning.{isOwned, under, Who, nobody, isSomebody, isBy, nextHolder, holder}
 use Rattle.theory.specs.acceptance.Table.{Phase, isLive, isUnseen, nextPhase, phase, standing, firstRow, standingRefusal, refusal}
-use Rattle.theory.specs.swapping.Unrelated.{task, profile, seriesOf, Names, names}
+use Rattle.theory.specs.swapping.Unrelated.{task, seriesOf, names}
 use Rattle.theory.specs.swapping.Swaps.{Swapped, these, later}
 use Rattle.theory.proofs.basics.Reflects.{Reflects, right, wrong}
 use Rattle.theory.proofs.order.Ops.{same-op, no-mark, event-act}
 use Rattle.theory.proofs.acceptance.Rows.{OfAct, actRows, act-rows, allowed}
-use Rattle.theory.proofs.acceptance.Owning.{under-snoc, holder-snoc, holder-left}
+use Rattle.theory.proofs.acceptance.Owning.{under-snoc, under-kept, holder-snoc, holder-left}
 use Rattle.theory.proofs.acceptance.ControlTable.{phase-snoc}
 use Rattle.theory.proofs.feeding.Simulation.{Shape, an-act, a-mark, shape-of}
-use Rattle.theory.proofs.swapping.Independent.{Separates, Independent, TwoActs, two, ChangesHolder, by-take, by-give, either-way, phase-kept, phases-commute, holder-kept, holders-commute, is-unowned}
+use Rattle.theory.proofs.swapping.Independent.{Separates, Independent, TwoActs, two, ChangesHolder, by-take, by-give, either-way, phase-kept, phases-commute, holder-kept, holders-commute}
 
 -- A list whose every record is accepted, after a recording
 
@@ -72,8 +72,8 @@ pub taken-same : {es es′ : List Event} {rs : List Record} → SameStanding es 
 taken-same s none-left = none-left
 taken-same s (and-taken {r = r} z k) = and-taken (sym (same-refusal s r) ∙ z) (taken-same (standing-next (eventOf r) s) k)
 
--- An act is refused alike after two recordings that have room and agree on the task that acts, the task that it names, the profile and the holder of the
--- semaphore that it takes or gives; an `owned` is not
+-- An act that is no `owned` is refused alike after two recordings that have room and agree on the task that acts, the task that it names, the profile and
+-- the holder of the semaphore that it takes or gives
 
 module _ (p : Op) (u m : ℕ) (es es′ : List Event) (room : length es < records) (room′ : length es′ < records)
     (actor : phase es u ≡ phase es′ u) (named : seriesOf p ≡ task → phase es m ≡ phase es′ m)
@@ -111,10 +111,6 @@ module _ (p : Op) (u m : ℕ) (es es′ : List Event) (room : length es < record
 
 -- Two unrelated acts
 
--- a record that is no `owned` leaves the profile
-profile-left : (es : List Event) (e : Event) → isOwned e ≡ false → under (es ++ (e ∷ [])) ≡ under es
-profile-left es e d = under-snoc es e ∙ (ap (λ (b : Bool). under es || b) d ∙ or-false (under es))
-
 -- the phases, the profile and the holder that the one looks at stand as they were after the other
 module _ {o p : Op} {t u n m : ℕ} (x : Independent (act o t n) (act p u m)) (es : List Event) where
   actor-kept : phase (es ++ (act o t n ∷ [])) u ≡ phase es u
@@ -123,12 +119,6 @@ module _ {o p : Op} {t u n m : ℕ} (x : Independent (act o t n) (act p u m)) (e
   named-kept : seriesOf p ≡ task → phase (es ++ (act o t n ∷ [])) m ≡ phase es m
   named-kept e = phase-next es (act o t n) m ∙ phase-kept o t n m (phase es m) (λ y. x .no-task m y (names e))
 
-  other-unowned : (p is owned) ≡ false
-  other-unowned = is-unowned (λ k. x .no-owned k .1)
-
-  profile-kept : under (es ++ (act o t n ∷ [])) ≡ under es
-  profile-kept = profile-left es (act o t n) (is-unowned (λ k. x .no-owned k .0))
-
   held-kept : ChangesHolder m (act p u m) → holder (es ++ (act o t n ∷ [])) m ≡ holder es m
   held-kept c = holder-left es (act o t n) m (holder-kept o t n m (holder es m) (λ y. x .holders m y c))
 
@@ -136,21 +126,14 @@ module _ {o p : Op} {t u n m : ℕ} (x : Independent (act o t n) (act p u m)) (e
   refused-alike : length (es ++ (act o t n ∷ [])) < records → length es < records →
       OfAct (record { kind = kind p; task = u; on = m }) →
       refusal (es ++ (act o t n ∷ [])) (record { kind = kind p; task = u; on = m }) ≡ refusal es (record { kind = kind p; task = u; on = m })
-  refused-alike room room′ a = same-act p u m (es ++ (act o t n ∷ [])) es room room′ actor-kept named-kept other-unowned profile-kept held-kept a
-
--- neither is an `owned`
-unowned : {e f : Event} → Independent e f → isOwned e ≡ false
-unowned z = of (z .both) z
-  where
-    of : {e f : Event} → TwoActs e f → Independent e f → isOwned e ≡ false
-    of two z = is-unowned (λ k. z .no-owned k .0)
+  refused-alike room room′ a = same-act p u m (es ++ (act o t n ∷ [])) es room room′ actor-kept named-kept (x .other-unowned) (under-kept es (act o t n) (x .unowned)) held-kept a
 
 -- the holder after both
 holder-after : (es : List Event) (e f : Event) (s : ℕ) → isOwned e ≡ false →
     holder ((es ++ (e ∷ [])) ++ (f ∷ [])) s ≡ cond (under es) (nextHolder f s (nextHolder e s (holder es s))) nobody
 holder-after es e f s d =
     holder-snoc (es ++ (e ∷ [])) f s
-    ∙ (ap₂ (λ (b : Bool) (h : Who). cond b (nextHolder f s h) nobody) (profile-left es e d) (holder-snoc es e s) ∙ of (under es))
+    ∙ (ap₂ (λ (b : Bool) (h : Who). cond b (nextHolder f s h) nobody) (under-kept es e d) (holder-snoc es e s) ∙ of (under es))
   where
     of : (b : Bool) → cond b (nextHolder f s (cond b (nextHolder e s (holder es s)) nobody)) nobody ≡ cond b (nextHolder f s (nextHolder e s (holder es s))) nobody
     of true = refl
@@ -166,12 +149,12 @@ standing-swapped es {e} {f} z =
       count = longer (es ++ (e ∷ [])) f ∙ (ap suc (longer es e ∙ sym (longer es f)) ∙ sym (longer (es ++ (f ∷ [])) e));
       profile = of-neither z ∙ sym (of-neither (either-way z));
       holders = λ s.
-          holder-after es e f s (unowned z)
-          ∙ (ap (λ (h : Who). cond (under es) h nobody) (holders-commute (either-way z) s (holder es s)) ∙ sym (holder-after es f e s (unowned (either-way z))));
+          holder-after es e f s (z .unowned)
+          ∙ (ap (λ (h : Who). cond (under es) h nobody) (holders-commute (either-way z) s (holder es s)) ∙ sym (holder-after es f e s (z .other-unowned)));
     }
   where
     of-neither : {e f : Event} → Independent e f → under ((es ++ (e ∷ [])) ++ (f ∷ [])) ≡ under es
-    of-neither {e} {f} z = profile-left (es ++ (e ∷ [])) f (unowned (either-way z)) ∙ profile-left es e (unowned z)
+    of-neither {e} {f} z = under-kept (es ++ (e ∷ [])) f (z .other-unowned) ∙ under-kept es e (z .unowned)
 
 -- marks are never among them
 no-mark-first : {mask : ℕ} {f : Event} → ¬ Independent (lost mask) f

@@ -9,9 +9,9 @@ use mathlib.Core.List.{[], _∷_}
 use Prim.Native.Nat.{ℕ}
 use lib.Dec.{T, eqb}
 use Rattle.theory.specs.declared.record.Record.{Record}
-use Rattle.theory.specs.order.Recording.{Op, take, give, start, join, owned, fresh, miss, _is_, Event, act, acts, Unmarked, no-events, an-act, isAccess, eventOf, Kind, of-op, of-mark, kinds}
+use Rattle.theory.specs.order.Recording.{Op, take, give, start, join, owned, fresh, miss, Event, act, lost, acts, Unmarked, no-events, an-act, isAccess, eventOf, Kind, of-op, of-mark, kinds}
 use Rattle.theory.specs.order.Path.{Step, same-task, gives-takes, sets-looks, starts, joins, rule, Conflict, conflict, Empties, empties}
-use Rattle.theory.specs.acceptance.Owning.{Who, nobody, by, nextHolder}
+use Rattle.theory.specs.acceptance.Owning.{isOwned, Who, nobody, by, nextHolder}
 use Rattle.theory.specs.acceptance.Table.{Phase, nextPhase}
 use Rattle.theory.specs.swapping.Unrelated.{Series, task, semaphore, flag, variable, profile, seriesOf, Names, names, sharing, MayShare, may-share, Premise, two-acts, actors-differ, names-no-actor, names-no-same, no-semaphore, no-flag, no-variable, none-owned, Holds, Unrelated, UnrelatedRecords, OneMisses, first-misses, second-misses, UnrelatedByMiss, MissedRecords}
 use Rattle.theory.proofs.basics.Reflects.{Reflects, right, wrong, by-test, is-true, equal}
@@ -22,7 +22,7 @@ use Rattle.theory.proofs.order.Ops.{all, each-op, Role, a-take, a-give,
 pub data TwoActs : Event → Event → Type 0 where
   two : {o p : Op} {t u n m : ℕ} → TwoActs (act o t n) (act p u m)
 
--- an act after which semaphore s has a holder, or none
+-- a take or a give of semaphore s: who holds it changes by it
 pub data ChangesHolder (s : ℕ) : Event → Type 0 where
   by-take : {t : ℕ} → ChangesHolder s (act take t s)
   by-give : {t : ℕ} → ChangesHolder s (act give t s)
@@ -33,7 +33,8 @@ pub record Independent (e f : Event) : Type 0 where
   pub actor-unnamed : Holds names-no-actor e f
   pub no-task : Holds names-no-same e f
   pub variables : Holds no-variable e f
-  pub no-owned : Holds none-owned e f
+  pub unowned : isOwned e ≡ false
+  pub other-unowned : isOwned f ≡ false
   pub holders : (s : ℕ) → ChangesHolder s e → ¬ ChangesHolder s f
   pub step : ¬ Step e f
   pub step-back : ¬ Step f e
@@ -52,7 +53,8 @@ either-way z =
       actor-unnamed = λ t. (z .actor-unnamed t .1, z .actor-unnamed t .0);
       no-task = λ t a b. z .no-task t b a;
       variables = λ v a b. either-shares (z .variables v b a);
-      no-owned = λ n. (z .no-owned n .1, z .no-owned n .0);
+      unowned = z .other-unowned;
+      other-unowned = z .unowned;
       holders = λ s a b. z .holders s b a;
       step = z .step-back;
       step-back = z .step;
@@ -69,6 +71,15 @@ no-step a n l h gives-takes = h _ by-give by-take
 no-step a n l h sets-looks = l _ (names refl) (names refl)
 no-step a n l h starts = n _ .0 (names refl) acts
 no-step a n l h joins = n _ .1 (names refl) acts
+
+-- a record that names no profile does not begin it
+is-unowned : (e : Event) → ((k : ℕ) → ¬ Names profile k e) → isOwned e ≡ false
+is-unowned (act o t n) d = decided (same-op o owned)
+  where
+    decided : {b : Bool} → Reflects (o ≡ owned) b → b ≡ false
+    decided (right q) = absurd (d n (names (ap seriesOf q)))
+    decided (wrong f) = refl
+is-unowned (lost mask) d = refl
 
 -- from the premises but the one about semaphores
 abbrev other : Premise → Bool
@@ -92,7 +103,8 @@ independent-by {e} {f} met h =
       actor-unnamed = n;
       no-task = met names-no-same tt;
       variables = met no-variable tt;
-      no-owned = met none-owned tt;
+      unowned = is-unowned e (λ k. met none-owned tt k .0);
+      other-unowned = is-unowned f (λ k. met none-owned tt k .1);
       holders = h;
       step = no-step a n l h;
       step-back = no-step (λ t x y. a t y x) (λ t. (n t .1, n t .0)) (λ x y z. l x z y) (λ s x y. h s y x);
@@ -262,11 +274,3 @@ holder-kept = kept holder-change
 
 pub holders-commute : {e f : Event} → Independent e f → (s : ℕ) (h : Who) → nextHolder e s (nextHolder f s h) ≡ nextHolder f s (nextHolder e s h)
 holders-commute z s h = commutes holder-change (z .both) s (z .holders s) h
-
--- an act that does not begin the profile
-pub is-unowned : {o : Op} {t n : ℕ} → ((k : ℕ) → ¬ Names profile k (act o t n)) → (o is owned) ≡ false
-is-unowned {o} {n = n} d = decided (same-op o owned)
-  where
-    decided : {b : Bool} → Reflects (o ≡ owned) b → b ≡ false
-    decided (right q) = absurd (d n (names (ap seriesOf q)))
-    decided (wrong f) = refl
