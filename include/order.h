@@ -31,7 +31,13 @@ extern "C" {
 uint64_t order_report(const uint8_t *text, size_t text_len, uint8_t *report, size_t report_len);
 
 /* The kinds of records, for a host that feeds them one by one, without text. A record has a kind, an acting task and a number: of a
- * variable, a semaphore, a flag or a task. A loss mark has its mask there, and its task is not looked at. */
+ * variable, a semaphore, a flag or a task; 0 for ORDER_OWNED. A loss mark has its mask there, and its task is not looked at.
+ *
+ * ORDER_OWNED as the first accepted record says that the garage has owned semaphores. All are free then; a take makes its task the holder,
+ * and a give frees the semaphore. Refused in such a recording:
+ *   15  a loss mark, so that no access is a Doubt
+ *   16  a take of a semaphore that is held, or a give by a task that does not hold it
+ * ORDER_OWNED once any record has been accepted is refused with 14. */
 #define ORDER_READ 0
 #define ORDER_WRITE 1
 #define ORDER_TAKE 2
@@ -44,6 +50,7 @@ uint64_t order_report(const uint8_t *text, size_t text_len, uint8_t *report, siz
 #define ORDER_FRESH 9 /* a variable is laid out anew: what was done to it before no longer counts */
 #define ORDER_MISS 10 /* a wait for a semaphore that ran out */
 #define ORDER_BUMP 11 /* raises or lowers a variable in one stroke: an access */
+#define ORDER_OWNED 12 /* semaphores are owned from here on: a take needs a free one, a give its holder */
 
 /* An answer is three numbers. The first is one of these. The second is the number of the refusal where the record was refused, and
  * the record number where it was taken. The third is the record number of the partner, for Race and Doubt, and 0 otherwise. */
@@ -54,7 +61,7 @@ uint64_t order_report(const uint8_t *text, size_t text_len, uint8_t *report, siz
 #define ORDER_DOUBT 4
 
 /* How many cells each table of a running state has. */
-#define ORDER_CONTROL_CELLS 1235
+#define ORDER_CONTROL_CELLS 1268
 #define ORDER_HISTORY_CELLS 3072
 #define ORDER_CLOCK_CELLS 1312
 #define ORDER_SET_CELLS 7872

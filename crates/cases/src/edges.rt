@@ -5,6 +5,7 @@ use crate::records::JOIN;
 use crate::records::LOOK;
 use crate::records::LOST;
 use crate::records::NONE;
+use crate::records::OWNED;
 use crate::records::READ;
 use crate::records::SET;
 use crate::records::START;
@@ -20,7 +21,7 @@ fn row(name: &[u8], kind: u8, task: u32, on: u32) {
     once(kind, task, on);
 }
 
-// Rows 1 to 9 but row 5, which full.rt has.
+// The rows up to 9 but row 5, which full.rt has; recordings.rt has those of the profile.
 pub(crate) fn rows() {
     row(b"row 1", NONE, 0, 1);
     once(255, 0, 1);
@@ -62,6 +63,8 @@ pub(crate) fn series() {
     line(b"flags 31 and 32");
     last_and_next(LOOK, 31);
     last_and_next(SET, 31);
+    line(b"profiles 0 and 1");
+    last_and_next(OWNED, 0);
     line(b"tasks 15 and 16");
     last_and_next(START, 15);
     last_and_next(JOIN, 15);

@@ -19,6 +19,7 @@ fn main() {
     recordings::renewed();
     recordings::missed();
     recordings::bumped();
+    recordings::owned();
     recordings::whole();
     recordings::refused();
     edges::rows();

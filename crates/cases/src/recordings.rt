@@ -83,6 +83,20 @@ pub(crate) fn bumped() {
     run(b"bump across a mark", b"0+1 0w5 _?3 1b5");
 }
 
+// Under the profile a take needs a free semaphore and a give its holder, there are no marks, and a join frees nothing.
+pub(crate) fn owned() {
+    run(b"owned hand-over", b"0o0 0+1 0w5 0t4 0g4 1t4 1r5");
+    run(b"owned twice", b"0o0 0o0");
+    run(b"owned late", b"1o0 0o1 0+1 0o0 0t4 1t4");
+    run(b"mark under the profile", b"0o0 0+1 _?2 _?4 _?0");
+    run(
+        b"take of a held semaphore",
+        b"0o0 0+1 0t4 1t4 0t4 1m4 0g4 1t4",
+    );
+    run(b"give without holding", b"0o0 0+1 0g4 0t4 1g4 0g4 0g4");
+    run(b"join of a holder", b"0o0 0+1 1t4 0-1 0t4 0g4");
+}
+
 // Refused records between accepted ones.
 pub(crate) fn refused() {
     run_clocks(

@@ -25,8 +25,10 @@ pub(crate) const MISS: u8 = 10;
 
 pub(crate) const BUMP: u8 = 11;
 
+pub(crate) const OWNED: u8 = 12;
+
 // The first number of no kind.
-pub(crate) const NONE: u8 = 12;
+pub(crate) const NONE: u8 = 13;
 
 pub(crate) fn record(kind: u8, task: u32, on: u32) -> Record {
     Record { kind, task, on }

@@ -7,6 +7,7 @@ use crate::records::LOOK;
 use crate::records::LOST;
 use crate::records::MISS;
 use crate::records::NONE;
+use crate::records::OWNED;
 use crate::records::READ;
 use crate::records::SET;
 use crate::records::START;
@@ -30,6 +31,7 @@ fn kind_of(sign: u8) -> u8 {
         b'f' => FRESH,
         b'm' => MISS,
         b'b' => BUMP,
+        b'o' => OWNED,
         _ => NONE,
     }
 }

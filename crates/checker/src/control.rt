@@ -1,21 +1,34 @@
-// The control table: each task's phase, then the count of accepted records. crates/theory/specs/acceptance/Control.antt says the same of the table as a list.
+// The control table: each task's phase, the count of accepted records, the profile and each semaphore's holder. crates/theory/specs/acceptance/Control.antt says the same of the table as a list.
 use theory::COUNT;
 use theory::Control;
+use theory::GIVE;
+use theory::HOLDERS;
 use theory::JOIN;
+use theory::OWNED;
+use theory::PROFILE;
 use theory::START;
+use theory::Semaphore;
+use theory::TAKE;
 use theory::Task;
 ghost use mathlib.Core.Path.{_≡_};
+ghost use mathlib.Core.Logic.{_≢_};
 ghost use Prim.Native.Nat.{_<_};
 ghost use lib.ListN.{set};
-ghost use Rattle.theory.specs.order.Limits.{tasks, records};
-ghost use Rattle.theory.specs.acceptance.Table.{NamesTask};
-ghost use Rattle.theory.specs.acceptance.Control.{liveIn, unseenIn, countIn, counted, controlAfter};
+ghost use Rattle.theory.specs.order.Limits.{tasks, semaphores, records};
+ghost use Rattle.theory.specs.acceptance.Table.{Proper};
+ghost use Rattle.theory.specs.acceptance.Control.{liveIn, unseenIn, countAt, countIn, underIn, heldIn, holdsIn, acceptanceCells, counted, withHolder, controlAfter};
 
 const UNSEEN: u32 = 0;
 
 pub(crate) const LIVE: u32 = 1;
 
 const ENDED: u32 = 2;
+
+// Under the profile.
+const UNDER: u32 = 1;
+
+// No holder. A task that holds a semaphore stands there as its number and one more.
+const FREE: u32 = 0;
 
 pub(crate) fn is_live(control: &Control, t: Task) -> bool
     requires { ⌜ t .0 < tasks ⌝ }
@@ -31,6 +44,29 @@ pub(crate) fn is_unseen(control: &Control, t: Task) -> bool
     control[t.0 as usize] == UNSEEN
 }
 
+// The recording is under the profile of owned semaphores.
+pub(crate) fn is_under(control: &Control) -> bool
+    ensures { λ r. ⌜ r ≡ underIn (now (control .entry)) ⌝ }
+{
+    control[PROFILE] == UNDER
+}
+
+// A semaphore has a holder.
+pub(crate) fn is_held(control: &Control, s: Semaphore) -> bool
+    requires { ⌜ s .0 < semaphores ⌝ }
+    ensures { λ r. ⌜ r ≡ heldIn (now (control .entry)) (s .0) ⌝ }
+{
+    FREE < control[HOLDERS + s.0 as usize]
+}
+
+// The task is its holder.
+pub(crate) fn holds(control: &Control, s: Semaphore, t: Task) -> bool
+    requires { ⌜ (s .0 < semaphores) × (t .0 < tasks) ⌝ }
+    ensures { λ r. ⌜ r ≡ holdsIn (now (control .entry)) (s .0) (t .0) ⌝ }
+{
+    control[HOLDERS + s.0 as usize] == t.0 + 1
+}
+
 // One more accepted record. The bound keeps the sum within its type.
 fn count(control: &mut Control)
     requires { ⌜ countIn (now control) < records ⌝ }
@@ -39,23 +75,38 @@ fn count(control: &mut Control)
     control[COUNT] = control[COUNT] + 1;
 }
 
-// One more accepted record, by which a task comes to a phase.
-fn enter(control: &mut Control, t: Task, phase: u32)
-    requires { ⌜ (t .0 < tasks) × (countIn (now control) < records) ⌝ }
-    ensures { λ _. ⌜ now (control .exit) ≡ counted (set (now (control .entry)) (t .0) phase) ⌝ }
+// One more accepted record, by which a cell gets a value: a phase, a holder, or the profile.
+fn enter(control: &mut Control, i: usize, value: u32)
+    requires { ⌜ (i < acceptanceCells) × (i ≢ countAt) × (countIn (now control) < records) ⌝ }
+    ensures { λ _. ⌜ now (control .exit) ≡ counted (set (now (control .entry)) i value) ⌝ }
 {
-    control[t.0 as usize] = phase;
+    control[i] = value;
+    count(control);
+}
+
+// One more accepted record, by which a semaphore gets a holder, or none. Holders are kept under the profile alone.
+fn hand_over(control: &mut Control, s: Semaphore, who: u32)
+    requires { ⌜ (s .0 < semaphores) × (countIn (now control) < records) ⌝ }
+    ensures { λ _. ⌜ now (control .exit) ≡ counted (withHolder (s .0) who (now (control .entry))) ⌝ }
+{
+    if is_under(control) {
+        enter(control, HOLDERS + s.0 as usize, who);
+        return;
+    }
     count(control);
 }
 
 // Notes an accepted record. Each arm returns by itself, so that the proof has one table at each return and no join of arms.
-pub(crate) fn note(control: &mut Control, kind: u8, on: u32)
-    requires { ⌜ NamesTask kind on × (countIn (now control) < records) ⌝ }
-    ensures { λ _. ⌜ now (control .exit) ≡ controlAfter kind on (now (control .entry)) ⌝ }
+pub(crate) fn note(control: &mut Control, kind: u8, task: u32, on: u32)
+    requires { ⌜ Proper kind task on × (countIn (now control) < records) ⌝ }
+    ensures { λ _. ⌜ now (control .exit) ≡ controlAfter kind task on (now (control .entry)) ⌝ }
 {
     match kind {
-        START => enter(control, Task(on), LIVE),
-        JOIN => enter(control, Task(on), ENDED),
+        START => enter(control, on as usize, LIVE),
+        JOIN => enter(control, on as usize, ENDED),
+        TAKE => hand_over(control, Semaphore(on), task + 1),
+        GIVE => hand_over(control, Semaphore(on), FREE),
+        OWNED => enter(control, PROFILE, UNDER),
         _ => count(control),
     }
 }

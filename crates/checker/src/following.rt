@@ -64,7 +64,7 @@ pub(crate) fn follow(
                 walk: kept,
             };
         }
-        note(control, r.kind, r.on);
+        note(control, r.kind, r.task, r.on);
         kept = follow_record(nodes, counts, kept, q, r);
         i += 1;
     }

@@ -1,7 +1,10 @@
 // Which records are refused, and by which row of the refusal table. crates/theory/specs/acceptance/Table.antt has the rows, and each test here is one of them.
 use crate::bools::both;
 use crate::bools::either;
+use crate::control::holds;
+use crate::control::is_held;
 use crate::control::is_live;
+use crate::control::is_under;
 use crate::control::is_unseen;
 use crate::masks::MASKS;
 use crate::rows::has_bit;
@@ -17,23 +20,26 @@ use theory::LAST_VARIABLE;
 use theory::LOOK;
 use theory::LOST;
 use theory::MISS;
+use theory::OWNED;
+use theory::PROFILES;
 use theory::RECORDS;
 use theory::Record;
 use theory::SET;
 use theory::START;
+use theory::Semaphore;
 use theory::TAKE;
 use theory::TASKS;
 use theory::Task;
 ghost use mathlib.Core.Path.{_≡_};
 ghost use mathlib.Core.Bool.{cond, not, _&&_, _||_};
 ghost use Prim.Native.Nat.{_<_, _^_};
-ghost use lib.Dec.{leb, eqb};
-ghost use Rattle.theory.specs.order.Limits.{tasks, semaphores, flags, variables, records};
+ghost use lib.Dec.{leb, ltb, eqb};
+ghost use Rattle.theory.specs.order.Limits.{tasks, semaphores, flags, variables, profiles, records};
 ghost use Rattle.theory.specs.order.Recording.{lossMark, kindSeries};
 ghost use Rattle.theory.proofs.acceptance.Rows.{OfAct};
 ghost use Rattle.theory.specs.fillings.Completion.{names};
 ghost use Rattle.theory.specs.acceptance.Table.{anyBelow};
-ghost use Rattle.theory.specs.acceptance.Control.{liveIn, unseenIn, countIn, controlRefusal};
+ghost use Rattle.theory.specs.acceptance.Control.{liveIn, unseenIn, countIn, underIn, heldIn, holdsIn, controlRefusal};
 
 // The last number of a kind, and the last mask.
 const LAST_KIND: u8 = KINDS - 1;
@@ -77,6 +83,12 @@ fn no_variable(on: u32) -> bool
     }
 }
 
+fn no_profile(on: u32) -> bool
+    ensures { λ r. ⌜ r ≡ leb profiles on ⌝ }
+{
+    PROFILES <= on
+}
+
 // Row 3: the number is none of the kind's series.
 fn outside(kind: u8, on: u32) -> bool
     ensures { λ r. ⌜ r ≡ leb (kindSeries kind) on ⌝ }
@@ -89,6 +101,7 @@ fn outside(kind: u8, on: u32) -> bool
         SET => no_flag(on),
         START => no_task(on),
         JOIN => no_task(on),
+        OWNED => no_profile(on),
         _ => no_variable(on),
     }
 }
@@ -121,6 +134,38 @@ fn join_refusal(control: &Control, task: Task, named: Task) -> u32
     }
     if !is_live(control, named) {
         return 9;
+    }
+    0
+}
+
+// Row 14, for `owned`: a record has been accepted already.
+fn owned_refusal(control: &Control) -> u32
+    ensures { λ n. ⌜ n ≡ cond (ltb 0 (countIn (now (control .entry)))) 14 0 ⌝ }
+{
+    if 0 < control[COUNT] {
+        return 14;
+    }
+    0
+}
+
+// Row 16, for a take: under the profile the semaphore is held.
+fn take_refusal(control: &Control, s: Semaphore) -> u32
+    requires { ⌜ s .0 < semaphores ⌝ }
+    ensures { λ n. let c = now (control .entry) in ⌜ n ≡ cond (underIn c && heldIn c (s .0)) 16 0 ⌝ }
+{
+    if both(is_under(control), is_held(control, s)) {
+        return 16;
+    }
+    0
+}
+
+// Row 16, for a give: under the profile the task does not hold the semaphore.
+fn give_refusal(control: &Control, s: Semaphore, task: Task) -> u32
+    requires { ⌜ (s .0 < semaphores) × (task .0 < tasks) ⌝ }
+    ensures { λ n. let c = now (control .entry) in ⌜ n ≡ cond (underIn c && not (holdsIn c (s .0) (task .0))) 16 0 ⌝ }
+{
+    if both(is_under(control), !holds(control, s, task)) {
+        return 16;
     }
     0
 }
@@ -170,6 +215,9 @@ fn mark_refusal(control: &Control, r: Record) -> u32
     if names_any_dead(control, r.on) {
         return 9;
     }
+    if is_under(control) {
+        return 15;
+    }
     0
 }
 
@@ -195,11 +243,14 @@ fn act_refusal(control: &Control, r: Record) -> u32
     match kind {
         START => start_refusal(control, Task(r.on)),
         JOIN => join_refusal(control, task, Task(r.on)),
+        TAKE => take_refusal(control, Semaphore(r.on)),
+        GIVE => give_refusal(control, Semaphore(r.on), task),
+        OWNED => owned_refusal(control),
         _ => 0,
     }
 }
 
-// The number of the first of rows 1 to 9 that applies to the record; 0 where none does.
+// The number of the first row that applies to the record; 0 where none does.
 pub fn refusal(control: &Control, r: Record) -> u32
     ensures { λ n. ⌜ n ≡ controlRefusal (now (control .entry)) r ⌝ }
 {

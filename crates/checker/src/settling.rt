@@ -67,11 +67,11 @@ fn fill_by(cells: &mut Clocks, home: u32, r: Record, number: RecordNumber)
 fn take_in(control: &mut Control, last: &mut History, cells: &mut Clocks, home: u32, r: Record)
     requires { ⌜ Proper (r .kind) (r .task) (r .on) × (countIn (now control) < records) ⌝ }
     ensures { λ _. let c = seen control in let l = seen last in let s = seen cells in
-        ⌜ (c .exit ≡ controlAfter (r .kind) (r .on) (c .entry))
+        ⌜ (c .exit ≡ controlAfter (r .kind) (r .task) (r .on) (c .entry))
         × (sideOf (l .exit) (s .exit) ≡ sideAfter home (c .entry) r (sideOf (l .entry) (s .entry))) ⌝ }
 {
     let number = RecordNumber(control[COUNT] + 1);
-    note(control, r.kind, r.on);
+    note(control, r.kind, r.task, r.on);
     keep_record(last, r.kind, Task(r.task), r.on, number);
     fill_by(cells, home, r, number);
 }

@@ -40,7 +40,7 @@ pub fn step_in_place(
     }
     let kind = r.kind;
     let number = RecordNumber(control[COUNT] + 1);
-    note(control, kind, r.on);
+    note(control, kind, r.task, r.on);
     match kind {
         LOST => {
             clocks::mix(fullclocks, r.on);
@@ -75,7 +75,7 @@ pub fn set_step_in_place(
     }
     let kind = r.kind;
     let number = RecordNumber(control[COUNT] + 1);
-    note(control, kind, r.on);
+    note(control, kind, r.task, r.on);
     match kind {
         LOST => {
             sets::mix(fullsets, r.on);

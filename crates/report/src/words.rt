@@ -30,6 +30,7 @@ const OPENINGS: [[u8; 8]; KINDS as usize] = [
     *b"op=fresh",
     *b"op=miss ",
     *b"op=bump ",
+    *b"op=owned",
 ];
 
 // The part starts with the word.

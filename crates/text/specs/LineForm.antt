@@ -52,6 +52,7 @@ words =
     ∷ bytes "fresh"
     ∷ bytes "miss"
     ∷ bytes "bump"
+    ∷ bytes "owned"
     ∷ []
 
 abbrev pub opName : List ℕ

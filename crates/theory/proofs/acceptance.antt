@@ -1,4 +1,7 @@
 -- The rows of the table, what an accepted record may be relied on for, and the control table
 pub mod Rows
 pub mod Accepted
+pub mod Updated
+pub mod Owning
 pub mod ControlTable
+pub mod Examples

@@ -4,6 +4,7 @@ pub mod Acceptance
 pub mod Candidates
 pub mod Says
 pub mod Verdicts
+pub mod Stays
 pub mod Totals
 pub mod Beside
 pub mod Examples

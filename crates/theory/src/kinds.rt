@@ -23,8 +23,10 @@ pub const MISS: u8 = 10;
 
 pub const BUMP: u8 = 11;
 
+pub const OWNED: u8 = 12;
+
 // How many of the kinds are accesses: each asks the history.
 pub const ASKERS: usize = 3;
 
 // How many kinds there are.
-pub const KINDS: u8 = BUMP + 1;
+pub const KINDS: u8 = OWNED + 1;

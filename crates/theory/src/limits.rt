@@ -7,6 +7,9 @@ pub const FLAGS: u32 = 32;
 
 pub const VARIABLES: u32 = 64;
 
+// The profiles that a recording can be put under.
+pub const PROFILES: u32 = 1;
+
 pub const RECORDS: u32 = 4_000_000;
 
 // So many entries of accepted faults are taken in.

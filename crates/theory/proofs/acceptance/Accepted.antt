@@ -1,20 +1,21 @@
 -- What a step may count on once no row applies, and what its definition comes to in either case. Assumes nothing.
-use mathlib.Core.Path.{_≡_, refl, sym, _∙_, ap, subst}
+use mathlib.Core.Path.{_≡_, refl, sym, _∙_, subst}
 use mathlib.Core.List.{List}
 use Prim.Native.Nat.{ℕ, zero, suc, _<_}
-use native.Mathlib.Omega.{arith}
 use Rattle.theory.specs.declared.record.Record.{Record}
 use Rattle.theory.specs.declared.answer.Answer.the-variants.{Refused}
 use Rattle.theory.specs.declared.state.SetState.{SetState}
 use Rattle.theory.specs.declared.state.State.{State}
-use Rattle.theory.specs.order.Limits.{tasks, records}
-use Rattle.theory.specs.order.Recording.{Op, start, join, kind, lossMark, kindSeries}
-use Rattle.theory.specs.acceptance.Table.{Proper, NamesTask}
+use Rattle.theory.specs.order.Limits.{records}
+use Rattle.theory.specs.order.Recording.{Op, kind, lossMark}
+use Rattle.theory.specs.acceptance.Table.{Proper, Fitting}
 use Rattle.theory.specs.acceptance.Control.{countIn, controlStanding, controlRefusal}
 use Rattle.theory.specs.declared.masks.Masks.{Masks}
 use Rattle.theory.specs.tables.Reckonings.{masksBy}
 use Rattle.theory.specs.feeding.Step.{masksUnless, setStepUnless, stepUnless}
+use borrow.Author.Tests.{eqb-false}
 use Rattle.theory.proofs.acceptance.Rows.{allowed}
+use Rattle.theory.proofs.order.Ops.{no-mark}
 
 -- an accepted record is proper, and there is room for it
 pub record Accepts (control : List ℕ) (r : Record) : Type 0 where
@@ -26,12 +27,9 @@ accepts control r n e z =
     let p = allowed (controlStanding control) r (sym e ∙ z) in
     record { room = p .room; proper = record { act-fits = λ q. p .act q .fits; mark-names = λ q. p .mark q .some } }
 
--- a proper start or join names a task
-pub names-task : {k task on : ℕ} → Proper k task on → NamesTask k on
-names-task {k} {task} {on} p = record { started = λ q. of start refl (λ w. omega arith) q; joined = λ q. of join refl (λ w. omega arith) q }
-  where
-    of : (o : Op) → kindSeries (kind o) ≡ tasks → (k ≡ lossMark → ⊥) → k ≡ kind o → on < tasks
-    of o e n q = subst (λ (i : ℕ). on < i) (ap kindSeries q ∙ e) (p .act-fits n .on-fits)
+-- the numbers of a proper record of an op are in their ranges
+pub fits-of : {k task on : ℕ} → Proper k task on → (o : Op) → k ≡ kind o → Fitting (kind o) task on
+fits-of {k} {task} {on} p o q = subst (λ (i : ℕ). Fitting i task on) q (p .act-fits (λ w. eqb-false (kind o) lossMark (no-mark o) (sym q ∙ w)))
 
 -- a refused record leaves the state as it was
 

@@ -1,34 +1,47 @@
--- The control table is exact: it holds the phases and the count of the recording so far, so that it refuses what the recording refuses.
+-- The control table is exact: it holds the phases, the count, the profile and the holders of the recording so far, so that it refuses what the
+-- recording refuses.
 -- Assumes nothing.
 use mathlib.Core.Path.{_≡_, refl, sym, _∙_, ap, ap₂}
 use mathlib.Core.Bool.{Bool, true, false, cond, not, _&&_, _||_}
+use mathlib.Core.Logic.{_≢_}
 use mathlib.Core.List.{List, [], _∷_, _++_}
 use Prim.Native.Nat.{ℕ, zero, suc, _+_, _-_, _≤_, _<_}
 use native.Mathlib.Omega.{arith}
-use lib.Dec.{eqb, eqb·suc-zero}
-use lib.ListN.{length, getD, set, drop, length-append, length-set, getD-replicate}
+use lib.Dec.{eqb, ltb, eqb·suc-zero}
+use lib.ListN.{length, getD, set, drop, replicate, length-append, length-set, getD-replicate}
 use lib.Seq.{getD-set-same, getD-set-other}
-use borrow.Author.Tests.{le-leb}
+use borrow.Author.Tests.{le-leb, lt-ltb, ne-eqb}
 use Rattle.theory.specs.declared.record.Record.{Record}
-use Rattle.theory.specs.order.Limits.{tasks}
+use Rattle.theory.specs.order.Limits.{tasks, semaphores}
 use Rattle.theory.specs.tables.Turns.{turns}
 use Rattle.theory.specs.order.Recording.{Op, Event, act, lost, kind, kinds, lossMark, kindSeries}
 use Rattle.theory.specs.fillings.Completion.{names}
 use Rattle.theory.specs.acceptance.Table.{Phase, isLive, isUnseen, nextPhase, laterPhase, phase, Fitting, hasKind, anyBelow, Standing, _when_, firstRow, standingRefusal, standing, refusal}
-use Rattle.theory.specs.acceptance.Control.{liveIn, unseenIn, countIn, controlStanding, controlRefusal, counted, controlAfter}
+use Rattle.theory.specs.acceptance.Owning.{isOwned, under, Who, nobody, by, isSomebody, isBy, nextHolder, holder}
+use Rattle.theory.specs.acceptance.Control.{liveIn, unseenIn, countIn, profileAt, underIn, holderAt, acceptanceCells, heldIn, holdsIn, controlStanding, controlRefusal, counted, withHolder, controlAfter}
 use Rattle.theory.specs.totals.Totals.{controlCells}
 use Rattle.theory.specs.feeding.Step.{freshControl}
 use Rattle.theory.proofs.basics.Reflects.{Reflects, right, wrong, equal, at-most}
 use Rattle.theory.proofs.acceptance.Rows.{OfAct, actRows, markRows, act-rows, mark-rows}
-use Rattle.theory.proofs.order.Ops.{Role, a-take, a-give, a-look, a-set, a-start, a-join, plain, role, keeps-phases}
+use Rattle.theory.proofs.order.Ops.{Role, a-take, a-give, a-look, a-set, a-start, a-join, plain, role, keeps-phases, same-op, is-not}
+use Rattle.theory.proofs.order.Numbered.{or-true}
+use Rattle.theory.proofs.acceptance.Updated.{Rewritten, as-before, and-set, rewritten-length, rewritten-count}
+use Rattle.theory.proofs.acceptance.Owning.{under-snoc, under-kept, holder-snoc, holder-left, none-held}
 
 -- Definition
+
+-- a task as the table has it
+abbrev pub whoNumber : Who → ℕ
+whoNumber nobody = 0
+whoNumber (by t) = t + 1
 
 pub record ExactControl (es : List Event) (control : List ℕ) : Type 0 where
   pub size : length control ≡ controlCells
   pub count : countIn control ≡ length es
   pub live : (t : ℕ) → t < tasks → liveIn control t ≡ isLive (phase es t)
   pub unseen : (t : ℕ) → t < tasks → unseenIn control t ≡ isUnseen (phase es t)
+  pub profile : underIn control ≡ under es
+  pub holders : (s : ℕ) → s < semaphores → getD control (holderAt s) 0 ≡ whoNumber (holder es s)
 
 -- The fresh table
 
@@ -41,7 +54,31 @@ fresh-unseen zero h = refl
 fresh-unseen (suc t) h = rw (getD-replicate {A = ℕ} (controlCells - 1) t 0 0 (omega arith), eqb·suc-zero t)
 
 pub fresh-control : ExactControl [] freshControl
-fresh-control = record { size = refl; count = refl; live = fresh-live; unseen = fresh-unseen }
+fresh-control =
+    record {
+      size = refl;
+      count = refl;
+      live = fresh-live;
+      unseen = fresh-unseen;
+      profile = refl;
+      holders = λ s h. getD-set-other (replicate controlCells 0) 0 (holderAt s) 1 0 (λ q. omega arith) ∙ getD-replicate {A = ℕ} controlCells (holderAt s) 0 0 (omega arith);
+    }
+
+-- Acceptance does not look at what lies after its own cells
+
+pub exact-elsewhere : {es : List Event} {control : List ℕ} → ExactControl es control → (i v : ℕ) → acceptanceCells ≤ i → ExactControl es (set control i v)
+exact-elsewhere {es} {control} x i v h =
+    record {
+      size = length-set control i v ∙ x .size;
+      count = other tasks (omega arith) ∙ x .count;
+      live = λ t l. ap (λ (n : ℕ). eqb n 1) (other t (omega arith)) ∙ x .live t l;
+      unseen = λ t l. ap (λ (n : ℕ). eqb n 0) (other t (omega arith)) ∙ x .unseen t l;
+      profile = ap (λ (n : ℕ). eqb n 1) (other profileAt (omega arith)) ∙ x .profile;
+      holders = λ s l. other (holderAt s) (omega arith) ∙ x .holders s l;
+    }
+  where
+    other : (j : ℕ) → j < acceptanceCells → getD (set control i v) j 0 ≡ getD control j 0
+    other j l = getD-set-other control i j v 0 (λ q. omega arith)
 
 -- One more event
 
@@ -49,7 +86,7 @@ pub phase-snoc : (p : Phase) (es : List Event) (e : Event) (t : ℕ) → laterPh
 phase-snoc p [] e t = refl
 phase-snoc p (d ∷ es) e t = phase-snoc (nextPhase d t p) es e t
 
-cond-same : (b : Bool) (p : Phase) → cond b p p ≡ p
+cond-same : {A : Type 0} (b : Bool) (p : A) → cond b p p ≡ p
 cond-same true p = refl
 cond-same false p = refl
 
@@ -62,36 +99,54 @@ module _ {es : List Event} {control : List ℕ} (x : ExactControl es control) wh
   held : (t : ℕ) → t < tasks → Holds control t (phase es t)
   held t h = record { live = x .live t h; unseen = x .unseen t h }
 
-  -- the event is counted in a table that holds the phases after it
-  noted : (e : Event) (after : List ℕ) → length after ≡ length control → countIn after ≡ countIn control →
-      ((t : ℕ) → t < tasks → Holds after t (nextPhase e t (phase es t))) → ExactControl (es ++ (e ∷ [])) (counted after)
-  noted e after s c h =
+  -- the event is counted in a table that holds all else as it is after it
+  counted-in : (e : Event) (after : List ℕ) → Rewritten control after → ((t : ℕ) → t < tasks → Holds after t (nextPhase e t (phase es t))) →
+      underIn after ≡ under (es ++ (e ∷ [])) → ((s : ℕ) → s < semaphores → getD after (holderAt s) 0 ≡ whoNumber (holder (es ++ (e ∷ [])) s)) →
+      ExactControl (es ++ (e ∷ [])) (counted after)
+  counted-in e after w h p y =
       record {
-        size = length-set after tasks (countIn after + 1) ∙ (s ∙ x .size);
-        count = getD-set-same after tasks (countIn after + 1) 0 (omega (arith, x .size)) ∙ one-more;
-        live = λ t l. rw (other t l, phase-snoc (cond (eqb t 0) Phase.live Phase.unseen) es e t) (h t l .live);
-        unseen = λ t l. rw (other t l, phase-snoc (cond (eqb t 0) Phase.live Phase.unseen) es e t) (h t l .unseen);
+        size = length-set after tasks (countIn after + 1) ∙ (rewritten-length w ∙ x .size);
+        count = getD-set-same after tasks (countIn after + 1) 0 (omega (arith, x .size, rewritten-length w)) ∙ one-more;
+        live = λ t l. rw (other t (λ q. omega arith), phase-snoc (cond (eqb t 0) Phase.live Phase.unseen) es e t) (h t l .live);
+        unseen = λ t l. rw (other t (λ q. omega arith), phase-snoc (cond (eqb t 0) Phase.live Phase.unseen) es e t) (h t l .unseen);
+        profile = rw (other profileAt (λ q. omega arith)) p;
+        holders = λ s l. other (holderAt s) (λ q. omega arith) ∙ y s l;
       }
     where
       one-more : countIn after + 1 ≡ length (es ++ (e ∷ []))
-      one-more = rw (c, x .count, length-append es (e ∷ []))
+      one-more = rw (rewritten-count w, x .count, length-append es (e ∷ []))
 
-      other : (t : ℕ) → t < tasks → getD (set after tasks (countIn after + 1)) t 0 ≡ getD after t 0
-      other t l = getD-set-other after tasks t (countIn after + 1) 0 (λ q. omega arith)
+      other : (i : ℕ) → i ≢ tasks → getD (set after tasks (countIn after + 1)) i 0 ≡ getD after i 0
+      other i n = getD-set-other after tasks i (countIn after + 1) 0 n
 
-  -- an event that changes no phase
-  same-phases : (e : Event) → ((t : ℕ) (p : Phase) → nextPhase e t p ≡ p) → ExactControl (es ++ (e ∷ [])) (counted control)
-  same-phases e k = noted e control refl refl (λ t h. rw (k t (phase es t)) (held t h))
+  -- an event that changes no holder, if it begins the profile or not
+  same-holders : (e : Event) → ((s : ℕ) (h : Who) → nextHolder e s h ≡ h) → (s : ℕ) → s < semaphores →
+      getD control (holderAt s) 0 ≡ whoNumber (holder (es ++ (e ∷ [])) s)
+  same-holders e k s l = x .holders s l ∙ ap whoNumber (sym (holder-left es e s (k s (holder es s))))
+
+  same-profile : (e : Event) → isOwned e ≡ false → underIn control ≡ under (es ++ (e ∷ []))
+  same-profile e q = x .profile ∙ sym (under-kept es e q)
+
+  -- an event that changes nothing here
+  unchanged : (e : Event) → ((t : ℕ) (p : Phase) → nextPhase e t p ≡ p) → isOwned e ≡ false → ((s : ℕ) (h : Who) → nextHolder e s h ≡ h) →
+      ExactControl (es ++ (e ∷ [])) (counted control)
+  unchanged e k q h = counted-in e control as-before (λ t l. rw (k t (phase es t)) (held t l)) (same-profile e q) (same-holders e h)
 
   -- an event after which task n is in phase q, which the table has as v
   new-phase : (e : Event) (n v : ℕ) (q : Phase) → n < tasks → eqb v 1 ≡ isLive q → eqb v 0 ≡ isUnseen q →
-      ((t : ℕ) (p : Phase) → nextPhase e t p ≡ cond (eqb n t) q p) → ExactControl (es ++ (e ∷ [])) (counted (set control n v))
-  new-phase e n v q fits l u k =
-      noted e (set control n v) (length-set control n v) (getD-set-other control n tasks v 0 (λ w. omega arith))
+      ((t : ℕ) (p : Phase) → nextPhase e t p ≡ cond (eqb n t) q p) → isOwned e ≡ false → ((s : ℕ) (h : Who) → nextHolder e s h ≡ h) →
+      ExactControl (es ++ (e ∷ [])) (counted (set control n v))
+  new-phase e n v q fits l u k o h =
+      counted-in e (set control n v) (and-set as-before n v (omega arith) (λ w. omega arith))
       (λ t h. rw (k t (phase es t)) (decided t h (equal n t)))
+      (rw (other profileAt (omega arith)) (same-profile e o))
+      (λ s l. other (holderAt s) (omega arith) ∙ same-holders e h s l)
     where
       same : getD (set control n v) n 0 ≡ v
       same = getD-set-same control n v 0 (omega (arith, x .size))
+
+      other : (i : ℕ) → tasks ≤ i → getD (set control n v) i 0 ≡ getD control i 0
+      other i l = getD-set-other control n i v 0 (λ w. omega arith)
 
       decided : (t : ℕ) → t < tasks → {b : Bool} → Reflects (n ≡ t) b → Holds (set control n v) t (cond b q (phase es t))
       decided t h (right w) = rw (← w) (record { live = rw same l; unseen = rw same u })
@@ -99,22 +154,76 @@ module _ {es : List Event} {control : List ℕ} (x : ExactControl es control) wh
           let o = getD-set-other control n t v 0 (λ w. d (sym w)) in
           record { live = rw o (x .live t h); unseen = rw o (x .unseen t h) }
 
-  pub control-act : (o : Op) {t n : ℕ} → Fitting (kind o) t n → ExactControl (es ++ (act o t n ∷ [])) (controlAfter (kind o) n control)
+  -- an event after which, under the profile, semaphore n is w's
+  new-holder : (e : Event) (n : ℕ) (w : Who) → n < semaphores → ((t : ℕ) (p : Phase) → nextPhase e t p ≡ p) → isOwned e ≡ false →
+      ((s : ℕ) (h : Who) → nextHolder e s h ≡ cond (eqb n s) w h) → ExactControl (es ++ (e ∷ [])) (counted (withHolder n (whoNumber w) control))
+  new-holder e n w fits k q h = decided (underIn control) refl
+    where
+      phases : (t : ℕ) → t < tasks → Holds control t (nextPhase e t (phase es t))
+      phases t l = rw (k t (phase es t)) (held t l)
+
+      cells : List ℕ
+      cells = set control (holderAt n) (whoNumber w)
+
+      other : (i : ℕ) → i ≢ holderAt n → getD cells i 0 ≡ getD control i 0
+      other i d = getD-set-other control (holderAt n) i (whoNumber w) 0 d
+
+      own : underIn control ≡ true → (s : ℕ) → s < semaphores → {b : Bool} → Reflects (n ≡ s) b → getD cells (holderAt s) 0 ≡ whoNumber (cond b w (holder es s))
+      own z s l (right v) = rw (← v) (getD-set-same control (holderAt n) (whoNumber w) 0 (omega (arith, x .size)))
+      own z s l (wrong d) = other (holderAt s) (λ v. d (omega arith)) ∙ x .holders s l
+
+      now-held : underIn control ≡ true → (s : ℕ) → holder (es ++ (e ∷ [])) s ≡ cond (eqb n s) w (holder es s)
+      now-held z s = rw (holder-snoc es e s, sym (x .profile) ∙ z) (h s (holder es s))
+
+      none-yet : underIn control ≡ false → (s : ℕ) → holder (es ++ (e ∷ [])) s ≡ nobody
+      none-yet z s = rw (holder-snoc es e s, sym (x .profile) ∙ z)
+
+      decided : (b : Bool) → underIn control ≡ b → ExactControl (es ++ (e ∷ [])) (counted (cond b cells control))
+      decided true z =
+          counted-in e cells (and-set as-before (holderAt n) (whoNumber w) (omega arith) (λ v. omega arith))
+          (λ t l. let o = other t (λ v. omega arith) in let p = phases t l in record { live = rw o (p .live); unseen = rw o (p .unseen) })
+          (rw (other profileAt (λ v. omega arith)) (same-profile e q))
+          (λ s l. own z s l (equal n s) ∙ ap whoNumber (sym (now-held z s)))
+      decided false z =
+          counted-in e control as-before phases (same-profile e q)
+          (λ s l. x .holders s l ∙ ap whoNumber (none-held es s (sym (x .profile) ∙ z) ∙ sym (none-yet z s)))
+
+  -- the event that begins the profile
+  new-profile : (e : Event) → ((t : ℕ) (p : Phase) → nextPhase e t p ≡ p) → isOwned e ≡ true → ((s : ℕ) (h : Who) → nextHolder e s h ≡ h) →
+      ExactControl (es ++ (e ∷ [])) (counted (set control profileAt 1))
+  new-profile e k q h =
+      counted-in e (set control profileAt 1) (and-set as-before profileAt 1 (omega arith) (λ v. omega arith))
+      (λ t l. rw (k t (phase es t)) (let o = other t (λ v. omega arith) in let p = held t l in record { live = rw o (p .live); unseen = rw o (p .unseen) }))
+      (rw (getD-set-same control profileAt 1 0 (omega (arith, x .size)), under-snoc es e, q, or-true (under es)))
+      (λ s l. other (holderAt s) (λ v. omega arith) ∙ same-holders e h s l)
+    where
+      other : (i : ℕ) → i ≢ profileAt → getD (set control profileAt 1) i 0 ≡ getD control i 0
+      other i d = getD-set-other control profileAt i 1 0 d
+
+  pub control-act : (o : Op) {t n : ℕ} → Fitting (kind o) t n → ExactControl (es ++ (act o t n ∷ [])) (controlAfter (kind o) t n control)
   control-act o {t} {n} f = by-role (role o) f
     where
-      by-role : {o : Op} → Role o → Fitting (kind o) t n → ExactControl (es ++ (act o t n ∷ [])) (controlAfter (kind o) n control)
-      by-role a-take f = same-phases (act Op.take t n) (λ u p. cond-same (eqb n u) p)
-      by-role a-give f = same-phases (act Op.give t n) (λ u p. cond-same (eqb n u) p)
-      by-role a-look f = same-phases (act Op.look t n) (λ u p. cond-same (eqb n u) p)
-      by-role a-set f = same-phases (act Op.set t n) (λ u p. cond-same (eqb n u) p)
-      by-role a-start f = new-phase (act Op.start t n) n 1 Phase.live (f .on-fits) refl refl (λ u p. refl)
-      by-role a-join f = new-phase (act Op.join t n) n 2 Phase.ended (f .on-fits) refl refl (λ u p. refl)
-      by-role {o} (plain x) f =
-          rw (x .not-start, x .not-join)
-          (same-phases (act o t n) (λ u p. rw (keeps-phases o (x .not-start) (x .not-join)) (cond-same (eqb n u) p)))
+      by-role : {o : Op} → Role o → Fitting (kind o) t n → ExactControl (es ++ (act o t n ∷ [])) (controlAfter (kind o) t n control)
+      by-role a-take f = new-holder (act Op.take t n) n (by t) (f .on-fits) (λ u p. cond-same (eqb n u) p) refl (λ s h. refl)
+      by-role a-give f = new-holder (act Op.give t n) n nobody (f .on-fits) (λ u p. cond-same (eqb n u) p) refl (λ s h. refl)
+      by-role a-look f = unchanged (act Op.look t n) (λ u p. cond-same (eqb n u) p) refl (λ s h. cond-same (eqb n s) h)
+      by-role a-set f = unchanged (act Op.set t n) (λ u p. cond-same (eqb n u) p) refl (λ s h. cond-same (eqb n s) h)
+      by-role a-start f = new-phase (act Op.start t n) n 1 Phase.live (f .on-fits) refl refl (λ u p. refl) refl (λ s h. cond-same (eqb n s) h)
+      by-role a-join f = new-phase (act Op.join t n) n 2 Phase.ended (f .on-fits) refl refl (λ u p. refl) refl (λ s h. cond-same (eqb n s) h)
+      by-role {o} (plain x) f = decided (same-op o Op.owned)
+        where
+          phases : (u : ℕ) (p : Phase) → nextPhase (act o t n) u p ≡ p
+          phases u p = rw (keeps-phases o (x .not-start) (x .not-join)) (cond-same (eqb n u) p)
 
-  pub control-mark : (mask on : ℕ) → ExactControl (es ++ (lost mask ∷ [])) (controlAfter lossMark on control)
-  control-mark mask on = same-phases (lost mask) (λ t p. refl)
+          holders : (s : ℕ) (h : Who) → nextHolder (act o t n) s h ≡ h
+          holders s h = rw (x .not-take, x .not-give) (cond-same (eqb n s) h)
+
+          decided : {b : Bool} → Reflects (o ≡ Op.owned) b → ExactControl (es ++ (act o t n ∷ [])) (controlAfter (kind o) t n control)
+          decided (right e) = rw e (new-profile (act Op.owned t n) (λ u p. cond-same (eqb n u) p) refl (λ s h. cond-same (eqb n s) h))
+          decided (wrong d) = rw (x .not-start, x .not-join, x .not-take, x .not-give, is-not d) (unchanged (act o t n) phases (is-not d) holders)
+
+  pub control-mark : (mask task on : ℕ) → ExactControl (es ++ (lost mask ∷ [])) (controlAfter lossMark task on control)
+  control-mark mask task on = unchanged (lost mask) (λ t p. refl) refl (λ s h. refl)
 
 -- The refusals
 
@@ -123,15 +232,23 @@ unfolding turns
 any-same zero p q e = refl
 any-same (suc n) p q e = ap₂ _||_ (any-same n p q (λ k h. e k (omega arith))) (e n (omega arith))
 
-module _ (s s′ : Standing) (r : Record) (same-count : s .count ≡ s′ .count) (same-live : (t : ℕ) → t < tasks → s .live t ≡ s′ .live t)
-    (same-unseen : (t : ℕ) → t < tasks → s .unseen t ≡ s′ .unseen t) where
-  -- a test of `on` counts only where `on` is a task
-  on-task : (o : Op) (p q : ℕ → Bool) → kindSeries (kind o) ≡ tasks → ((t : ℕ) → t < tasks → p t ≡ q t) → r .on < kindSeries (r .kind) →
-      (hasKind r o && not (p (r .on))) ≡ (hasKind r o && not (q (r .on)))
-  on-task o p q e f h = decided (equal (r .kind) (kind o))
+-- two standings agree on what the rows look at, for numbers within their series
+pub record Agree (s s′ : Standing) : Type 0 where
+  pub count : s .count ≡ s′ .count
+  pub live : (t : ℕ) → t < tasks → s .live t ≡ s′ .live t
+  pub unseen : (t : ℕ) → t < tasks → s .unseen t ≡ s′ .unseen t
+  pub profile : s .profile ≡ s′ .profile
+  pub held : (n : ℕ) → n < semaphores → s .held n ≡ s′ .held n
+  pub holds : (n t : ℕ) → n < semaphores → s .holds n t ≡ s′ .holds n t
+
+module _ (s s′ : Standing) (r : Record) (a : Agree s s′) where
+  -- a test of `on` counts only where `on` is of the op's series
+  on-fitting : (o : Op) (p q : ℕ → Bool) → ((n : ℕ) → n < kindSeries (kind o) → p n ≡ q n) → r .on < kindSeries (r .kind) →
+      (hasKind r o && p (r .on)) ≡ (hasKind r o && q (r .on))
+  on-fitting o p q f h = decided (equal (r .kind) (kind o))
     where
-      decided : {b : Bool} → Reflects (r .kind ≡ kind o) b → (b && not (p (r .on))) ≡ (b && not (q (r .on)))
-      decided (right w) = ap not (f (r .on) (rw (w, e) at h))
+      decided : {b : Bool} → Reflects (r .kind ≡ kind o) b → (b && p (r .on)) ≡ (b && q (r .on))
+      decided (right w) = f (r .on) (rw w at h)
       decided (wrong d) = refl
 
   -- rows 2 and 3 come before the tests of an act's numbers
@@ -144,18 +261,27 @@ module _ (s s′ : Standing) (r : Record) (same-count : s .count ≡ s′ .count
       decided (wrong f) (right _) = refl
       decided (wrong f) (wrong g) =
           let h : r .on < kindSeries (r .kind) = omega arith in
-          rw (same-count, same-live (r .task) (omega arith), on-task Op.start (s .unseen) (s′ .unseen) refl same-unseen h, on-task Op.join (s .live) (s′ .live) refl same-live h)
+          rw (
+            a .count,
+            a .live (r .task) (omega arith),
+            a .profile,
+            on-fitting Op.start (λ t. not (s .unseen t)) (λ t. not (s′ .unseen t)) (λ t l. ap not (a .unseen t l)) h,
+            on-fitting Op.join (λ t. not (s .live t)) (λ t. not (s′ .live t)) (λ t l. ap not (a .live t l)) h,
+            on-fitting Op.take (s .held) (s′ .held) (a .held) h,
+            on-fitting Op.give (λ n. not (s .holds n (r .task))) (λ n. not (s′ .holds n (r .task))) (λ n l. ap not (a .holds n (r .task) l)) h,
+          )
 
   mark-same : firstRow (markRows s r) ≡ firstRow (markRows s′ r)
   mark-same =
       rw (
-        same-count,
+        a .count,
+        a .profile,
         any-same tasks (λ t. names (r .on) t && not (s .live t)) (λ t. names (r .on) t && not (s′ .live t))
-            (λ t h. rw (same-live t h)),
+            (λ t h. rw (a .live t h)),
       )
 
-  -- standings that agree on the tasks refuse the same records
-  refusal-same : standingRefusal s r ≡ standingRefusal s′ r
+  -- standings that agree refuse the same records
+  pub refusal-same : standingRefusal s r ≡ standingRefusal s′ r
   refusal-same = decided (equal (r .kind) lossMark) (at-most (length kinds) (r .kind))
     where
       unknown : (s : Standing) → length kinds ≤ r .kind → standingRefusal s r ≡ 1
@@ -168,5 +294,31 @@ module _ (s s′ : Standing) (r : Record) (same-count : s .count ≡ s′ .count
           let a : OfAct r = record { known = omega arith; no-mark = f } in
           act-rows s r a ∙ (act-same ∙ sym (act-rows s′ r a))
 
+-- a task is told by its number, and nobody by none
+held-number : (w : Who) → ltb 0 (whoNumber w) ≡ isSomebody w
+held-number nobody = refl
+held-number (by t) = lt-ltb 0 (t + 1) (omega arith)
+
+by-number : (w : Who) (u : ℕ) → eqb (whoNumber w) (u + 1) ≡ isBy w u
+by-number nobody u = ne-eqb 0 (u + 1) (λ q. omega arith)
+by-number (by t) u = decided (equal (t + 1) (u + 1)) (equal t u)
+  where
+    decided : {a b : Bool} → Reflects (t + 1 ≡ u + 1) a → Reflects (t ≡ u) b → a ≡ b
+    decided (right p) (right q) = refl
+    decided (right p) (wrong d) = absurd (d (omega arith))
+    decided (wrong d) (right q) = absurd (d (omega arith))
+    decided (wrong d) (wrong f) = refl
+
+agrees : {es : List Event} {control : List ℕ} → ExactControl es control → Agree (controlStanding control) (standing es)
+agrees {es} x =
+    record {
+      count = x .count;
+      live = x .live;
+      unseen = x .unseen;
+      profile = x .profile;
+      held = λ n h. ap (ltb 0) (x .holders n h) ∙ held-number (holder es n);
+      holds = λ n t h. ap (λ (k : ℕ). eqb k (t + 1)) (x .holders n h) ∙ by-number (holder es n) t;
+    }
+
 pub same-refusal : {es : List Event} {control : List ℕ} → ExactControl es control → (r : Record) → controlRefusal control r ≡ refusal es r
-same-refusal {es} {control} x r = refusal-same (controlStanding control) (standing es) r (x .count) (x .live) (x .unseen)
+same-refusal {es} {control} x r = refusal-same (controlStanding control) (standing es) r (agrees x)

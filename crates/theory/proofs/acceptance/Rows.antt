@@ -1,6 +1,6 @@
 -- The refusal table: which of its rows can apply to an act and to a mark, and what is known of a record that passes them all. Assumes nothing.
 use mathlib.Core.Path.{_≡_, refl, sym, _∙_}
-use mathlib.Core.Bool.{Bool, true, false, cond, not, _&&_, _||_, or-false}
+use mathlib.Core.Bool.{Bool, true, false, cond, not, _&&_, _||_, or-false, and-false}
 use mathlib.Mathlib.Data.Bool.Basic.{and-elim-left, and-elim-right, or-eq-false-eq-eq-false-and-eq-false}
 use mathlib.Core.Logic.{_≢_}
 use mathlib.Core.List.{List, [], _∷_}
@@ -8,11 +8,11 @@ use Prim.Native.Nat.{ℕ, zero, suc, _+_, _^_, _≤_, _<_, zero-le}
 use native.Mathlib.Omega.{arith}
 use lib.Dec.{leb, ltb, eqb}
 use lib.ListN.{length}
-use borrow.Author.Tests.{le-leb, lt-leb, ltb-true, leb-true, leb-false, ne-eqb, eqb-false, not-false}
+use borrow.Author.Tests.{le-leb, lt-leb, ltb-true, ltb-false, leb-true, leb-false, ne-eqb, eqb-false, not-false}
 use Rattle.theory.specs.declared.record.Record.{Record}
 use Rattle.theory.specs.order.Limits.{tasks, records}
 use Rattle.theory.specs.tables.Turns.{turns}
-use Rattle.theory.specs.order.Recording.{start, join, kind, kinds, lossMark, kindSeries}
+use Rattle.theory.specs.order.Recording.{take, give, start, join, owned, kind, kinds, lossMark, kindSeries}
 use Rattle.theory.specs.fillings.Completion.{bit, names}
 use Rattle.theory.specs.acceptance.Table.{hasKind, anyBelow, Standing, Row, _when_, rows, lastRow, firstRow, standingRefusal, Fitting}
 use Rattle.theory.proofs.basics.Reflects.{Reflects, right, wrong, equal}
@@ -81,7 +81,7 @@ pub record OfAct (r : Record) : Type 0 where
   pub no-mark : r .kind ≢ lossMark
 
 module _ (s : Standing) (r : Record) where
-  -- the rows from the second as they are for an act: row 4 never applies to one
+  -- the rows from the second as they are for an act: rows 4 and 15 never apply to one
   abbrev pub actRows : List Row
   actRows =
       (2 when leb tasks (r .task))
@@ -92,9 +92,12 @@ module _ (s : Standing) (r : Record) where
       ∷ (7 when (hasKind r start && not (s .unseen (r .on))))
       ∷ (8 when (hasKind r join && eqb (r .on) (r .task)))
       ∷ (9 when (hasKind r join && not (s .live (r .on))))
+      ∷ (14 when (hasKind r owned && ltb 0 (s .count)))
+      ∷ (15 when false)
+      ∷ (16 when (s .profile && ((hasKind r take && s .held (r .on)) || (hasKind r give && not (s .holds (r .on) (r .task))))))
       ∷ []
 
-  -- the rows from the fourth as they are for a mark: rows 6 to 8 never apply to one
+  -- the rows from the fourth as they are for a mark: rows 6 to 8, 14 and 16 never apply to one
   abbrev pub markRows : List Row
   markRows =
       (4 when (eqb (r .on) 0 || leb (2 ^ tasks) (r .on)))
@@ -103,6 +106,9 @@ module _ (s : Standing) (r : Record) where
       ∷ (7 when false)
       ∷ (8 when false)
       ∷ (9 when anyBelow tasks (λ t. names (r .on) t && not (s .live t)))
+      ∷ (14 when false)
+      ∷ (15 when s .profile)
+      ∷ (16 when false)
       ∷ []
 
   pub act-rows : OfAct r → standingRefusal s r ≡ firstRow actRows
@@ -111,7 +117,7 @@ module _ (s : Standing) (r : Record) where
 
   pub mark-rows : r .kind ≡ lossMark → standingRefusal s r ≡ firstRow markRows
   unfolding standingRefusal
-  mark-rows e = rw e
+  mark-rows e = simp (e, and-false)
 
 -- What is known of a record that no row refuses
 
@@ -121,11 +127,15 @@ pub record ActAllowed (s : Standing) (k task on : ℕ) : Type 0 where
   pub starts-unseen : k ≡ kind start → s .unseen on ≡ true
   pub joins-other : k ≡ kind join → on ≢ task
   pub joins-live : k ≡ kind join → s .live on ≡ true
+  pub owned-first : k ≡ kind owned → s .count ≡ 0
+  pub takes-free : s .profile ≡ true → k ≡ kind take → s .held on ≡ false
+  pub gives-own : s .profile ≡ true → k ≡ kind give → s .holds on task ≡ true
 
 pub record MarkAllowed (s : Standing) (mask : ℕ) : Type 0 where
   pub some : 0 < mask
   pub fits : mask < 2 ^ tasks
   pub live : (t : ℕ) → names mask t ≡ true → s .live t ≡ true
+  pub no-profile : s .profile ≡ false
 
 pub record Allowed (s : Standing) (r : Record) : Type 0 where
   pub known : r .kind < length kinds
@@ -145,20 +155,23 @@ module _ (s : Standing) (r : Record) (e : standingRefusal s r ≡ 0) where
   act n = by-rows (none-applies lastRow (actRows s r) refl (sym (act-rows s r (record { known = known; no-mark = n })) ∙ e))
     where
       by-rows : Fail (actRows s r) → ActAllowed s (r .kind) (r .task) (r .on)
-      by-rows (t, (o, (_, (_, (a, (u, (j, (d, _)))))))) =
+      by-rows (t, (o, (_, (_, (a, (u, (j, (d, (w, (_, (h, _))))))))))) =
           record {
             fits = record { task-fits = leb-false tasks (r .task) t; on-fits = leb-false (kindSeries (r .kind)) (r .on) o };
             live = not-false (s .live (r .task)) a;
             starts-unseen = λ q. not-false (s .unseen (r .on)) (rw q at u);
             joins-other = λ q. eqb-false (r .on) (r .task) (rw q at j);
             joins-live = λ q. not-false (s .live (r .on)) (rw q at d);
+            owned-first = λ q. let z = ltb-false 0 (s .count) (rw q at w) in omega arith;
+            takes-free = λ p q. rw (or-false (s .held (r .on))) at (rw (p, q) at h);
+            gives-own = λ p q. not-false (s .holds (r .on) (r .task)) (rw (p, q) at h);
           }
 
   mark : r .kind ≡ lossMark → MarkAllowed s (r .on)
   mark q = by-rows (none-applies lastRow (markRows s r) refl (sym (mark-rows s r q) ∙ e))
     where
       by-rows : Fail (markRows s r) → MarkAllowed s (r .on)
-      by-rows (m, (_, (_, (_, (_, (d, _)))))) =
+      by-rows (m, (_, (_, (_, (_, (d, (_, (p, _)))))))) =
           let (z, h) = or-eq-false-eq-eq-false-and-eq-false (eqb (r .on) 0) (leb (2 ^ tasks) (r .on)) .0 m in
           let n = eqb-false (r .on) 0 z in
           record {
@@ -167,6 +180,7 @@ module _ (s : Standing) (r : Record) (e : standingRefusal s r ≡ 0) where
             live = λ t x.
                 let task = ltb-true t tasks (and-elim-left (ltb t tasks) (bit (r .on) t) x) in
                 not-false (s .live t) (rw x at (none-below tasks (λ t. names (r .on) t && not (s .live t)) d t task));
+            no-profile = p;
           }
 
   pub allowed : Allowed s r

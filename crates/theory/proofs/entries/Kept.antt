@@ -16,10 +16,10 @@ use Rattle.theory.specs.feeding.Meaning.{Meaning, refuses, takes, judges
 use Rattle.theory.specs.feeding.Step.{clockAnswer, stepUnless, stepOf}
 use Rattle.theory.specs.totals.Totals.{racesAt, totalAt, entriesAt, withVerdict, totalled}
 use Rattle.theory.specs.entries.Table.{takenIn, pairedWith, excuseOf, excuseBy, excuse}
-use Rattle.theory.proofs.acceptance.Accepted.{accepts, names-task}
+use Rattle.theory.proofs.acceptance.Accepted.{accepts}
+use Rattle.theory.proofs.acceptance.Updated.{updated-elsewhere}
 use Rattle.theory.proofs.history.Accesses.{of-access}
 use Rattle.theory.proofs.totals.Raised.{raise-other}
-use Rattle.theory.proofs.totals.Moved.{noted-elsewhere}
 
 -- a verdict on a variable raises totals alone
 verdict-kept : (w : Verdict) (v i : ℕ) (control : List ℕ) → v < variables → entriesAt ≤ i → getD (withVerdict w v control) i 0 ≡ getD control i 0
@@ -37,12 +37,12 @@ pub cell-kept : (s : State) (r : Record) (i : ℕ) → entriesAt ≤ i → getD 
 unfolding stepOf
 cell-kept s r i h = decided (controlRefusal (s .control) r) refl
   where
-    noted : Proper (r .kind) (r .task) (r .on) → getD (controlAfter (r .kind) (r .on) (s .control)) i 0 ≡ getD (s .control) i 0
-    noted p = let n = names-task p in noted-elsewhere (r .kind) (r .on) i (s .control) (omega arith) (n .started) (n .joined)
+    noted : Proper (r .kind) (r .task) (r .on) → getD (controlAfter (r .kind) (r .task) (r .on) (s .control)) i 0 ≡ getD (s .control) i 0
+    noted p = updated-elsewhere (r .kind) (r .task) (r .on) (s .control) p i (omega arith)
 
     -- only an access is counted
     counted : Proper (r .kind) (r .task) (r .on) → (b : Bool) → accesses (r .kind) ≡ b →
-        getD (totalled (meaning (clockAnswer s r)) (r .on) (controlAfter (r .kind) (r .on) (s .control))) i 0 ≡ getD (controlAfter (r .kind) (r .on) (s .control)) i 0
+        getD (totalled (meaning (clockAnswer s r)) (r .on) (controlAfter (r .kind) (r .task) (r .on) (s .control))) i 0 ≡ getD (controlAfter (r .kind) (r .task) (r .on) (s .control)) i 0
     counted p true e =
         let no-mark : ¬ (r .kind ≡ lossMark) = λ q. true≢false (sym e ∙ ap accesses q) in
         totals-kept (meaning (clockAnswer s r)) (r .on) i _ (of-access (p .act-fits no-mark) e .variable-fits) h

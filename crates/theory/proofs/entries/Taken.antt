@@ -17,22 +17,12 @@ use Rattle.theory.specs.totals.Totals.{entriesAt, controlCells}
 use Rattle.theory.specs.entries.Table.{pairedAt, takenIn, pairedWith, marked, pairs, entered, afterEntry}
 use Rattle.theory.specs.entries.Known.{Fault, Fits, AllFit, none-left, and-fits, concerns, pairedFrom, enteredAll}
 use Rattle.theory.proofs.basics.Reflects.{Reflects, right, wrong, equal}
-use Rattle.theory.proofs.acceptance.ControlTable.{ExactControl}
+use Rattle.theory.proofs.acceptance.ControlTable.{ExactControl, exact-elsewhere}
 use Rattle.theory.proofs.tables.Words.{with-bit, without-bit}
 
 marked-bit : (a : Bool) (k j x : ℕ) → k < wordBits → j < wordBits → bit (marked a k x) j ≡ cond (eqb j k) a (bit x j)
 marked-bit true k j x h l = with-bit k j x h l
 marked-bit false k j x h l = without-bit k j x h l
-
--- a cell behind the count
-exact-cell : {es : List Event} {control : List ℕ} (i x : ℕ) → countAt < i → ExactControl es control → ExactControl es (set control i x)
-exact-cell {control = control} i x h y =
-    record {
-      size = length-set control i x ∙ y .size;
-      count = getD-set-other control i countAt x 0 (λ e. omega arith) ∙ y .count;
-      live = λ t l. ap (λ (n : ℕ). eqb n 1) (getD-set-other control i t x 0 (λ e. omega arith)) ∙ y .live t l;
-      unseen = λ t l. ap (λ (n : ℕ). eqb n 0) (getD-set-other control i t x 0 (λ e. omega arith)) ∙ y .unseen t l;
-    }
 
 pairs-size : (a : Bool) (v t u : ℕ) (control : List ℕ) → length (pairs a v t u control) ≡ length control
 pairs-size a v t u control = length-set control (pairedAt v t) (marked a u (pairedWith control v t))
@@ -69,7 +59,7 @@ module _ (f : Fault) (fits : Fits f) (control : List ℕ) (size : length control
 
   entered-exact : {es : List Event} → ExactControl es control → ExactControl es next
   unfolding entered
-  entered-exact y = exact-cell entriesAt _ (omega arith) (exact-cell (pairedAt (f .variable) (f .high)) _ (omega arith) (exact-cell (pairedAt (f .variable) (f .low)) _ (omega arith) y))
+  entered-exact y = exact-elsewhere (exact-elsewhere (exact-elsewhere y (pairedAt (f .variable) (f .low)) _ (omega arith)) (pairedAt (f .variable) (f .high)) _ (omega arith)) entriesAt _ (omega arith)
 
   -- the mask of a variable and a task after it
   module _ (v t u : ℕ) (hv : v < variables) (ht : t < tasks) (hu : u < tasks) where

@@ -28,6 +28,7 @@ use Rattle.theory.proofs.order.Places.{Ends, ends, onward, at-ends}
 use Rattle.theory.proofs.verdicts.Demands.{Ruling, judge-ruling, ruling-firm, ruling-with, firm-unmarked}
 use Rattle.theory.proofs.feeding.Simulation.{Simulates, fed-to, clocks-simulate, sets-simulate}
 use Rattle.theory.proofs.feeding.Cases.{judged-by}
+use Rattle.theory.proofs.feeding.Profile.{fed-profile, fed-owned}
 use Rattle.theory.proofs.acceptance.Rows.{refusal-bound}
 
 -- An accepted record's answer is no refusal
@@ -193,6 +194,8 @@ demanded {c = c} x =
       demand3 = fed-demand3 (runs c) right;
       partner = fed-partner (runs c) right;
       acceptance = fed-acceptance (runs c) right;
+      profile = fed-profile (runs c) (fed-acceptance (runs c) right);
+      owned = fed-owned (runs c) (fed-acceptance (runs c) right) (fed-demand2 (runs c) right);
       examples = same-rows (runs c) right table ∙ table-fed;
     }
   where

@@ -26,7 +26,7 @@ first-after n ns h = rw (ne-eqb n 0 h)
 pub record Keeps {S : Type 0} (next : List ℕ → Record → S → S) (Holds : List Event → List ℕ → S → Type 0) : Type 0 where
   pub exact : {es : List Event} {control : List ℕ} {s : S} → Holds es control s → ExactControl es control
   pub step : {es : List Event} {control : List ℕ} {s : S} → Holds es control s → (r : Record) → refusal es r ≡ 0 →
-      Holds (es ++ (eventOf r ∷ [])) (controlAfter (r .kind) (r .on) control) (next control r s)
+      Holds (es ++ (eventOf r ∷ [])) (controlAfter (r .kind) (r .task) (r .on) control) (next control r s)
 
 -- over a list: the refusal is that of feeding it, and without one what is kept is right
 pub record Over {S : Type 0} (Holds : List Event → List ℕ → S → Type 0) (es : List Event) (rs : List Record) (x : Run S) : Type 0 where
@@ -36,11 +36,11 @@ pub record Over {S : Type 0} (Holds : List Event → List ℕ → S → Type 0) 
 module _ {S : Type 0} {next : List ℕ → Record → S → S} {Holds : List Event → List ℕ → S → Type 0} (k : Keeps next Holds) where
   -- what is done with a record that gets the refusal n
   abbrev Then : ℕ → List ℕ → S → Record → List Record → Run S
-  Then n control s r rs = elim n [ zero ↦ followed next (controlAfter (r .kind) (r .on) control) (next control r s) rs | suc m ↦ runOf (suc m) control s ]
+  Then n control s r rs = elim n [ zero ↦ followed next (controlAfter (r .kind) (r .task) (r .on) control) (next control r s) rs | suc m ↦ runOf (suc m) control s ]
 
   over-next : (n : ℕ) (es : List Event) (control : List ℕ) (s : S) (r : Record) (rs : List Record) → refusal es r ≡ n → Holds es control s →
-      (Holds (es ++ (eventOf r ∷ [])) (controlAfter (r .kind) (r .on) control) (next control r s) →
-      Over Holds (es ++ (eventOf r ∷ [])) rs (followed next (controlAfter (r .kind) (r .on) control) (next control r s) rs)) →
+      (Holds (es ++ (eventOf r ∷ [])) (controlAfter (r .kind) (r .task) (r .on) control) (next control r s) →
+      Over Holds (es ++ (eventOf r ∷ [])) rs (followed next (controlAfter (r .kind) (r .task) (r .on) control) (next control r s) rs)) →
       Over Holds es (r ∷ rs) (Then n control s r rs)
   over-next zero es control s r rs e h rest = let x = rest (k .step h r e) in record { refused = rw e (x .refused); holds = λ z. rw e (x .holds z) }
   over-next (suc m) es control s r rs e h rest =

@@ -70,7 +70,7 @@ at-place xs n i h l =
 -- the first record of a list decides
 module _ {S : Type 0} (next : List ℕ → Record → S → S) (control : List ℕ) (s : S) (r : Record) (rs : List Record) where
   abbrev by : ℕ → Run S
-  by m = elim m [ zero ↦ followed next (controlAfter (r .kind) (r .on) control) (next control r s) rs | suc n ↦ runOf (suc n) control s ]
+  by m = elim m [ zero ↦ followed next (controlAfter (r .kind) (r .task) (r .on) control) (next control r s) rs | suc n ↦ runOf (suc n) control s ]
 
   pub followed-refused : {m : ℕ} → m ≡ controlRefusal control r → m ≢ 0 → followed next control s (r ∷ rs) ≡ runOf m control s
   followed-refused {m} e f = sym (ap by e) ∙ of m f
@@ -79,7 +79,7 @@ module _ {S : Type 0} (next : List ℕ → Record → S → S) (control : List �
       of zero f = absurd (f refl)
       of (suc m) f = refl
 
-  pub followed-accepted : controlRefusal control r ≡ 0 → followed next control s (r ∷ rs) ≡ followed next (controlAfter (r .kind) (r .on) control) (next control r s) rs
+  pub followed-accepted : controlRefusal control r ≡ 0 → followed next control s (r ∷ rs) ≡ followed next (controlAfter (r .kind) (r .task) (r .on) control) (next control r s) rs
   followed-accepted e = ap by e
 
 module _ {S : Type 0} {next : List ℕ → Record → S → S} {xs : List (List ℕ)} {n : ℕ} {run : Run S} {i : ℕ} {control : List ℕ} {s : S} (g : Goes next xs n run i control s) where
@@ -100,7 +100,7 @@ module _ {S : Type 0} {next : List ℕ → Record → S → S} {xs : List (List 
         sym (g .goes ∙ (ap (followed next control s) (at-place xs n i h l) ∙ followed-refused next control s x rs refusal f))
 
     -- it is accepted
-    pub goes-on : controlRefusal control r ≡ 0 → {after : List ℕ} {t : S} → after ≡ controlAfter (r .kind) (r .on) control → t ≡ next control r s →
+    pub goes-on : controlRefusal control r ≡ 0 → {after : List ℕ} {t : S} → after ≡ controlAfter (r .kind) (r .task) (r .on) control → t ≡ next control r s →
         Goes next xs n run (i + 1) after t
     goes-on c a b =
         let x = recordIn (getD xs i []) in

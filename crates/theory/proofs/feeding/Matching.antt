@@ -105,7 +105,7 @@ beside-step s s′ r x m = rw (ap (λ (c : List ℕ). controlRefusal c r) (x .co
         let a : clockAnswer s r ≡ setAnswer s′ r = λ i. answeredBy (x .last i) (r .kind) (r .on) (nextNumber (x .control i)) (m i) in (
           a,
           record {
-            control = ap₂ (λ (y : Answer) (c : List ℕ). totalled (meaning y) (r .on) (controlAfter (r .kind) (r .on) c)) a (x .control);
+            control = ap₂ (λ (y : Answer) (c : List ℕ). totalled (meaning y) (r .on) (controlAfter (r .kind) (r .task) (r .on) c)) a (x .control);
             last = ap₂ (λ (c l : List ℕ). lastAfter (r .kind) (r .task) (r .on) (nextNumber c) l) (x .control) (x .last);
           },
         )

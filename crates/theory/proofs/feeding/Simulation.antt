@@ -106,9 +106,9 @@ abbrev Then : List Event → Record → List Event
 Then es r = es ++ (eventOf r ∷ [])
 
 pub base-next : {es : List Event} {control last : List ℕ} {r : Record} → Base es control last → Shape es r →
-    Base (Then es r) (controlAfter (r .kind) (r .on) control) (lastAfter (r .kind) (r .task) (r .on) (nextNumber control) last)
+    Base (Then es r) (controlAfter (r .kind) (r .task) (r .on) control) (lastAfter (r .kind) (r .task) (r .on) (nextNumber control) last)
 base-next {es} {control} {last} b (an-act o t n a) =
-    subst (λ (e : Event). Base (es ++ (e ∷ [])) (controlAfter (kind o) n control) (lastAfter (kind o) t n (nextNumber control) last)) (sym (event-act o t n))
+    subst (λ (e : Event). Base (es ++ (e ∷ [])) (controlAfter (kind o) t n control) (lastAfter (kind o) t n (nextNumber control) last)) (sym (event-act o t n))
     (record {
       control-exact = control-act (b .control-exact) o (a .fits);
       history = history-act o (b .history) (a .fits .task-fits) (on-series o (a .fits)) (next-number (b .control-exact));
@@ -117,7 +117,7 @@ base-next {es} {control} {last} b (an-act o t n a) =
     })
 base-next {control = control} b (a-mark t n m) =
     record {
-      control-exact = control-mark (b .control-exact) n n;
+      control-exact = control-mark (b .control-exact) n t n;
       history = history-mark n t n (nextNumber control) (b .history);
       ranged = ranged-mark n (b .ranged);
       seen = seen-event (lost n) (mark-live m) (b .seen);

@@ -7,19 +7,20 @@ use native.Mathlib.Omega.{arith}
 use borrow.Author.Tests.{le-ltb}
 use lib.Dec.{eqb}
 use lib.ListN.{length, getD, set, length-set}
-use lib.Seq.{getD-set-same, getD-set-other}
+use lib.Seq.{getD-set-same}
 use Rattle.theory.specs.declared.record.Record.{Record}
 use Rattle.theory.specs.tables.Turns.{turns}
 use Rattle.theory.specs.order.Limits.{tasks}
 use Rattle.theory.specs.order.Recording.{Op, read, write, join, fresh, kind, kinds, numberedKind, kindAccesses, accesses, lossMark}
 use Rattle.theory.specs.fillings.Completion.{bit}
-use Rattle.theory.specs.acceptance.Table.{NamesTask}
-use Rattle.theory.specs.acceptance.Control.{countAt, countIn, counted, controlAfter}
+use Rattle.theory.specs.acceptance.Table.{Proper}
+use Rattle.theory.specs.acceptance.Control.{countAt, countIn, updated, controlAfter}
 use Rattle.theory.specs.history.History.{asker, kindClashes}
 use Rattle.theory.specs.tables.Reckonings.{wordBits}
 use Rattle.theory.specs.lazy.Fold.{byEnd, byWrite, askerOn, walkable, Lazy, arrivedNow, keepOn, accessed, walkedOver, noted, acted, recorded, question}
 use Rattle.theory.specs.feeding.Step.{recordOf}
 use Rattle.theory.proofs.basics.Reflects.{Reflects, right, wrong, equal, at-most}
+use Rattle.theory.proofs.acceptance.Updated.{rewritten-length, rewritten-count, updated-rewrites}
 use Rattle.theory.proofs.feeding.Listed.{clippedKind, clipped, clipped-known}
 use Rattle.theory.proofs.order.Numbered.{kind-above}
 
@@ -96,29 +97,18 @@ record Counts (n : ℕ) (control : List ℕ) : Type 0 where
   size : countAt < length control
   count : countIn control ≡ n
 
-one-more : {n : ℕ} {control : List ℕ} → Counts n control → Counts (n + 1) (counted control)
-one-more {n} {control} h =
+count-more : {n : ℕ} {control : List ℕ} {k task on : ℕ} → Counts n control → Proper k task on → Counts (n + 1) (controlAfter k task on control)
+count-more {n} {control} {k} {task} {on} h p =
+    let x = updated-rewrites k task on control p in
+    let size : countAt < length (updated k task on control) = rw (rewritten-length x) (h .size) in
     record {
-      size = rw (length-set control countAt (countIn control + 1)) (h .size);
-      count = getD-set-same control countAt (countIn control + 1) 0 (h .size) ∙ rw (h .count);
+      size = rw (length-set (updated k task on control) countAt (countIn (updated k task on control) + 1)) size;
+      count = getD-set-same (updated k task on control) countAt _ 0 size ∙ rw (rewritten-count x, h .count);
     }
 
-same-count : {n : ℕ} {control : List ℕ} (t v : ℕ) → t < tasks → Counts n control → Counts n (set control t v)
-same-count {n} {control} t v l h =
-    record { size = rw (length-set control t v) (h .size); count = getD-set-other control t countAt v 0 (λ w. omega arith) ∙ h .count }
-
-count-more : {n : ℕ} {control : List ℕ} {k on : ℕ} → Counts n control → NamesTask k on → Counts (n + 1) (controlAfter k on control)
-count-more {n} {control} {k} {on} h x = decided (equal k (kind Op.start)) (equal k (kind Op.join))
-  where
-    decided : {a b : Bool} → Reflects (k ≡ kind Op.start) a → Reflects (k ≡ kind Op.join) b →
-        Counts (n + 1) (cond a (counted (set control on 1)) (cond b (counted (set control on 2)) (counted control)))
-    decided (right e) _ = one-more (same-count on 1 (x .started e) h)
-    decided (wrong _) (right e) = one-more (same-count on 2 (x .joined e) h)
-    decided (wrong _) (wrong _) = one-more h
-
 -- so it stays after an accepted record
-pub within-more : {control : List ℕ} (s : Lazy) (q r : Record) → Within control (s .walk .walked) → NamesTask (r .kind) (r .on) →
-    {after : List ℕ} {t : Lazy} → after ≡ controlAfter (r .kind) (r .on) control → t ≡ recorded q r s → Within after (t .walk .walked)
+pub within-more : {control : List ℕ} (s : Lazy) (q r : Record) → Within control (s .walk .walked) → Proper (r .kind) (r .task) (r .on) →
+    {after : List ℕ} {t : Lazy} → after ≡ controlAfter (r .kind) (r .task) (r .on) control → t ≡ recorded q r s → Within after (t .walk .walked)
 within-more {control} s q r w n a b =
     let x = count-more {control = control} (record { size = w .size; count = refl }) n in
     rw (a, b) (record { size = x .size; room = omega (arith, w .room, x .count, walked-more q r s .at-most) })

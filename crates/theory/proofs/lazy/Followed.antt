@@ -31,7 +31,7 @@ module _ (p : Op) (t v : ℕ) (isa : T (isAccess p)) (ht : t < tasks) where
     pub lazily : Lazily p t v isa ht es s
 
   holds-next : {es : List Event} {control : List ℕ} {s : Lazy} → Holds es control s → (r : Record) → refusal es r ≡ 0 →
-      Holds (es ++ (eventOf r ∷ [])) (controlAfter (r .kind) (r .on) control) (recorded (asked-for p t v isa ht) r s)
+      Holds (es ++ (eventOf r ∷ [])) (controlAfter (r .kind) (r .task) (r .on) control) (recorded (asked-for p t v isa ht) r s)
   holds-next {es} {control} {s} x r e = let h = shape-of es r e in record { last = _; base = base-next (x .base) h; lazily = of h }
     where
       of : {r : Record} → Shape es r → Lazily p t v isa ht (es ++ (eventOf r ∷ [])) (recorded (asked-for p t v isa ht) r s)

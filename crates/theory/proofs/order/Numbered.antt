@@ -10,7 +10,7 @@ use lib.Dec.{eqb}
 use lib.ListN.{length, drop, List·getD-eq-default}
 use Rattle.theory.specs.order.Limits.{variables}
 use Rattle.theory.specs.tables.Turns.{turns}
-use Rattle.theory.specs.order.Recording.{Op, take, give, look, set, start, join, miss, kind, Kind, of-op, of-mark, kinds, numberedKind, kindAccesses, accesses, kindSeries}
+use Rattle.theory.specs.order.Recording.{Op, take, give, look, set, start, join, miss, owned, kind, Kind, of-op, of-mark, kinds, numberedKind, kindAccesses, accesses, kindSeries}
 use Rattle.theory.specs.order.Path.{clashes}
 use Rattle.theory.specs.acceptance.Table.{anyBelow}
 use Rattle.theory.specs.history.History.{askers, asker, askAt, kindClashes}
@@ -102,9 +102,9 @@ each-asker o f tried a h = same-true (f a) (clashes o (asker a)) (not-false _ (n
 
 -- Series
 
--- the ops over semaphores, flags and tasks
+-- the ops over semaphores, flags, tasks and profiles
 abbrev pub objectOps : List Op
-objectOps = take ∷ give ∷ miss ∷ look ∷ set ∷ start ∷ join ∷ []
+objectOps = take ∷ give ∷ miss ∷ look ∷ set ∷ start ∷ join ∷ owned ∷ []
 
 series-tried : anyBelow (length kinds) (λ k. not (isOneOf objectOps k || eqb (kindSeries k) variables)) ≡ false
 unfolding turns

@@ -10,7 +10,7 @@ use borrow.Author.Tests.{ne-eqb, eqb-true, not-false}
 use lib.Dec.{T, eqb}
 use lib.ListN.{length, getD}
 use Rattle.theory.specs.order.Limits.{variables}
-use Rattle.theory.specs.order.Recording.{Op, read, write, take, give, look, set, start, join, fresh, miss, bump, Effect, keeps, begins, ends, about, kind, series, isAccess, lossMark, Kind, of-op, of-mark, kinds, numberedKind, kindOp, opOf, kindAccesses, accesses, kindSeries, eventOf, act, _is_}
+use Rattle.theory.specs.order.Recording.{Op, read, write, take, give, look, set, start, join, fresh, miss, bump, owned, Effect, keeps, begins, ends, about, kind, series, isAccess, lossMark, Kind, of-op, of-mark, kinds, numberedKind, kindOp, opOf, kindAccesses, accesses, kindSeries, eventOf, act, _is_}
 use Rattle.theory.specs.acceptance.Table.{Fitting, anyBelow}
 use Rattle.theory.specs.tables.Turns.{turns}
 use Rattle.theory.proofs.acceptance.Rows.{none-below}
@@ -30,6 +30,7 @@ numberedKind-kind join = refl
 numberedKind-kind fresh = refl
 numberedKind-kind miss = refl
 numberedKind-kind bump = refl
+numberedKind-kind owned = refl
 
 pub opOf-kind : (o : Op) → opOf (kind o) ≡ o
 opOf-kind o = ap kindOp (numberedKind-kind o)
@@ -43,7 +44,7 @@ not-true false e = refl
 pub same-op : (o p : Op) → Reflects (o ≡ p) (o is p)
 same-op o p = same-as (λ e. sym (opOf-kind o) ∙ ap opOf e ∙ opOf-kind p) (ap kind) (equal (kind o) (kind p))
 
-is-not : {o p : Op} → ¬ (o ≡ p) → (o is p) ≡ false
+pub is-not : {o p : Op} → ¬ (o ≡ p) → (o is p) ≡ false
 is-not {o} {p} n = decided (same-op o p)
   where
     decided : {b : Bool} → Reflects (o ≡ p) b → b ≡ false

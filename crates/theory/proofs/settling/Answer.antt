@@ -28,7 +28,7 @@ module _ (home : ℕ) where
     clocks : ExactClocks (homeOnly home) es (s .clocks)
 
   holds-next : {es : List Event} {control : List ℕ} {s : Side} → Holds es control s → (r : Record) → refusal es r ≡ 0 →
-      Holds (es ++ (eventOf r ∷ [])) (controlAfter (r .kind) (r .on) control) (sideAfter home control r s)
+      Holds (es ++ (eventOf r ∷ [])) (controlAfter (r .kind) (r .task) (r .on) control) (sideAfter home control r s)
   holds-next {es} x r e =
       let h = shape-of es r e in
       record { base = base-next (x .base) h; clocks = clocks-by (home-restricts home) (x .base) (x .clocks) h }

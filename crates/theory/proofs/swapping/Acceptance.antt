@@ -1,8 +1,9 @@
--- The swapped list is accepted: the two records leave the phases that the other looks at, and after both the standing is the same.
+-- The swapped list is accepted: the two records leave the phases, the profile and the holders that the other looks at, and after both the standing is
+-- the same.
 -- Assumes nothing.
-use mathlib.Core.Path.{_≡_, refl, sym, _∙_, ap, subst}
-use mathlib.Core.Bool.{Bool, cond, not, _&&_}
-use mathlib.Core.Logic.{_≢_, _⊎_, inl, inr}
+use mathlib.Core.Path.{_≡_, refl, sym, _∙_, ap, ap₂, subst}
+use mathlib.Core.Bool.{Bool, true, false, cond, not, _&&_, _||_}
+use mathlib.Core.Logic.{_≢_}
 use mathlib.Core.List.{List, [], _∷_, _++_}
 use Prim.Native.Nat.{ℕ, zero, suc, _+_, _<_}
 use native.Mathlib.Omega.{arith}
@@ -11,16 +12,18 @@ use lib.Dec.{eqb}
 use lib.ListN.{length, length-append}
 use Rattle.theory.specs.declared.record.Record.{Record}
 use Rattle.theory.specs.order.Limits.{records}
-use Rattle.theory.specs.order.Recording.{Op, start, join, Event, act, lost, kind, lossMark, eventOf, acts}
+use Rattle.theory.specs.order.Recording.{Op, take, give, start, join, owned, _is_, Event, act, lost, kind, lossMark, eventOf, acts}
+use Rattle.theory.specs.acceptance.Owning.{isOwned, under, Who, nobody, isSomebody, isBy, nextHolder, holder}
 use Rattle.theory.specs.acceptance.Table.{Phase, isLive, isUnseen, nextPhase, phase, standing, firstRow, standingRefusal, refusal}
-use Rattle.theory.specs.swapping.Unrelated.{Series, task, semaphore, flag, variable, seriesOf, Names, names}
+use Rattle.theory.specs.swapping.Unrelated.{task, seriesOf, names}
 use Rattle.theory.specs.swapping.Swaps.{Swapped, these, later}
-use Rattle.theory.proofs.basics.Reflects.{Reflects, right, wrong, equal}
+use Rattle.theory.proofs.basics.Reflects.{Reflects, right, wrong}
 use Rattle.theory.proofs.order.Ops.{same-op, no-mark, event-act}
 use Rattle.theory.proofs.acceptance.Rows.{OfAct, actRows, act-rows, allowed}
+use Rattle.theory.proofs.acceptance.Owning.{under-snoc, under-kept, holder-snoc, holder-left}
 use Rattle.theory.proofs.acceptance.ControlTable.{phase-snoc}
 use Rattle.theory.proofs.feeding.Simulation.{Shape, an-act, a-mark, shape-of}
-use Rattle.theory.proofs.swapping.Independent.{Separates, Independent, TwoActs, two, either-way, phase-kept}
+use Rattle.theory.proofs.swapping.Independent.{Separates, Independent, TwoActs, two, ChangesHolder, by-take, by-give, either-way, phase-kept, phases-commute, holder-kept, holders-commute}
 
 -- A list whose every record is accepted, after a recording
 
@@ -34,9 +37,21 @@ pub data Taken : List Event → List Record → Type 0 where
 pub record SameStanding (es es′ : List Event) : Type 0 where
   pub phases : (t : ℕ) → phase es t ≡ phase es′ t
   pub count : length es ≡ length es′
+  pub profile : under es ≡ under es′
+  pub holders : (s : ℕ) → holder es s ≡ holder es′ s
 
 same-refusal : {es es′ : List Event} → SameStanding es es′ → (r : Record) → refusal es r ≡ refusal es′ r
-same-refusal s r i = standingRefusal (record { live = λ t. isLive (s .phases t i); unseen = λ t. isUnseen (s .phases t i); count = s .count i }) r
+same-refusal s r i =
+    standingRefusal
+    (record {
+      live = λ t. isLive (s .phases t i);
+      unseen = λ t. isUnseen (s .phases t i);
+      count = s .count i;
+      profile = s .profile i;
+      held = λ k. isSomebody (s .holders k i);
+      holds = λ k t. isBy (s .holders k i) t;
+    })
+    r
 
 phase-next : (es : List Event) (e : Event) (t : ℕ) → phase (es ++ (e ∷ [])) t ≡ nextPhase e t (phase es t)
 phase-next es e t = phase-snoc (cond (eqb t zero) Phase.live Phase.unseen) es e t
@@ -49,36 +64,54 @@ standing-next {es} {es′} e s =
     record {
       phases = λ t. phase-next es e t ∙ (ap (nextPhase e t) (s .phases t) ∙ sym (phase-next es′ e t));
       count = longer es e ∙ (ap suc (s .count) ∙ sym (longer es′ e));
+      profile = under-snoc es e ∙ (ap (λ (b : Bool). b || isOwned e) (s .profile) ∙ sym (under-snoc es′ e));
+      holders = λ k. holder-snoc es e k ∙ (ap₂ (λ (b : Bool) (h : Who). cond b (nextHolder e k h) nobody) (s .profile) (s .holders k) ∙ sym (holder-snoc es′ e k));
     }
 
 pub taken-same : {es es′ : List Event} {rs : List Record} → SameStanding es es′ → Taken es rs → Taken es′ rs
 taken-same s none-left = none-left
 taken-same s (and-taken {r = r} z k) = and-taken (sym (same-refusal s r) ∙ z) (taken-same (standing-next (eventOf r) s) k)
 
--- An act is refused alike after two recordings that have room and agree on the task that acts and the task that it names
+-- An act that is no `owned` is refused alike after two recordings that have room and agree on the task that acts, the task that it names, the profile and
+-- the holder of the semaphore that it takes or gives
 
 module _ (p : Op) (u m : ℕ) (es es′ : List Event) (room : length es < records) (room′ : length es′ < records)
-    (actor : phase es u ≡ phase es′ u) (named : seriesOf p ≡ task → phase es m ≡ phase es′ m) where
-  names-start : {b : Bool} → Reflects (p ≡ start) b → (b && not (isUnseen (phase es m))) ≡ (b && not (isUnseen (phase es′ m)))
-  names-start (right e) = ap (λ (x : Phase). not (isUnseen x)) (named (ap seriesOf e))
-  names-start (wrong f) = refl
+    (actor : phase es u ≡ phase es′ u) (named : seriesOf p ≡ task → phase es m ≡ phase es′ m)
+    (unowned : (p is owned) ≡ false) (profile : under es ≡ under es′) (held : ChangesHolder m (act p u m) → holder es m ≡ holder es′ m) where
+  -- a test of the op and of what it looks at
+  by-op : {A : Type 0} {x y : A} (o : Op) (test : A → Bool) → (p ≡ o → x ≡ y) → ((p is o) && test x) ≡ ((p is o) && test y)
+  by-op {x = x} {y = y} o test e = decided (same-op p o)
+    where
+      decided : {b : Bool} → Reflects (p ≡ o) b → (b && test x) ≡ (b && test y)
+      decided (right q) = ap test (e q)
+      decided (wrong f) = refl
 
-  names-join : {b : Bool} → Reflects (p ≡ join) b → (b && not (isLive (phase es m))) ≡ (b && not (isLive (phase es′ m)))
-  names-join (right e) = ap (λ (x : Phase). not (isLive x)) (named (ap seriesOf e))
-  names-join (wrong f) = refl
+  handled : {o : Op} → ChangesHolder m (act o u m) → p ≡ o → holder es m ≡ holder es′ m
+  handled c q = held (subst (λ (o : Op). ChangesHolder m (act o u m)) (sym q) c)
 
   abbrev r : Record
   r = record { kind = kind p; task = u; on = m }
 
   same-rows : firstRow (actRows (standing es) r) ≡ firstRow (actRows (standing es′) r)
-  same-rows = rw (lt-leb records (length es) room, lt-leb records (length es′) room′, actor, names-start (same-op p start), names-join (same-op p join))
+  same-rows =
+      rw (
+        lt-leb records (length es) room,
+        lt-leb records (length es′) room′,
+        actor,
+        by-op start (λ x. not (isUnseen x)) (λ q. named (ap seriesOf q)),
+        by-op join (λ x. not (isLive x)) (λ q. named (ap seriesOf q)),
+        unowned,
+        profile,
+        by-op take isSomebody (handled by-take),
+        by-op give (λ x. not (isBy x u)) (handled by-give),
+      )
 
   pub same-act : OfAct r → refusal es r ≡ refusal es′ r
   same-act a = act-rows (standing es) r a ∙ (same-rows ∙ sym (act-rows (standing es′) r a))
 
 -- Two unrelated acts
 
--- the phases that the one looks at stand as they were after the other
+-- the phases, the profile and the holder that the one looks at stand as they were after the other
 module _ {o p : Op} {t u n m : ℕ} (x : Independent (act o t n) (act p u m)) (es : List Event) where
   actor-kept : phase (es ++ (act o t n ∷ [])) u ≡ phase es u
   actor-kept = phase-next es (act o t n) u ∙ phase-kept o t n u (phase es u) (λ y. x .actor-unnamed u .0 y acts)
@@ -86,43 +119,25 @@ module _ {o p : Op} {t u n m : ℕ} (x : Independent (act o t n) (act p u m)) (e
   named-kept : seriesOf p ≡ task → phase (es ++ (act o t n ∷ [])) m ≡ phase es m
   named-kept e = phase-next es (act o t n) m ∙ phase-kept o t n m (phase es m) (λ y. x .no-task m y (names e))
 
--- an act names a task or it does not
-names-task : (o : Op) (t n x : ℕ) → Names task x (act o t n) ⊎ (¬ Names task x (act o t n))
-names-task o t n x = decided (equal n x) (seriesOf o) refl
+  held-kept : ChangesHolder m (act p u m) → holder (es ++ (act o t n ∷ [])) m ≡ holder es m
+  held-kept c = holder-left es (act o t n) m (holder-kept o t n m (holder es m) (λ y. x .holders m y c))
+
+  -- the other one, after it and without it
+  refused-alike : length (es ++ (act o t n ∷ [])) < records → length es < records →
+      OfAct (record { kind = kind p; task = u; on = m }) →
+      refusal (es ++ (act o t n ∷ [])) (record { kind = kind p; task = u; on = m }) ≡ refusal es (record { kind = kind p; task = u; on = m })
+  refused-alike room room′ a = same-act p u m (es ++ (act o t n ∷ [])) es room room′ actor-kept named-kept (x .other-unowned) (under-kept es (act o t n) (x .unowned)) held-kept a
+
+-- the holder after both
+holder-after : (es : List Event) (e f : Event) (s : ℕ) → isOwned e ≡ false →
+    holder ((es ++ (e ∷ [])) ++ (f ∷ [])) s ≡ cond (under es) (nextHolder f s (nextHolder e s (holder es s))) nobody
+holder-after es e f s d =
+    holder-snoc (es ++ (e ∷ [])) f s
+    ∙ (ap₂ (λ (b : Bool) (h : Who). cond b (nextHolder f s h) nobody) (under-kept es e d) (holder-snoc es e s) ∙ of (under es))
   where
-    number : {n : ℕ} → Names task x (act o t n) → n ≡ x
-    number (names e) = refl
-
-    series : {n : ℕ} → Names task x (act o t n) → seriesOf o ≡ task
-    series (names e) = e
-
-    decided : {b : Bool} → Reflects (n ≡ x) b → (y : Series) → seriesOf o ≡ y → Names task x (act o t n) ⊎ (¬ Names task x (act o t n))
-    decided (wrong f) y e = inr (λ a. f (number a))
-    decided (right q) task e = inl (subst (λ (k : ℕ). Names task x (act o t k)) (sym q) (names e))
-    decided (right q) semaphore e = inr (λ a. let s = series a in let z : _≡_ {A = ℕ} 0 1 = cc in omega arith)
-    decided (right q) flag e = inr (λ a. let s = series a in let z : _≡_ {A = ℕ} 0 1 = cc in omega arith)
-    decided (right q) variable e = inr (λ a. let s = series a in let z : _≡_ {A = ℕ} 0 1 = cc in omega arith)
-
--- their phases come to the same in either order
-act-phases : {o p : Op} {t u n m : ℕ} → Independent (act o t n) (act p u m) → (x : ℕ) (q : Phase) →
-    nextPhase (act o t n) x (nextPhase (act p u m) x q) ≡ nextPhase (act p u m) x (nextPhase (act o t n) x q)
-act-phases {o} {p} {t} {u} {n} {m} z x q = decided (names-task o t n x)
-  where
-    decided : Names task x (act o t n) ⊎ (¬ Names task x (act o t n)) →
-        nextPhase (act o t n) x (nextPhase (act p u m) x q) ≡ nextPhase (act p u m) x (nextPhase (act o t n) x q)
-    decided (inl y) =
-        let k = phase-kept p u m x in
-        let a = z .no-task x y in
-        ap (nextPhase (act o t n) x) (k q a) ∙ sym (k (nextPhase (act o t n) x q) a)
-    decided (inr d) =
-        let k = phase-kept o t n x in
-        k (nextPhase (act p u m) x q) d ∙ ap (nextPhase (act p u m) x) (sym (k q d))
-
-phases-commute : {e f : Event} → Independent e f → (x : ℕ) (p : Phase) → nextPhase e x (nextPhase f x p) ≡ nextPhase f x (nextPhase e x p)
-phases-commute z x q = of (z .both) z
-  where
-    of : {e f : Event} → TwoActs e f → Independent e f → nextPhase e x (nextPhase f x q) ≡ nextPhase f x (nextPhase e x q)
-    of two z = act-phases z x q
+    of : (b : Bool) → cond b (nextHolder f s (cond b (nextHolder e s (holder es s)) nobody)) nobody ≡ cond b (nextHolder f s (nextHolder e s (holder es s))) nobody
+    of true = refl
+    of false = refl
 
 pub standing-swapped : (es : List Event) {e f : Event} → Independent e f → SameStanding ((es ++ (e ∷ [])) ++ (f ∷ [])) ((es ++ (f ∷ [])) ++ (e ∷ []))
 standing-swapped es {e} {f} z =
@@ -132,7 +147,14 @@ standing-swapped es {e} {f} z =
           ∙ (ap (nextPhase f t) (phase-next es e t)
           ∙ (phases-commute (either-way z) t (phase es t) ∙ (ap (nextPhase e t) (sym (phase-next es f t)) ∙ sym (phase-next (es ++ (f ∷ [])) e t))));
       count = longer (es ++ (e ∷ [])) f ∙ (ap suc (longer es e ∙ sym (longer es f)) ∙ sym (longer (es ++ (f ∷ [])) e));
+      profile = of-neither z ∙ sym (of-neither (either-way z));
+      holders = λ s.
+          holder-after es e f s (z .unowned)
+          ∙ (ap (λ (h : Who). cond (under es) h nobody) (holders-commute (either-way z) s (holder es s)) ∙ sym (holder-after es f e s (z .other-unowned)));
     }
+  where
+    of-neither : {e f : Event} → Independent e f → under ((es ++ (e ∷ [])) ++ (f ∷ [])) ≡ under es
+    of-neither {e} {f} z = under-kept (es ++ (e ∷ [])) f (z .other-unowned) ∙ under-kept es e (z .unowned)
 
 -- marks are never among them
 no-mark-first : {mask : ℕ} {f : Event} → ¬ Independent (lost mask) f
@@ -166,8 +188,8 @@ module _ {o p : Op} {t u n m : ℕ} (x : Independent (act o t n) (act p u m)) (e
       let room-one : suc (length es) < records = subst (λ (i : ℕ). i < records) (longer es (act o t n)) (l .room) in
       let room-other : length (es ++ (act p u m ∷ [])) < records = subst (λ (i : ℕ). i < records) (sym (longer es (act p u m))) room-one in
       let y = either-way x in (
-        sym (same-act p u m (es ++ (act o t n ∷ [])) es (l .room) room (actor-kept x es) (named-kept x es) (record { known = l .known; no-mark = is-no-mark p })) ∙ b,
-        same-act o t n (es ++ (act p u m ∷ [])) es room-other room (actor-kept y es) (named-kept y es) (record { known = k .known; no-mark = is-no-mark o }) ∙ a,
+        sym (refused-alike x es (l .room) room (record { known = l .known; no-mark = is-no-mark p })) ∙ b,
+        refused-alike y es room-other room (record { known = k .known; no-mark = is-no-mark o }) ∙ a,
       )
 
 -- records as they are fed

@@ -1,15 +1,15 @@
--- Each premise of F-11 is needed: the table is computed. Assumes nothing.
+-- Each premise of F-11 is needed, and what holds of the examples: the tables are computed. Assumes nothing.
 use mathlib.Core.Path.{_≡_, refl, sym, _∙_, ap, subst}
 use mathlib.Core.Bool.{Bool, true, false, not, _&&_, _||_, true≢false}
 use mathlib.Core.Logic.{_≢_}
-use mathlib.Core.List.{List, [], _∷_, map, head-eq-of-cons-eq, tail-eq-of-cons-eq}
+use mathlib.Core.List.{List, [], _∷_, _++_, map, head-eq-of-cons-eq, tail-eq-of-cons-eq}
 use mathlib.Mathlib.Data.Bool.Basic.{and-elim-left, and-elim-right}
 use mathlib.Core.Option.{Option, none, some}
 use Prim.Native.Nat.{ℕ, zero, suc, _+_, _*_}
 use borrow.Author.Tests.{eq-eqb, eqb-true}
 use lib.Dec.{T, eqb}
 use lib.ListN.{getD}
-use Rattle.theory.specs.order.Recording.{Op, Event, act, lost, ActsIn, acts, no-events, an-act, _is_}
+use Rattle.theory.specs.order.Recording.{Op, take, give, miss, Event, act, lost, ActsIn, acts, no-events, an-act, _is_}
 use Rattle.theory.specs.order.Path.{rule}
 use Rattle.theory.specs.fillings.Completion.{rounds, round, part, onEach}
 use Rattle.theory.specs.tables.Turns.{turns}
@@ -18,9 +18,9 @@ use Rattle.theory.specs.verdicts.Search.{judge}
 use Rattle.theory.specs.totals.Totals.{verdictPlace}
 use Rattle.theory.specs.feeding.Meaning.{Meaning, isRefusal}
 use Rattle.theory.specs.feeding.Feeding.{answersFrom, eventRecord}
-use Rattle.theory.specs.swapping.Unrelated.{Series, task, semaphore, flag, variable, seriesOf, Names, names, sharing, MayShare, may-share, Premise, two-acts, actors-differ, names-no-actor, names-no-same, no-semaphore, no-flag, no-variable, Holds}
+use Rattle.theory.specs.swapping.Unrelated.{Series, task, semaphore, flag, variable, profile, seriesOf, Names, names, sharing, MayShare, may-share, Premise, two-acts, actors-differ, names-no-actor, names-no-same, no-semaphore, no-flag, no-variable, none-owned, Holds, first-misses, second-misses}
 use Rattle.theory.specs.swapping.Compared.{Accepted, none-left, and-accepted, Said, refused, taken, judged, known}
-use Rattle.theory.specs.swapping.Examples.{Related, logged, exchanged, newPlace, saidAt, Changes, AllChange, EachNeeded, related, Pair, AllUnrelated, unrelatedPairs, NumbersShift}
+use Rattle.theory.specs.swapping.Examples.{Related, logged, exchanged, newPlace, saidAt, Changes, AllChange, EachNeeded, related, Pair, AllUnrelated, unrelatedPairs, AllMissed, missedPairs, holding, EitherOrder, HeldPairs, OwnedMoved, NumbersShift}
 use Rattle.theory.proofs.basics.Reflects.{fails, equal, passed}
 use Rattle.theory.proofs.order.Ops.{same-op}
 
@@ -31,6 +31,7 @@ tag task = 0
 tag semaphore = 1
 tag flag = 2
 tag variable = 3
+tag profile = 4
 
 abbrev isOf : Series → Op → Bool
 isOf x o = eqb (tag (seriesOf o)) (tag x)
@@ -47,22 +48,24 @@ holdsOfActs names-no-same o t n p u m = not (bothName task o n p m)
 holdsOfActs no-semaphore o t n p u m = not (bothName semaphore o n p m)
 holdsOfActs no-flag o t n p u m = not (bothName flag o n p m)
 holdsOfActs no-variable o t n p u m = not (bothName variable o n p m) || (o is p && sharing o)
+holdsOfActs none-owned o t n p u m = not (isOf profile o) && not (isOf profile p)
 
--- with a mark among the two
-abbrev holdsOfMark : Premise → Bool
-holdsOfMark two-acts = false
-holdsOfMark actors-differ = true
-holdsOfMark names-no-actor = true
-holdsOfMark names-no-same = true
-holdsOfMark no-semaphore = true
-holdsOfMark no-flag = true
-holdsOfMark no-variable = true
+-- with a mark among the two, and whether the other is no `owned`
+abbrev holdsOfMark : Premise → Bool → Bool
+holdsOfMark two-acts b = false
+holdsOfMark actors-differ b = true
+holdsOfMark names-no-actor b = true
+holdsOfMark names-no-same b = true
+holdsOfMark no-semaphore b = true
+holdsOfMark no-flag b = true
+holdsOfMark no-variable b = true
+holdsOfMark none-owned b = b
 
 abbrev holdsTest : Premise → Event → Event → Bool
 holdsTest q (act o t n) (act p u m) = holdsOfActs q o t n p u m
-holdsTest q (act o t n) (lost mask) = holdsOfMark q
-holdsTest q (lost mask) (act p u m) = holdsOfMark q
-holdsTest q (lost mask) (lost mask′) = holdsOfMark q
+holdsTest q (act o t n) (lost mask) = holdsOfMark q (not (isOf profile o))
+holdsTest q (lost mask) (act p u m) = holdsOfMark q (not (isOf profile p))
+holdsTest q (lost mask) (lost mask′) = holdsOfMark q true
 
 -- What passes it holds
 
@@ -83,6 +86,9 @@ not-both x k h a b = rw (series-is a, series-is b, number-is a, number-is b, sel
 
 not-task : (x : ℕ) {o p : Op} {t u n m : ℕ} → T (not (isOf task o && eqb n u)) → Names task x (act o t n) → ¬ ActsIn x (act p u m)
 not-task x {u = u} h a b = rw (series-is a, number-is a, actor-is b, self-test u) at h
+
+not-owned : (k : ℕ) {o : Op} {t n : ℕ} → T (not (isOf profile o)) → ¬ Names profile k (act o t n)
+not-owned k h a = rw (series-is a) at h
 
 no-actor : {t mask : ℕ} → ¬ ActsIn t (lost mask)
 no-actor a = elim a [ ]
@@ -113,28 +119,30 @@ module _ (o : Op) (t n : ℕ) (p : Op) (u m : ℕ) where
   acts-hold no-semaphore h = λ x. not-both semaphore x h
   acts-hold no-flag h = λ x. not-both flag x h
   acts-hold no-variable h = λ v a b. may-both (or-else (bothName variable o n p m) (o is p && sharing o) h (λ z. not-both variable v z a b))
+  acts-hold none-owned h = λ k. let (a, b) = split (not (isOf profile o)) (not (isOf profile p)) h in (not-owned k a, not-owned k b)
 
 -- with a mark there is nobody who acts and nothing that is named
-mark-holds : {e f : Event} → ((t : ℕ) → ActsIn t e → ¬ ActsIn t f) → ((x : Series) (n : ℕ) → Names x n e → ¬ Names x n f) → ((t : ℕ) → Names task t e → ¬ ActsIn t f) → ((t : ℕ) → Names task t f → ¬ ActsIn t e) →
-    (q : Premise) → T (holdsOfMark q) → Holds q e f
-mark-holds a b c d two-acts h = absurd h
-mark-holds a b c d actors-differ h = a
-mark-holds a b c d names-no-actor h = λ t. (c t, d t)
-mark-holds a b c d names-no-same h = λ t. b task t
-mark-holds a b c d no-semaphore h = λ x. b semaphore x
-mark-holds a b c d no-flag h = λ x. b flag x
-mark-holds a b c d no-variable h = λ v k l. absurd (b variable v k l)
+mark-holds : {e f : Event} (x : Bool) → ((t : ℕ) → ActsIn t e → ¬ ActsIn t f) → ((x : Series) (n : ℕ) → Names x n e → ¬ Names x n f) → ((t : ℕ) → Names task t e → ¬ ActsIn t f) → ((t : ℕ) → Names task t f → ¬ ActsIn t e) → (T x → Holds none-owned e f) →
+    (q : Premise) → T (holdsOfMark q x) → Holds q e f
+mark-holds x a b c d o two-acts h = absurd h
+mark-holds x a b c d o actors-differ h = a
+mark-holds x a b c d o names-no-actor h = λ t. (c t, d t)
+mark-holds x a b c d o names-no-same h = λ t. b task t
+mark-holds x a b c d o no-semaphore h = λ x. b semaphore x
+mark-holds x a b c d o no-flag h = λ x. b flag x
+mark-holds x a b c d o no-variable h = λ v k l. absurd (b variable v k l)
+mark-holds x a b c d o none-owned h = o h
 
 test-holds : (q : Premise) (e f : Event) → T (holdsTest q e f) → Holds q e f
 test-holds q (act o t n) (act p u m) h = acts-hold o t n p u m q h
-test-holds q (act o t n) (lost mask) h = mark-holds (λ t a b. no-actor b) (λ x n a b. no-name b) (λ t a b. no-actor b) (λ t a b. no-name a) q h
-test-holds q (lost mask) (act p u m) h = mark-holds (λ t a b. no-actor a) (λ x n a b. no-name a) (λ t a b. no-name a) (λ t a b. no-actor b) q h
-test-holds q (lost mask) (lost mask′) h = mark-holds (λ t a b. no-actor a) (λ x n a b. no-name a) (λ t a b. no-name a) (λ t a b. no-actor b) q h
+test-holds q (act o t n) (lost mask) h = mark-holds (not (isOf profile o)) (λ t a b. no-actor b) (λ x n a b. no-name b) (λ t a b. no-actor b) (λ t a b. no-name a) (λ h k. (not-owned k h, no-name)) q h
+test-holds q (lost mask) (act p u m) h = mark-holds (not (isOf profile p)) (λ t a b. no-actor a) (λ x n a b. no-name a) (λ t a b. no-name a) (λ t a b. no-actor b) (λ h k. (no-name, not-owned k h)) q h
+test-holds q (lost mask) (lost mask′) h = mark-holds true (λ t a b. no-actor a) (λ x n a b. no-name a) (λ t a b. no-name a) (λ t a b. no-actor b) (λ h k. (no-name, no-name)) q h
 
 -- Every premise but one
 
 abbrev premises : List Premise
-premises = two-acts ∷ actors-differ ∷ names-no-actor ∷ names-no-same ∷ no-semaphore ∷ no-flag ∷ no-variable ∷ []
+premises = two-acts ∷ actors-differ ∷ names-no-actor ∷ names-no-same ∷ no-semaphore ∷ no-flag ∷ no-variable ∷ none-owned ∷ []
 
 abbrev premiseNumber : Premise → ℕ
 premiseNumber two-acts = 0
@@ -144,6 +152,7 @@ premiseNumber names-no-same = 3
 premiseNumber no-semaphore = 4
 premiseNumber no-flag = 5
 premiseNumber no-variable = 6
+premiseNumber none-owned = 7
 
 abbrev numberedPremise : ℕ → Premise
 numberedPremise k = getD premises k two-acts
@@ -156,6 +165,7 @@ premise-numbered names-no-same = refl
 premise-numbered no-semaphore = refl
 premise-numbered no-flag = refl
 premise-numbered no-variable = refl
+premise-numbered none-owned = refl
 
 same-premise : (p q : Premise) → eqb (premiseNumber p) (premiseNumber q) ≡ true → p ≡ q
 same-premise p q e = sym (premise-numbered p) ∙ (ap numberedPremise (eqb-true (premiseNumber p) (premiseNumber q) e) ∙ premise-numbered q)
@@ -173,16 +183,16 @@ all-at h (q ∷ qs) e d (suc k) = all-at h qs (and-elim-right (h q) (allOf h qs)
 each-premise : (h : Premise → Bool) → allOf h premises ≡ true → (q : Premise) → h q ≡ true
 each-premise h e q = subst (λ (p : Premise). h p ≡ true) (premise-numbered q) (all-at h premises e (and-elim-left (h two-acts) _ e) (premiseNumber q))
 
--- the two of a row meet it, or it is the one that they fail
-abbrev metOr : Related → Premise → Bool
-metOr x q = eqb (premiseNumber q) (premiseNumber (x .premise)) || holdsTest q (x .one) (x .other)
+-- the two meet it, or it is the one that they may fail
+abbrev metOr : Premise → Event → Event → Premise → Bool
+metOr p e f q = eqb (premiseNumber q) (premiseNumber p) || holdsTest q e f
 
-others-met : (x : Related) → allOf (metOr x) premises ≡ true → (p : Premise) → p ≢ x .premise → Holds p (x .one) (x .other)
-others-met x e p d = test-holds p (x .one) (x .other) (of (eqb (premiseNumber p) (premiseNumber (x .premise))) refl (each-premise (metOr x) e p))
+others-met : (p : Premise) (e f : Event) → allOf (metOr p e f) premises ≡ true → (q : Premise) → q ≢ p → Holds q e f
+others-met p e f h q d = test-holds q e f (of (eqb (premiseNumber q) (premiseNumber p)) refl (each-premise (metOr p e f) h q))
   where
-    of : (b : Bool) → eqb (premiseNumber p) (premiseNumber (x .premise)) ≡ b → (b || holdsTest p (x .one) (x .other)) ≡ true → T (holdsTest p (x .one) (x .other))
-    of true q h = absurd (d (same-premise p (x .premise) q))
-    of false q h = subst T (sym h) tt
+    of : (b : Bool) → eqb (premiseNumber q) (premiseNumber p) ≡ b → (b || holdsTest q e f) ≡ true → T (holdsTest q e f)
+    of true w h = absurd (d (same-premise q p w))
+    of false w h = subst T (sym h) tt
 
 -- Rows
 
@@ -209,8 +219,11 @@ toldNumber taken = 99
 toldNumber (judged v w) = 20 * verdictPlace v + partnerNumber w
 toldNumber (known w) = 60 + partnerNumber w
 
+abbrev othersMet : Related → Bool
+othersMet x = allOf (metOr (x .premise) (x .one) (x .other)) premises
+
 abbrev rowTest : Related → Bool
-rowTest x = allOf (metOr x) premises && (noRefusal (answersFrom [] (map eventRecord (logged x))) && not (eqb (toldNumber (x .was)) (toldNumber (x .becomes))))
+rowTest x = othersMet x && (noRefusal (answersFrom [] (map eventRecord (logged x))) && not (eqb (toldNumber (x .was)) (toldNumber (x .becomes))))
 
 abbrev allRows : List Related → Bool
 allRows [] = true
@@ -218,10 +231,10 @@ allRows (x ∷ xs) = rowTest x && allRows xs
 
 row-changes : (x : Related) → rowTest x ≡ true → saidAt (logged x) (x .place) ≡ some (x .was) → saidAt (exchanged x) (newPlace x) ≡ some (x .becomes) → Changes x
 row-changes x e b a =
-    let met = and-elim-left (allOf (metOr x) premises) _ e in
-    let rest = and-elim-right (allOf (metOr x) premises) _ e in
+    let met = and-elim-left (othersMet x) _ e in
+    let rest = and-elim-right (othersMet x) _ e in
     record {
-      others = others-met x met;
+      others = others-met (x .premise) (x .one) (x .other) met;
       accepted = no-refusal (answersFrom [] (map eventRecord (logged x))) (and-elim-left (noRefusal (answersFrom [] (map eventRecord (logged x)))) _ rest);
       before = b;
       after = a;
@@ -244,13 +257,14 @@ all-change = rows-change related refl refl refl
 
 -- the rows, each for its premise
 pub each-needed : EachNeeded
-each-needed two-acts = (_, refl, all-change .0)
-each-needed actors-differ = (_, refl, all-change .1 .0)
-each-needed names-no-actor = (_, refl, all-change .1 .1 .0)
-each-needed names-no-same = (_, refl, all-change .1 .1 .1 .1 .0)
-each-needed no-semaphore = (_, refl, all-change .1 .1 .1 .1 .1 .0)
-each-needed no-flag = (_, refl, all-change .1 .1 .1 .1 .1 .1 .0)
-each-needed no-variable = (_, refl, all-change .1 .1 .1 .1 .1 .1 .1 .0)
+each-needed two-acts d = (_, refl, all-change .0)
+each-needed actors-differ d = (_, refl, all-change .1 .0)
+each-needed names-no-actor d = (_, refl, all-change .1 .1 .0)
+each-needed names-no-same d = (_, refl, all-change .1 .1 .1 .1 .0)
+each-needed no-semaphore d = (_, refl, all-change .1 .1 .1 .1 .1 .0)
+each-needed no-flag d = (_, refl, all-change .1 .1 .1 .1 .1 .1 .1 .0)
+each-needed no-variable d = (_, refl, all-change .1 .1 .1 .1 .1 .1 .1 .1 .0)
+each-needed none-owned d = absurd (d refl)
 
 -- The pairs
 
@@ -268,6 +282,37 @@ pairs-met (x ∷ xs) e =
 
 pub pairs-unrelated : AllUnrelated unrelatedPairs
 pairs-unrelated = pairs-met unrelatedPairs refl
+
+-- with a miss
+pub pairs-missed : AllMissed missedPairs
+pairs-missed = (
+  record { misses = second-misses; others = others-met no-semaphore (act give 1 3) (act miss 2 3) refl },
+  (record { misses = first-misses; others = others-met no-semaphore (act miss 2 4) (act take 1 4) refl }, tt),
+)
+
+-- Under the profile
+
+either-order : (x : Pair) → noRefusal (answersFrom [] (map eventRecord (holding ++ (x .one ∷ (x .other ∷ []))))) ≡ true →
+    noRefusal (answersFrom [] (map eventRecord (holding ++ (x .other ∷ (x .one ∷ []))))) ≡ true → EitherOrder x
+either-order x a b =
+    record {
+      logged = no-refusal (answersFrom [] (map eventRecord (holding ++ (x .one ∷ (x .other ∷ []))))) a;
+      swapped = no-refusal (answersFrom [] (map eventRecord (holding ++ (x .other ∷ (x .one ∷ []))))) b;
+    }
+
+pub held-pairs : HeldPairs
+unfolding turns standingRefusal judge rule rounds round part onEach
+held-pairs =
+    record {
+      two-takes = either-order _ refl refl;
+      give-take = either-order _ refl refl;
+      give-miss = either-order _ refl refl;
+      miss-take = either-order _ refl refl;
+    }
+
+pub owned-moved : OwnedMoved
+unfolding turns standingRefusal judge rule rounds round part onEach
+owned-moved = record { before = refl; after = refl }
 
 -- Record numbers
 

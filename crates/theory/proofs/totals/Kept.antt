@@ -85,7 +85,7 @@ raceCount (m ∷ answers) = indicator (isRace m) + raceCount answers
 record Keeps {S : Type 0} (c : Checker S) (R : List Event → S → Type 0) : Type 0 where
   simulates : Simulates c R
   exact : (es : List Event) (s : S) → R es s → ExactControl es (c .control s)
-  taken : (s : S) (r : Record) → checkerRefusal c s r ≡ 0 → c .control (c .next s r) ≡ totalled (meaning (c .answer s r)) (r .on) (controlAfter (r .kind) (r .on) (c .control s))
+  taken : (s : S) (r : Record) → checkerRefusal c s r ≡ 0 → c .control (c .next s r) ≡ totalled (meaning (c .answer s r)) (r .on) (controlAfter (r .kind) (r .task) (r .on) (c .control s))
   refused : (s : S) (r : Record) (n : ℕ) → checkerRefusal c s r ≡ suc n → c .next s r ≡ s
 
 module _ {S : Type 0} {c : Checker S} {R : List Event → S → Type 0} (k : Keeps c R) where

@@ -3,16 +3,17 @@ use mathlib.Core.Path.{_≡_, refl, sym, _∙_, ap, subst}
 use mathlib.Core.Bool.{Bool, true, false, cond, _&&_}
 use mathlib.Core.Logic.{_≢_}
 use mathlib.Core.List.{List}
-use Prim.Native.Nat.{ℕ, suc, _+_, _-_, _^_, _<_}
+use Prim.Native.Nat.{ℕ, suc, _+_, _-_, _^_, _≤_, _<_}
 use native.Mathlib.Omega.{arith}
-use borrow.Author.Tests.{lt-ltb}
+use borrow.Author.Tests.{lt-ltb, eqb-false}
 use lib.Dec.{T, eqb}
-use lib.ListN.{length, getD, set, length-set}
+use lib.ListN.{length, getD, length-set}
 use lib.Seq.{getD-set-other}
 use Rattle.theory.specs.declared.record.Record.{Record}
-use Rattle.theory.specs.order.Limits.{tasks, variables}
-use Rattle.theory.specs.order.Recording.{start, join, Event, act, kind, lossMark, kindSeries, eventOf, isAccess}
-use Rattle.theory.specs.acceptance.Control.{countAt, counted, controlAfter}
+use Rattle.theory.specs.order.Limits.{variables}
+use Rattle.theory.specs.order.Recording.{Event, act, kind, lossMark, eventOf, isAccess}
+use Rattle.theory.specs.acceptance.Table.{Proper}
+use Rattle.theory.specs.acceptance.Control.{acceptanceCells, controlAfter}
 use Rattle.theory.specs.verdicts.Verdict.{Verdict, Race, Clear, Doubt}
 use Rattle.theory.specs.verdicts.Search.{judge}
 use Rattle.theory.specs.tables.Reckonings.{indicator}
@@ -21,7 +22,8 @@ use Rattle.theory.specs.feeding.Feeding.{acceptedAnswer}
 use Rattle.theory.specs.totals.Totals.{racesAt, totalAt, verdictPlace, total, races, oneMore, raise, withVerdict, totalled, controlCells}
 use Rattle.theory.specs.totals.Counting.{counts, isRace}
 use Rattle.theory.proofs.basics.Reflects.{Reflects, right, wrong, equal, by-test, both, is-true}
-use Rattle.theory.proofs.order.Ops.{event-act, access-on, on-series}
+use Rattle.theory.proofs.order.Ops.{no-mark, event-act, access-on, on-series}
+use Rattle.theory.proofs.acceptance.Updated.{after-length, updated-elsewhere}
 use Rattle.theory.proofs.acceptance.ControlTable.{ExactControl}
 use Rattle.theory.proofs.totals.Raised.{raise-length, raise-same, raise-other}
 use Rattle.theory.proofs.feeding.Simulation.{Shape, an-act, a-mark}
@@ -89,24 +91,10 @@ pub record Moved (control after : List ℕ) (r : Record) (m : Meaning) : Type 0 
   pub totals : (w : Verdict) (v : ℕ) → v < variables → Room (total w v control) → total w v after ≡ total w v control + counts w v r m
   pub of-races : Room (races control) → races after ≡ races control + indicator (isRace m)
 
--- phases and count are noted elsewhere
-pub noted-elsewhere : (k on i : ℕ) (control : List ℕ) → countAt < i → (k ≡ kind start → on < tasks) → (k ≡ kind join → on < tasks) →
-    getD (controlAfter k on control) i 0 ≡ getD control i 0
-noted-elsewhere k on i control h s j = decided (equal k (kind start)) (equal k (kind join))
-  where
-    counted-other : (c : List ℕ) → getD (counted c) i 0 ≡ getD c i 0
-    counted-other c = getD-set-other c countAt i _ 0 (λ q. omega arith)
-
-    decided : {a b : Bool} → Reflects (k ≡ kind start) a → Reflects (k ≡ kind join) b →
-        getD (cond a (counted (set control on 1)) (cond b (counted (set control on 2)) (counted control))) i 0 ≡ getD control i 0
-    decided (right e) _ = let l = s e in counted-other (set control on 1) ∙ getD-set-other control on i 1 0 (λ q. omega arith)
-    decided (wrong _) (right e) = let l = j e in counted-other (set control on 2) ∙ getD-set-other control on i 2 0 (λ q. omega arith)
-    decided (wrong _) (wrong _) = counted-other control
-
--- a table in which only phases and count were noted
+-- a table in which only what acceptance looks at was noted
 record Noted (control after : List ℕ) : Type 0 where
   size : length after ≡ controlCells
-  same : (i : ℕ) → countAt < i → getD after i 0 ≡ getD control i 0
+  same : (i : ℕ) → acceptanceCells ≤ i → getD after i 0 ≡ getD control i 0
 
 -- an access, with its verdict
 moved-access : {control after : List ℕ} → Noted control after → (r : Record) → r .on < variables → (n : ℕ) (x : Verdict) (p : ℕ) →
@@ -140,35 +128,23 @@ bool-false {b} n = decided (by-test b)
     decided (right x) = absurd (n x)
     decided (wrong m) = refl
 
-noted-by : {es : List Event} {control : List ℕ} (k on : ℕ) → ExactControl es control → length (controlAfter k on control) ≡ length control →
-    (k ≡ kind start → on < tasks) → (k ≡ kind join → on < tasks) → Noted control (controlAfter k on control)
-noted-by {control = control} k on x l s j = record { size = l ∙ x .size; same = λ i h. noted-elsewhere k on i control h s j }
-
--- the size of the table stays
-after-length : (k on : ℕ) (control : List ℕ) → length (controlAfter k on control) ≡ length control
-after-length k on control = decided (eqb k (kind start)) (eqb k (kind join))
-  where
-    decided : (a b : Bool) → length (cond a (counted (set control on 1)) (cond b (counted (set control on 2)) (counted control))) ≡ length control
-    decided true b = length-set (set control on 1) countAt _ ∙ length-set control on 1
-    decided false true = length-set (set control on 2) countAt _ ∙ length-set control on 2
-    decided false false = length-set control countAt _
+noted-by : {es : List Event} {control : List ℕ} (k task on : ℕ) → ExactControl es control → Proper k task on → Noted control (controlAfter k task on control)
+noted-by {control = control} k task on x p = record { size = after-length k task on control p ∙ x .size; same = updated-elsewhere k task on control p }
 
 module _ {es : List Event} {control : List ℕ} (x : ExactControl es control) where
-  pub moved-by : {r : Record} → Shape es r → Moved control (totalled (acceptedAnswer es (eventOf r)) (r .on) (controlAfter (r .kind) (r .on) control)) r (acceptedAnswer es (eventOf r))
+  pub moved-by : {r : Record} → Shape es r → Moved control (totalled (acceptedAnswer es (eventOf r)) (r .on) (controlAfter (r .kind) (r .task) (r .on) control)) r (acceptedAnswer es (eventOf r))
   moved-by (an-act o t n a) = rw (event-act o t n) (decided (by-test (isAccess o)))
     where
-      table : Noted control (controlAfter (kind o) n control)
-      table =
-          noted-by (kind o) n x (after-length (kind o) n control) (λ e. subst (λ (k : ℕ). n < kindSeries k) e (a .fits .on-fits))
-          (λ e. subst (λ (k : ℕ). n < kindSeries k) e (a .fits .on-fits))
+      table : Noted control (controlAfter (kind o) t n control)
+      table = noted-by (kind o) t n x (record { act-fits = λ _. a .fits; mark-names = λ e. absurd (eqb-false (kind o) lossMark (no-mark o) e) })
 
       r : Record
       r = record { kind = kind o; task = t; on = n }
 
-      decided : {c : Bool} → Reflects (T (isAccess o)) c → Moved control (totalled (acceptedAnswer es (act o t n)) n (controlAfter (kind o) n control)) r (acceptedAnswer es (act o t n))
+      decided : {c : Bool} → Reflects (T (isAccess o)) c → Moved control (totalled (acceptedAnswer es (act o t n)) n (controlAfter (kind o) t n control)) r (acceptedAnswer es (act o t n))
       decided (right c) =
           rw (is-true (by-test (isAccess o)) c)
           (moved-access table r (access-on o c (on-series o (a .fits))) (suc (length es)) ((judge es (act o t n)) .verdict) ((judge es (act o t n)) .partner))
       decided (wrong l) = rw (bool-false {b = isAccess o} l) (moved-other table r (suc (length es)))
   moved-by (a-mark t n m) =
-      moved-other (noted-by lossMark n x (after-length lossMark n control) (λ e. omega arith) (λ e. omega arith)) (record { kind = lossMark; task = t; on = n }) (suc (length es))
+      moved-other (noted-by lossMark t n x (record { act-fits = λ d. absurd (d refl); mark-names = λ _. m .some })) (record { kind = lossMark; task = t; on = n }) (suc (length es))

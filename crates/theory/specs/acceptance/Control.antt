@@ -1,12 +1,12 @@
--- The control table: each task's phase, 0 for unseen, 1 for live and 2 for ended, then the count of accepted records; after these the totals
--- (specs/totals), at which acceptance does not look.
+-- The control table: each task's phase, 0 for unseen, 1 for live and 2 for ended, then the count of accepted records, 1 under the profile of owned
+-- semaphores, and each semaphore's holder; after these the totals (specs/totals), at which acceptance does not look.
 use Prim.Native.Nat.{ℕ, _+_}
 use mathlib.Core.Bool.{Bool, cond}
 use mathlib.Core.List.{List}
-use lib.Dec.{eqb}
+use lib.Dec.{eqb, ltb}
 use lib.ListN.{getD, set}
 use Rattle.theory.specs.declared.record.Record.{Record}
-use Rattle.theory.specs.order.Limits.{tasks}
+use Rattle.theory.specs.order.Limits.{tasks, semaphores}
 use Rattle.theory.specs.order.Recording.{Op, kind}
 use Rattle.theory.specs.acceptance.Table.{Standing, standingRefusal}
 
@@ -23,8 +23,37 @@ countAt = tasks
 abbrev pub countIn : List ℕ → ℕ
 countIn control = getD control countAt 0
 
+abbrev pub profileAt : ℕ
+profileAt = countAt + 1
+
+-- 1 under the profile, and 0 else
+abbrev pub underIn : List ℕ → Bool
+underIn control = eqb (getD control profileAt 0) 1
+
+-- a semaphore's holder, as its number and one more; 0 for nobody
+abbrev pub holderAt : ℕ → ℕ
+holderAt s = profileAt + 1 + s
+
+abbrev pub heldIn : List ℕ → ℕ → Bool
+heldIn control s = ltb 0 (getD control (holderAt s) 0)
+
+abbrev pub holdsIn : List ℕ → ℕ → ℕ → Bool
+holdsIn control s t = eqb (getD control (holderAt s) 0) (t + 1)
+
+-- so many cells does acceptance look at
+abbrev pub acceptanceCells : ℕ
+acceptanceCells = holderAt semaphores
+
 abbrev pub controlStanding : List ℕ → Standing
-controlStanding control = record { live = liveIn control; unseen = unseenIn control; count = countIn control }
+controlStanding control =
+    record {
+      live = liveIn control;
+      unseen = unseenIn control;
+      count = countIn control;
+      profile = underIn control;
+      held = heldIn control;
+      holds = holdsIn control;
+    }
 
 -- the refusal of a record
 abbrev pub controlRefusal : List ℕ → Record → ℕ
@@ -33,7 +62,19 @@ controlRefusal control r = standingRefusal (controlStanding control) r
 abbrev pub counted : List ℕ → List ℕ
 counted control = set control countAt (countIn control + 1)
 
+-- semaphore s's holder is written under the profile only
+abbrev pub withHolder : ℕ → ℕ → List ℕ → List ℕ
+withHolder s who control = cond (underIn control) (set control (holderAt s) who) control
+
+-- what an accepted record does to phases, profile and holders
+abbrev pub updated : ℕ → ℕ → ℕ → List ℕ → List ℕ
+updated k task on control =
+    cond (eqb k (kind Op.start)) (set control on 1)
+    (cond (eqb k (kind Op.join)) (set control on 2)
+    (cond (eqb k (kind Op.take)) (withHolder on (task + 1) control)
+    (cond (eqb k (kind Op.give)) (withHolder on 0 control)
+    (cond (eqb k (kind Op.owned)) (set control profileAt 1) control))))
+
 -- the table after an accepted record
-abbrev pub controlAfter : ℕ → ℕ → List ℕ → List ℕ
-controlAfter k on control =
-    cond (eqb k (kind Op.start)) (counted (set control on 1)) (cond (eqb k (kind Op.join)) (counted (set control on 2)) (counted control))
+abbrev pub controlAfter : ℕ → ℕ → ℕ → List ℕ → List ℕ
+controlAfter k task on control = counted (updated k task on control)

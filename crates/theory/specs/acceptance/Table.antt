@@ -1,16 +1,17 @@
--- Which records are accepted: rows 1 to 9 of the refusal table, over the recording so far.
+-- Which records are accepted: rows 1 to 9 and 14 to 16 of the refusal table, over the recording so far.
 use Prim.Native.Nat.{ℕ, zero, suc, _^_, _<_}
 use mathlib.Core.Bool.{Bool, true, false, cond, not, _&&_, _||_}
 use mathlib.Core.Path.{_≡_}
 use mathlib.Core.Logic.{_≢_}
 use mathlib.Core.List.{List, [], _∷_, _++_}
-use lib.Dec.{leb, eqb}
+use lib.Dec.{leb, ltb, eqb}
 use lib.ListN.{length}
 use Rattle.theory.specs.declared.record.Record.{Record}
 use Rattle.theory.specs.order.Limits.{tasks, records}
 use Rattle.theory.specs.tables.Turns.{turns}
-use Rattle.theory.specs.order.Recording.{Op, start, join, Effect, keeps, begins, ends, about, Event, act, lost, kind, kinds, lossMark, kindSeries, eventOf}
+use Rattle.theory.specs.order.Recording.{Op, take, give, start, join, owned, Effect, keeps, begins, ends, about, Event, act, lost, kind, kinds, lossMark, kindSeries, eventOf}
 use Rattle.theory.specs.fillings.Completion.{names}
+use Rattle.theory.specs.acceptance.Owning.{isSomebody, isBy, under, holder}
 
 -- a task is unseen until it is started, then live, then ended by a join
 pub data Phase : Type 0 where
@@ -56,11 +57,6 @@ pub record Proper (k task on : ℕ) : Type 0 where
   pub act-fits : k ≢ lossMark → Fitting k task on
   pub mark-names : k ≡ lossMark → 0 < on
 
--- a start and a join name a task
-pub record NamesTask (k on : ℕ) : Type 0 where
-  pub started : k ≡ kind start → on < tasks
-  pub joined : k ≡ kind join → on < tasks
-
 -- the record is a loss mark
 abbrev pub isMark : Record → Bool
 isMark r = eqb (r .kind) lossMark
@@ -76,11 +72,15 @@ hasKind r o = eqb (r .kind) (kind o)
 abbrev pub anyBelow : ℕ → (ℕ → Bool) → Bool
 anyBelow n p = turns n (λ k b. b || p k) false
 
--- what acceptance looks at: which tasks are live and unseen, and how many records are accepted already
+-- what acceptance looks at: which tasks are live and unseen, how many records are accepted already, whether the recording is under the profile, and
+-- then which semaphores are held, and by whom
 pub record Standing : Type 0 where
   pub live : ℕ → Bool
   pub unseen : ℕ → Bool
   pub count : ℕ
+  pub profile : Bool
+  pub held : ℕ → Bool
+  pub holds : ℕ → ℕ → Bool
 
 -- a row of the refusal table: its number, and whether it applies
 pub record Row : Type 0 where
@@ -112,11 +112,17 @@ rows s r =
     ∷ (8 when (hasKind r join && eqb (r .on) (r .task)))
     -- the joined task, or any one of the marked tasks, is not live
     ∷ (9 when ((hasKind r join && not (s .live (r .on))) || (isMark r && anyBelow tasks (λ t. names (r .on) t && not (s .live t)))))
+    -- `owned` once any record has been accepted
+    ∷ (14 when (hasKind r owned && ltb 0 (s .count)))
+    -- a loss mark under the profile
+    ∷ (15 when (isMark r && s .profile))
+    -- under it, a take of a held semaphore, or a give by a task that does not hold it
+    ∷ (16 when (s .profile && ((hasKind r take && s .held (r .on)) || (hasKind r give && not (s .holds (r .on) (r .task))))))
     ∷ []
 
 -- the highest number of a row
 abbrev pub lastRow : ℕ
-lastRow = 9
+lastRow = 16
 
 -- the number of the first row that applies; 0 where none does
 abbrev pub firstRow : List Row → ℕ
@@ -129,7 +135,15 @@ standingRefusal s r = firstRow (rows s r)
 
 -- after a recording
 abbrev pub standing : List Event → Standing
-standing es = record { live = λ t. isLive (phase es t); unseen = λ t. isUnseen (phase es t); count = length es }
+standing es =
+    record {
+      live = λ t. isLive (phase es t);
+      unseen = λ t. isUnseen (phase es t);
+      count = length es;
+      profile = under es;
+      held = λ s. isSomebody (holder es s);
+      holds = λ s t. isBy (holder es s) t;
+    }
 
 abbrev pub refusal : List Event → Record → ℕ
 refusal es r = standingRefusal (standing es) r

@@ -11,8 +11,9 @@ use Rattle.theory.specs.declared.answer.Answer.{Answer}
 use Rattle.theory.specs.declared.state.State.{State}
 use Rattle.theory.specs.declared.state.SetState.{SetState}
 use Rattle.theory.specs.order.Recording.{Event, act, lost, kind, kinds, lossMark, Unmarked, eventOf, accesses}
+use Rattle.theory.specs.acceptance.Owning.{OwnedFirst, KeepsProfile}
 use Rattle.theory.specs.acceptance.Table.{lastRow, refusal, appendUnless, recording}
-use Rattle.theory.specs.verdicts.Verdict.{Verdict, Race, Clear, AccessAt, Unordered, With}
+use Rattle.theory.specs.verdicts.Verdict.{Verdict, Race, Clear, Doubt, AccessAt, Unordered, With}
 use Rattle.theory.specs.verdicts.Demands.{Firm}
 use Rattle.theory.specs.verdicts.Search.{judge, isAccessEvent}
 use Rattle.theory.specs.acceptance.Control.{controlRefusal}
@@ -102,6 +103,15 @@ abbrev pub FedAcceptance : (List Record → List Answer) → Type 0
 FedAcceptance answers =
     (rs : List Record) → (recordedBy answers rs ≡ recording rs) × (map refusalNumber (map meaning (answers rs)) ≡ refusalsAfter [] rs)
 
+-- F-12: each accepted record keeps the profile
+abbrev pub FedProfile : (List Record → List Answer) → Type 0
+FedProfile answers =
+    (rs : List Record) (before : List Event) (e : Event) (after : List Event) → recordedBy answers rs ≡ before ++ (e ∷ after) → KeepsProfile before e
+
+-- "Loss marks are not allowed in it, so every verdict there is Race or Clear": no Doubt in a recording whose first record is `owned`
+abbrev pub FedOwned : (List Record → List Answer) → Type 0
+FedOwned answers = EachAccess answers (λ es k v w. OwnedFirst es → v ≢ Doubt)
+
 -- What is answered, in full: by the table of refusals and the search of verdicts/Search.antt over the recording so far
 
 abbrev pub acceptedAnswer : List Event → Event → Meaning
@@ -190,4 +200,6 @@ pub record Demanded (answers : List Record → List Answer) : Type 0 where
   pub demand3 : FedDemand3 answers
   pub partner : FedPartner answers
   pub acceptance : FedAcceptance answers
+  pub profile : FedProfile answers
+  pub owned : FedOwned answers
   pub examples : FedExamples answers

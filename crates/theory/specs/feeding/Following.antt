@@ -31,7 +31,7 @@ runOf refused control kept = record { refused = refused; control = control; kept
 abbrev pub followed : {S : Type 0} → (List ℕ → Record → S → S) → List ℕ → S → List Record → Run S
 followed next control s [] = runOf 0 control s
 followed next control s (r ∷ rs) =
-    elim (controlRefusal control r) [ zero ↦ followed next (controlAfter (r .kind) (r .on) control) (next control r s) rs | suc n ↦ runOf (suc n) control s ]
+    elim (controlRefusal control r) [ zero ↦ followed next (controlAfter (r .kind) (r .task) (r .on) control) (next control r s) rs | suc n ↦ runOf (suc n) control s ]
 
 -- who answers so: what it keeps at the start and after a record, by the record that ends the list; its answer with the number of a refusal, or
 -- with 0 where there is no access to answer for; and its answer for an access

@@ -72,7 +72,7 @@ accepted s r =
     record {
       state =
           record {
-            control = totalled (meaning (clockAnswer s r)) (r .on) (controlAfter (r .kind) (r .on) (s .control));
+            control = totalled (meaning (clockAnswer s r)) (r .on) (controlAfter (r .kind) (r .task) (r .on) (s .control));
             last = lastAfter (r .kind) (r .task) (r .on) (nextNumber (s .control)) (s .last);
             clocks = nextClocks arrived (r .kind) (r .task) (r .on) (nextNumber (s .control)) (s .clocks);
             fullclocks = nextClocks full (r .kind) (r .task) (r .on) (nextNumber (s .control)) (s .fullclocks);
@@ -98,7 +98,7 @@ setAccepted s r =
     record {
       state =
           record {
-            control = totalled (meaning (setAnswer s r)) (r .on) (controlAfter (r .kind) (r .on) (s .control));
+            control = totalled (meaning (setAnswer s r)) (r .on) (controlAfter (r .kind) (r .task) (r .on) (s .control));
             last = lastAfter (r .kind) (r .task) (r .on) (nextNumber (s .control)) (s .last);
             sets = nextSets arrived (r .kind) (r .task) (r .on) (s .sets);
             fullsets = nextSets full (r .kind) (r .task) (r .on) (s .fullsets);

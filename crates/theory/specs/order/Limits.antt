@@ -17,6 +17,10 @@ flags = 32
 abbrev pub variables : ℕ
 variables = 64
 
+-- the profiles that a recording can be put under: 0, that of owned semaphores, is the only one
+abbrev pub profiles : ℕ
+profiles = 1
+
 -- a recording has at most this many records
 abbrev pub records : ℕ
 records = 4_000_000

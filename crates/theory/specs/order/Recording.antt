@@ -4,12 +4,12 @@ use mathlib.Core.List.{List, [], _∷_}
 use mathlib.Core.Bool.{Bool, true, false, cond}
 use lib.Dec.{eqb}
 use lib.ListN.{getD}
-use Rattle.theory.specs.order.Limits.{tasks, semaphores, flags, variables}
+use Rattle.theory.specs.order.Limits.{tasks, semaphores, flags, variables, profiles}
 use Rattle.theory.specs.declared.record.Record.{Record}
 
 -- "op": what an acting task does. `lost` is no op of a task, see below.
 pub data Op : Type 0 where
-  read write take give look set start join fresh miss bump : Op
+  read write take give look set start join fresh miss bump owned : Op
 
 -- "record", one that says something: an act, with its op, its acting task and its number (`on`), or a loss mark, with its mask.
 -- A recording is a list of these, in the order in which they came. Record number n, counted from 1, stands at place n - 1 of the list.
@@ -63,6 +63,7 @@ about join = features 7 tasks no-access false ends
 about fresh = features 9 variables no-access false keeps
 about miss = features 10 semaphores no-access true keeps
 about bump = features 11 variables (access 2) false keeps
+about owned = features 12 profiles no-access false keeps
 
 abbrev pub kind : Op → ℕ
 kind o = (about o) .kind
@@ -89,7 +90,7 @@ abbrev pub kinds : List Kind
 kinds =
     of-op read ∷ of-op write ∷ of-op take ∷ of-op give ∷ of-op look ∷ of-op set ∷ of-op start ∷ of-op join
     ∷ of-mark
-    ∷ of-op fresh ∷ of-op miss ∷ of-op bump
+    ∷ of-op fresh ∷ of-op miss ∷ of-op bump ∷ of-op owned
     ∷ []
 
 abbrev pub numberedKind : ℕ → Kind

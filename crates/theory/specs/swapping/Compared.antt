@@ -2,15 +2,17 @@
 -- proofs/swapping proves it of the clocks and of the sets.
 use Prim.Native.Nat.{ℕ, zero, suc, _≤_, _<_}
 use mathlib.Core.Path.{_≡_}
-use mathlib.Core.Bool.{false, cond}
+use mathlib.Core.Bool.{true, false, cond}
 use mathlib.Core.List.{List, [], _∷_, map}
-use mathlib.Core.Option.{Option, none, Option·map}
+use mathlib.Core.Option.{Option, none, some, Option·map}
 use lib.ListN.{length, getElem?}
 use Rattle.theory.specs.declared.record.Record.{Record}
 use Rattle.theory.specs.declared.answer.Answer.{Answer}
 use Rattle.theory.specs.declared.state.State.{State}
 use Rattle.theory.specs.declared.excuse.Excuse.{Excuse}
 use Rattle.theory.specs.order.Limits.{variables, entries}
+use Rattle.theory.specs.order.Recording.{eventOf}
+use Rattle.theory.specs.acceptance.Owning.{isOwned}
 use Rattle.theory.specs.verdicts.Verdict.{Verdict, Race, Clear, Doubt}
 use Rattle.theory.specs.feeding.Meaning.{Meaning, refuses, takes, judges, meaning, isRefusal}
 use Rattle.theory.specs.feeding.Feeding.{Checker, runs, afterAll, byClocks}
@@ -67,6 +69,12 @@ pub record SameVerdicts (R : Record → Record → Type 0) (answers : List Recor
   -- "and each access has the same verdict and the same partner task": the line at place k stands, as it is, at the place that the record has come to
   pub same : {rs rs′ : List Record} (s : Swaps R rs rs′) → Accepted (map meaning (answers rs)) → (k : ℕ) →
       getElem? (lines answers rs′) (movedBy s k) ≡ getElem? (lines answers rs) k
+
+-- F-12, of an `owned`: "a swap as in F-11 never moves it". It stays at its place
+
+abbrev pub OwnedStays : (Record → Record → Type 0) → Type 0
+OwnedStays R =
+    (rs rs′ : List Record) (s : Swaps R rs rs′) (k : ℕ) (r : Record) → getElem? rs k ≡ some r → isOwned (eventOf r) ≡ true → movedBy s k ≡ k
 
 -- The totals of F-2, of a checker: the same for every variable, and so is whether there is a Race anywhere
 

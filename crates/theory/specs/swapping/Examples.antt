@@ -7,12 +7,12 @@ use mathlib.Core.List.{List, [], _∷_, _++_, map}
 use mathlib.Core.Option.{Option, none, some, Option·map}
 use lib.ListN.{getElem?}
 use Rattle.theory.specs.declared.record.Record.{Record}
-use Rattle.theory.specs.order.Recording.{read, write, take, give, look, set, start, join, fresh, miss, Event, act, lost}
+use Rattle.theory.specs.order.Recording.{read, write, take, give, look, set, start, join, fresh, miss, owned, Event, act, lost}
 use Rattle.theory.specs.verdicts.Verdict.{Race, Clear, Doubt}
 use Rattle.theory.specs.verdicts.Search.{Finding}
 use Rattle.theory.specs.verdicts.Examples.{_∶_with_, w0, w1, r0, r1, b0, b1}
 use Rattle.theory.specs.feeding.Feeding.{answersFrom, eventRecord, verdictsOf}
-use Rattle.theory.specs.swapping.Unrelated.{Premise, two-acts, actors-differ, names-no-actor, names-no-same, no-semaphore, no-flag, no-variable, Holds, Unrelated}
+use Rattle.theory.specs.swapping.Unrelated.{Premise, two-acts, actors-differ, names-no-actor, names-no-same, no-semaphore, no-flag, no-variable, none-owned, Holds, Unrelated, UnrelatedByMiss}
 use Rattle.theory.specs.swapping.Swaps.{Swapped, these, later, moved}
 use Rattle.theory.specs.swapping.Compared.{Accepted, Said, refused, taken, judged, linesOf}
 
@@ -65,9 +65,10 @@ abbrev pub AllChange : List Related → Type 0
 AllChange [] = Unit
 AllChange (x ∷ xs) = Changes x × AllChange xs
 
--- so each premise is needed
+-- so each premise is needed. But for `none-owned`: an accepted `owned` is the first record, and after it only task 0 is live, so that the record behind it
+-- is by the same task, and `actors-differ` fails as well (`OwnedMoved`)
 abbrev pub EachNeeded : Type 0
-EachNeeded = (q : Premise) → (x : Related) × (x .premise ≡ q) × Changes x
+EachNeeded = (q : Premise) → q ≢ none-owned → (x : Related) × (x .premise ≡ q) × Changes x
 
 abbrev pub row : Premise → List Event → Event → Event → List Event → ℕ → Said → Said → Related
 row q ahead e f behind k was becomes =
@@ -99,6 +100,8 @@ related =
     ∷ row names-no-same (act start 0 2 ∷ []) (act start 0 1) (act join 2 1) [] 2 taken (refused 9)
     -- a semaphore in common: a take acquires what was given before it
     ∷ row no-semaphore (act start 0 1 ∷ w0 ∷ []) (act give 0 4) (act take 1 4) (w1 ∷ []) 4 clear (race 0)
+    -- and under the profile it needs a free one
+    ∷ row no-semaphore (act owned 0 0 ∷ act start 0 1 ∷ act take 0 4 ∷ []) (act give 0 4) (act take 1 4) [] 4 taken (refused 16)
     -- a flag in common: a look acquires what was set before it
     ∷ row no-flag (act start 0 1 ∷ w0 ∷ []) (act set 0 3) (act look 1 3) (w1 ∷ []) 4 clear (race 0)
     -- a variable in common: of two writes the later one is a Race
@@ -139,8 +142,9 @@ unrelatedPairs =
     ∷ (w0 beside act write 1 6)
     -- a fresh and an access of another variable
     ∷ (act fresh 0 6 beside w1)
-    -- a give and a take of two semaphores, a set and a look of two flags, and a miss
+    -- a give and a take of two semaphores, two takes, a set and a look of two flags, and a miss
     ∷ (act give 0 4 beside act take 1 5)
+    ∷ (act take 1 4 beside act take 2 5)
     ∷ (act set 0 3 beside act look 1 4)
     ∷ (act give 0 4 beside act miss 1 5)
     -- a start and a join of two other tasks
@@ -152,6 +156,39 @@ unrelatedPairs =
     -- a variable that has the number of a task that acts
     ∷ (act write 0 1 beside act read 1 0)
     ∷ []
+
+-- and those of which one is a miss, with a semaphore in common
+
+abbrev pub AllMissed : List Pair → Type 0
+AllMissed [] = Unit
+AllMissed (x ∷ xs) = UnrelatedByMiss (x .one) (x .other) × AllMissed xs
+
+abbrev pub missedPairs : List Pair
+missedPairs =
+    (act give 1 3 beside act miss 2 3)
+    ∷ (act miss 2 4 beside act take 1 4)
+    ∷ []
+
+-- Under the profile (F-12) with semaphore 3 held by task 1, some of these: every record is accepted, in either order
+
+abbrev pub holding : List Event
+holding = act owned 0 0 ∷ act start 0 1 ∷ act start 0 2 ∷ act take 1 3 ∷ []
+
+pub record EitherOrder (x : Pair) : Type 0 where
+  pub logged : Accepted (answersFrom [] (map eventRecord (holding ++ (x .one ∷ (x .other ∷ [])))))
+  pub swapped : Accepted (answersFrom [] (map eventRecord (holding ++ (x .other ∷ (x .one ∷ [])))))
+
+pub record HeldPairs : Type 0 where
+  pub two-takes : EitherOrder (act take 1 4 beside act take 2 5)
+  pub give-take : EitherOrder (act give 1 3 beside act take 2 4)
+  pub give-miss : EitherOrder (act give 1 3 beside act miss 2 3)
+  pub miss-take : EitherOrder (act miss 2 4 beside act take 1 4)
+
+-- "a swap as in F-11 never moves it": once it is not the first record, an `owned` is refused
+
+pub record OwnedMoved : Type 0 where
+  pub before : saidAt (act owned 0 0 ∷ w0 ∷ []) 0 ≡ some taken
+  pub after : saidAt (w0 ∷ act owned 0 0 ∷ []) 1 ≡ some (refused 14)
 
 -- "Partner record numbers may shift": w0 and the write of variable 6 are unrelated, and the read's partner, w0, has number 2, or 3 once they are swapped
 

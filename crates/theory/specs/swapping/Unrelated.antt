@@ -6,11 +6,11 @@ use mathlib.Core.Logic.{_≢_}
 use mathlib.Core.List.{[], _∷_}
 use lib.Dec.{T}
 use Rattle.theory.specs.declared.record.Record.{Record}
-use Rattle.theory.specs.order.Recording.{Op, read, write, take, give, look, set, start, join, fresh, miss, bump, Event, act, eventOf, ActsIn, Unmarked, _is_}
+use Rattle.theory.specs.order.Recording.{Op, read, write, take, give, look, set, start, join, fresh, miss, bump, owned, Event, act, eventOf, ActsIn, Unmarked, _is_}
 
 -- the series that the number of an act is of: "Task numbers, semaphore numbers and variable numbers are separate series; so are flag numbers"
 pub data Series : Type 0 where
-  task semaphore flag variable : Series
+  task semaphore flag variable profile : Series
 
 abbrev pub seriesOf : Op → Series
 seriesOf read = variable
@@ -24,6 +24,7 @@ seriesOf join = task
 seriesOf fresh = variable
 seriesOf miss = semaphore
 seriesOf bump = variable
+seriesOf owned = profile
 
 -- the record is an act that names number n of the series
 pub data Names (x : Series) (n : ℕ) : Event → Type 0 where
@@ -38,7 +39,7 @@ pub data MayShare : Event → Event → Type 0 where
 
 -- the premises, by name, and what each says of two records
 pub data Premise : Type 0 where
-  two-acts actors-differ names-no-actor names-no-same no-semaphore no-flag no-variable : Premise
+  two-acts actors-differ names-no-actor names-no-same no-semaphore no-flag no-variable none-owned : Premise
 
 abbrev pub Holds : Premise → Event → Event → Type 0
 -- "neither is a loss mark"
@@ -55,6 +56,8 @@ Holds no-semaphore e f = (s : ℕ) → Names semaphore s e → ¬ Names semaphor
 Holds no-flag e f = (x : ℕ) → Names flag x e → ¬ Names flag x f
 -- "no .. variable in common, except two reads or two bumps"
 Holds no-variable e f = (v : ℕ) → Names variable v e → Names variable v f → MayShare e f
+-- "a swap as in F-11 never moves it": neither is an `owned`
+Holds none-owned e f = (n : ℕ) → (¬ Names profile n e) × (¬ Names profile n f)
 
 -- all of them
 pub record Unrelated (e f : Event) : Type 0 where

@@ -1,5 +1,5 @@
 -- The totals: for each variable how many accesses were Clear, Race and Doubt, and how many Races there were anywhere. They lie in the control table,
--- after the count of accepted records.
+-- after what acceptance looks at.
 use Prim.Native.Nat.{ℕ, _+_, _*_, _-_, _^_}
 use mathlib.Core.Bool.{Bool, true, false, cond}
 use mathlib.Core.List.{List}
@@ -7,13 +7,13 @@ use lib.Dec.{ltb}
 use lib.ListN.{getD, set}
 use Rattle.theory.specs.declared.verdict_totals.Totals.{Totals}
 use Rattle.theory.specs.order.Limits.{tasks, variables}
-use Rattle.theory.specs.acceptance.Control.{countAt}
+use Rattle.theory.specs.acceptance.Control.{acceptanceCells}
 use Rattle.theory.specs.verdicts.Verdict.{Verdict, Race, Clear, Doubt}
 use Rattle.theory.specs.feeding.Meaning.{Meaning, refuses, takes, judges}
 
 -- where the Races anywhere are counted
 abbrev pub racesAt : ℕ
-racesAt = countAt + 1
+racesAt = acceptanceCells
 
 -- where the verdicts w on variable v are
 abbrev pub firstTotal : ℕ

@@ -1,14 +1,32 @@
 -- The table that `controlAfter` gives, kind by kind.
+use native.Mathlib.Omega.{arith}
 use borrow.Author.Tests.{ne-eqb}
+use Rattle.theory.specs.order.Recording.{Op}
+use Rattle.theory.proofs.acceptance.Accepted.{fits-of}
 use borrow.Author.Needs.{needs}
 use Rattle.checker.proofs.control.note.Statement.{statement}
 use Rattle.checker.proofs.control.note.Tie as tie
 
 enter-requires : tie.Need-enter-requires
-enter-requires c κs = let p = c .before .before .pre in (p .0 .started (c .before .match .keys1), p .1)
+enter-requires c κs =
+    let p = c .before .before .pre in
+    let f = fits-of (p .0) Op.start (c .before .match .keys1) .on-fits in
+    (omega arith, λ q. omega arith, p .1)
 
 enter-requires-2 : tie.Need-enter-requires-2
-enter-requires-2 c κs = let p = c .before .before .pre in (p .0 .joined (c .before .match .keys2), p .1)
+enter-requires-2 c κs =
+    let p = c .before .before .pre in
+    let f = fits-of (p .0) Op.join (c .before .match .keys2) .on-fits in
+    (omega arith, λ q. omega arith, p .1)
+
+add-hand-over : tie.Need-add-hand-over
+add-hand-over c = let f = fits-of (c .before .before .pre .0) Op.take (c .before .match .keys3) .task-fits in omega arith
+
+hand-over-requires : tie.Need-hand-over-requires
+hand-over-requires c κs = let p = c .before .before .pre in (fits-of (p .0) Op.take (c .before .match .keys3) .on-fits, p .1)
+
+hand-over-requires-2 : tie.Need-hand-over-requires-2
+hand-over-requires-2 c κs = let p = c .before .before .pre in (fits-of (p .0) Op.give (c .before .match .keys4) .on-fits, p .1)
 
 returns : tie.Need-returns
 returns c = rw (c .before .before .match .keys1) (c .enter .ensures)
@@ -17,9 +35,20 @@ returns-2 : tie.Need-returns-2
 returns-2 c = rw (c .before .before .match .keys2) (c .enter2 .ensures)
 
 returns-3 : tie.Need-returns-3
-returns-3 c =
-    let rest = c .before .before .match .rest in
-    simp (ne-eqb _ _ (rest .0 .1), ne-eqb _ _ (rest .1)) (c .count .ensures)
+returns-3 c = rw (c .before .before .match .keys3) (c .hand-over .ensures)
+
+returns-4 : tie.Need-returns-4
+returns-4 c = rw (c .before .before .match .keys4) (c .hand-over2 .ensures)
+
+returns-5 : tie.Need-returns-5
+returns-5 c = rw (c .before .before .match .keys5) (c .enter3 .ensures)
+
+returns-6 : tie.Need-returns-6
+returns-6 c =
+    let r = c .before .before .match .rest in
+    simp (ne-eqb _ _ (r .0 .0 .0 .0 .1), ne-eqb _ _ (r .0 .0 .0 .1), ne-eqb _ _ (r .0 .0 .1), ne-eqb _ _ (r .0 .1), ne-eqb _ _ (r .1)) (c .count .ensures)
 
 pub note-spec : {M : Type 1} → statement M
-note-spec = tie.close (tie.spec enter-requires enter-requires-2 (λ c κs. search needs) returns returns-2 returns-3)
+note-spec = tie.close (tie.spec
+    enter-requires enter-requires-2 add-hand-over hand-over-requires hand-over-requires-2 (λ c κs. search needs) (λ c κs. search needs)
+    returns returns-2 returns-3 returns-4 returns-5 returns-6)

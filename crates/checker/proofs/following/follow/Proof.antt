@@ -6,7 +6,7 @@ use native.Mathlib.Omega.{arith}
 use lib.ListN.{take}
 use Rattle.theory.specs.feeding.Following.{followed, recordIn}
 use Rattle.theory.specs.lazy.Fold.{lazyOf, lazyAfter}
-use Rattle.theory.proofs.acceptance.Accepted.{Accepts, accepts, names-task}
+use Rattle.theory.proofs.acceptance.Accepted.{Accepts, accepts}
 use Rattle.theory.proofs.feeding.Listed.{Goes, goes-first, goes-out, goes-refused, goes-on}
 use Rattle.theory.proofs.lazy.Code.{Within, within-more}
 use borrow.Author.Needs.{needs}
@@ -35,7 +35,7 @@ accepted : (c : tie.Else1 Inv-loop μ-loop) → let at-record = c .before .befor
 accepted c = let at-record = c .before .before .before in accepts (at-record .before .before .loop .control) (at-record .record-at .result) _ (c .before .refusal .ensures) (c .if1 .left)
 
 note-requires : tie.Need-note-requires Inv-loop μ-loop
-note-requires c κs = let a = accepted (c .before) in (names-task (a .proper), a .room)
+note-requires c κs = let a = accepted (c .before) in (a .proper, a .room)
 
 follow-record-requires : tie.Need-follow-record-requires Inv-loop μ-loop
 follow-record-requires c κs =
@@ -54,7 +54,7 @@ loop-again c =
     let a = accepted at-if1 in
     let r = at-record .record-at in (
       search needs,
-      within-more (lazyOf (x .nodes) (x .counts) (x .kept)) (at-loop .before .args .q) (r .result) (x .inv .1) (names-task (a .proper)) (at-note .note .ensures) (c .follow-record .ensures),
+      within-more (lazyOf (x .nodes) (x .counts) (x .kept)) (at-loop .before .args .q) (r .result) (x .inv .1) (a .proper) (at-note .note .ensures) (c .follow-record .ensures),
       goes-on (x .inv .2) (at-record .before .loop-test .taken) (at-loop .before .pre .0) (r .ensures) (sym (at-if1 .before .refusal .ensures) ∙ at-if1 .if1 .left)
           (at-note .note .ensures) (c .follow-record .ensures),
     )

@@ -1,5 +1,6 @@
 -- Each test passed by leaves the rows after it; the last rows are those of a start and of a join.
 use mathlib.Core.Path.{_≡_, sym, _∙_}
+use mathlib.Core.Bool.{and-false, or-false}
 use Prim.Native.Nat.{ℕ, _<_}
 use lib.ListN.{drop}
 use borrow.Author.Tests.{leb-false, ne-eqb, not-true, not-false}
@@ -61,14 +62,32 @@ start-refusal-requires c κs = rw (c .match .keys1) at (inside (c .before .befor
 join-refusal-requires : tie.Need-join-refusal-requires
 join-refusal-requires c κs = rw (c .match .keys2) at (inside (c .before .before .before .before .before))
 
+take-refusal-requires : tie.Need-take-refusal-requires
+take-refusal-requires c κs = rw (c .match .keys3) at (inside (c .before .before .before .before .before))
+
+give-refusal-requires : tie.Need-give-refusal-requires
+give-refusal-requires c κs = let at-if2 = c .before .before .before .before .before in (rw (c .match .keys4) at (inside at-if2), acting (at-if2 .before .before))
+
 returns-5 : tie.Need-returns-5
-returns-5 c = c .start-refusal .ensures ∙ sym (past-4 (c .before .before) ∙ rw (c .before .match .keys1))
+returns-5 c = c .start-refusal .ensures ∙ sym (past-4 (c .before .before) ∙ simp (c .before .match .keys1, and-false))
 
 returns-6 : tie.Need-returns-6
-returns-6 c = c .join-refusal .ensures ∙ sym (past-4 (c .before .before) ∙ rw (c .before .match .keys2))
+returns-6 c = c .join-refusal .ensures ∙ sym (past-4 (c .before .before) ∙ simp (c .before .match .keys2, and-false))
 
 returns-7 : tie.Need-returns-7
-returns-7 c = sym (past-4 (c .before) ∙ rw (ne-eqb _ _ (c .match .rest .0 .1), ne-eqb _ _ (c .match .rest .1)))
+returns-7 c = c .take-refusal .ensures ∙ sym (past-4 (c .before .before) ∙ simp (c .before .match .keys3, or-false))
+
+returns-8 : tie.Need-returns-8
+returns-8 c = c .give-refusal .ensures ∙ sym (past-4 (c .before .before) ∙ rw (c .before .match .keys4))
+
+returns-9 : tie.Need-returns-9
+returns-9 c = c .owned-refusal .ensures ∙ sym (past-4 (c .before .before) ∙ simp (c .before .match .keys5, and-false))
+
+returns-10 : tie.Need-returns-10
+returns-10 c =
+    let r = c .match .rest in
+    sym (past-4 (c .before) ∙ simp (ne-eqb _ _ (r .0 .0 .0 .0 .1), ne-eqb _ _ (r .0 .0 .0 .1), ne-eqb _ _ (r .0 .0 .1), ne-eqb _ _ (r .0 .1), ne-eqb _ _ (r .1), and-false))
 
 pub act-refusal-spec : {M : Type 1} → statement M
-act-refusal-spec = tie.close (tie.spec (λ c κs. search needs) returns (λ c κs. search needs) returns-2 (λ c κs. search needs) returns-3 is-live-requires returns-4 start-refusal-requires join-refusal-requires returns-5 returns-6 returns-7)
+act-refusal-spec = tie.close (tie.spec (λ c κs. search needs) returns (λ c κs. search needs) returns-2 (λ c κs. search needs) returns-3 is-live-requires returns-4
+    start-refusal-requires join-refusal-requires take-refusal-requires give-refusal-requires (λ c κs. search needs) returns-5 returns-6 returns-7 returns-8 returns-9 returns-10)

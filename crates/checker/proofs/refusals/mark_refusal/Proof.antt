@@ -37,9 +37,12 @@ returns-3 : tie.Need-returns-3
 returns-3 c = sym (past-2 (c .before .before) ∙ rw (sym (c .before .names-any-dead .ensures) ∙ c .if3 .taken))
 
 returns-4 : tie.Need-returns-4
-returns-4 c = sym (past-3 c)
+returns-4 c = sym (past-3 (c .before .before) ∙ rw (sym (c .before .is-under .ensures) ∙ c .if4 .taken))
+
+returns-5 : tie.Need-returns-5
+returns-5 c = sym (past-3 (c .before .before) ∙ rw (sym (c .before .is-under .ensures) ∙ c .if4 .left))
 
 pub mark-refusal-spec : {M : Type 1} → statement M
 mark-refusal-spec =
     tie.close (tie.spec
-    (λ c κs. search needs) returns (λ c κs. search needs) returns-2 (λ c κs. search needs) returns-3 returns-4)
+    (λ c κs. search needs) returns (λ c κs. search needs) returns-2 (λ c κs. search needs) returns-3 (λ c κs. search needs) returns-4 returns-5)

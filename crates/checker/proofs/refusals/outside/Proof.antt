@@ -26,11 +26,14 @@ returns-7 : tie.Need-returns-7
 returns-7 c = rw (c .before .match .keys7) (c .no-task2 .ensures)
 
 returns-8 : tie.Need-returns-8
-returns-8 c = rw (series-else (c .before .before .args .kind) (search needs)) (c .no-variable .ensures)
+returns-8 c = rw (c .before .match .keys8) (c .no-profile .ensures)
+
+returns-9 : tie.Need-returns-9
+returns-9 c = rw (series-else (c .before .before .args .kind) (search needs)) (c .no-variable .ensures)
 
 pub outside-spec : {M : Type 1} → statement M
 outside-spec =
     tie.close (tie.spec
     (λ c κs. search needs) (λ c κs. search needs) (λ c κs. search needs) (λ c κs. search needs) (λ c κs. search needs)
-    (λ c κs. search needs) (λ c κs. search needs) (λ c κs. search needs)
-    returns returns-2 returns-3 returns-4 returns-5 returns-6 returns-7 returns-8)
+    (λ c κs. search needs) (λ c κs. search needs) (λ c κs. search needs) (λ c κs. search needs)
+    returns returns-2 returns-3 returns-4 returns-5 returns-6 returns-7 returns-8 returns-9)

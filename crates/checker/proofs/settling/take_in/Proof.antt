@@ -1,11 +1,10 @@
 -- It is counted, kept and passed on.
-use Rattle.theory.proofs.acceptance.Accepted.{names-task}
 use borrow.Author.Needs.{needs}
 use Rattle.checker.proofs.settling.take_in.Statement.{statement}
 use Rattle.checker.proofs.settling.take_in.Tie as tie
 
 note-requires : tie.Need-note-requires
-note-requires c κs = let p = c .before .before .pre in (names-task (p .0), p .1)
+note-requires c κs = c .before .before .pre
 
 returns : tie.Need-returns
 returns c =

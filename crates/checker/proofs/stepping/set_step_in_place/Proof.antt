@@ -7,7 +7,7 @@ use borrow.Author.Tests.{ne-eqb}
 use Rattle.theory.specs.order.Recording.{lossMark}
 use Rattle.theory.specs.acceptance.Control.{countIn}
 use Rattle.theory.specs.feeding.Step.{setStepOf}
-use Rattle.theory.proofs.acceptance.Accepted.{Accepts, accepts, names-task, set-refused}
+use Rattle.theory.proofs.acceptance.Accepted.{Accepts, accepts, set-refused}
 use Rattle.theory.proofs.history.Accesses.{kept-nowhere}
 use borrow.Author.Needs.{needs}
 use Rattle.checker.proofs.stepping.set_step_in_place.Statement.{statement}
@@ -25,7 +25,7 @@ add-t14 : tie.Need-add-t14
 add-t14 c = omega (arith, accepted (c .before) .room)
 
 note-requires : tie.Need-note-requires
-note-requires c κs = let a = accepted (c .before .before) in (names-task (a .proper), a .room)
+note-requires c κs = let a = accepted (c .before .before) in (a .proper, a .room)
 
 act-by-sets-requires : tie.Need-act-by-sets-requires
 act-by-sets-requires c κs =

@@ -1,0 +1,9 @@
+-- The short lists of F-12 get the refusals that stand with them: the table is computed. Assumes nothing.
+use mathlib.Core.Path.{refl}
+use Rattle.theory.specs.tables.Turns.{turns}
+use Rattle.theory.specs.acceptance.Table.{standingRefusal}
+use Rattle.theory.specs.acceptance.Examples.{AllGet, lists}
+
+pub all-get : AllGet lists
+unfolding turns standingRefusal
+all-get = refl

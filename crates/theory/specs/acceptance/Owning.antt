@@ -1,0 +1,65 @@
+-- F-12: the profile of owned semaphores. "A recording whose first record is `op=owned task=0 on=0` follows that profile: a take needs a free semaphore, a
+-- give needs its holder, and all are free at the start." The rows that say so are in Table.antt.
+use Prim.Native.Nat.{ℕ}
+use mathlib.Core.Path.{_≡_}
+use mathlib.Core.Bool.{Bool, true, false, cond, _||_}
+use mathlib.Core.List.{List, [], _∷_}
+use lib.Dec.{eqb}
+use Rattle.theory.specs.order.Recording.{Op, take, give, owned, Event, act, lost, _is_}
+
+-- the record puts the recording under the profile
+abbrev pub isOwned : Event → Bool
+isOwned (act o t n) = o is owned
+isOwned (lost mask) = false
+
+-- the recording is under the profile
+abbrev pub under : List Event → Bool
+under [] = false
+under (e ∷ es) = isOwned e || under es
+
+-- what came since: the records after the `owned`, and none where there is none
+abbrev pub since : List Event → List Event
+since [] = []
+since (e ∷ es) = cond (isOwned e) es (since es)
+
+-- a task, or nobody
+pub data Who : Type 0 where
+  nobody : Who
+  by : ℕ → Who
+
+abbrev pub isSomebody : Who → Bool
+isSomebody nobody = false
+isSomebody (by t) = true
+
+abbrev pub isBy : Who → ℕ → Bool
+isBy nobody u = false
+isBy (by t) u = eqb t u
+
+-- who holds semaphore s after an event, from who held it before: a take makes its task the holder, and a give frees the semaphore. Nothing else does,
+-- "A join does not free what the ended task held"
+abbrev pub nextHolder : Event → ℕ → Who → Who
+nextHolder (act o t n) s h = cond (eqb n s) (cond (o is take) (by t) (cond (o is give) nobody h)) h
+nextHolder (lost mask) s h = h
+
+abbrev pub laterHolder : Who → List Event → ℕ → Who
+laterHolder h [] s = h
+laterHolder h (e ∷ es) s = laterHolder (nextHolder e s h) es s
+
+-- "holder" of semaphore s after a recording: "all are free" where the profile begins
+abbrev pub holder : List Event → ℕ → Who
+holder es s = laterHolder nobody (since es) s
+
+-- "A recording whose first record is `op=owned`"
+pub data OwnedFirst : List Event → Type 0 where
+  owned-first : {t n : ℕ} {es : List Event} → OwnedFirst (act owned t n ∷ es)
+
+-- what the profile asks of an accepted record e, after those before it
+pub record KeepsProfile (es : List Event) (e : Event) : Type 0 where
+  -- `owned` is the first record
+  pub owned-first : isOwned e ≡ true → es ≡ []
+  -- "Loss marks are not allowed in it"
+  pub no-mark : (mask : ℕ) → e ≡ lost mask → under es ≡ false
+  -- "a take needs a free semaphore"
+  pub takes-free : (t s : ℕ) → e ≡ act take t s → under es ≡ true → holder es s ≡ nobody
+  -- "a give needs its holder"
+  pub gives-own : (t s : ℕ) → e ≡ act give t s → under es ≡ true → holder es s ≡ by t
