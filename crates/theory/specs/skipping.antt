@@ -1,1 +1,3 @@
+-- F-13: takes without clock work
 pub mod Skipping
+pub mod Demands

@@ -144,7 +144,7 @@ module _ (fs : List Fault) (fit : AllFit fs) (some : 0 < length fs) (few : lengt
 
   pub represents : Represents (recording rs) s
   unfolding freshState
-  represents = after-all clocks-simulate [] (startWith fs) rs (record { base = record { control-exact = start .exact fresh-control; history = fresh-base .history; ranged = fresh-base .ranged; seen = fresh-base .seen }; clocks = clocks-simulate .begins .clocks })
+  represents = after-all clocks-simulate [] (startWith fs) rs (record { base = record { control-exact = start .exact fresh-control; history = fresh-base .history; ranged = fresh-base .ranged; seen = fresh-base .seen; learnt = fresh-base .learnt }; clocks = clocks-simulate .begins .clocks })
 
   -- entries are as they were after any records
   all-kept : (rs : List Record) (z : State) (i : ℕ) → entriesAt ≤ i → getD ((afterAll byClocks z rs) .control) i 0 ≡ getD (z .control) i 0

@@ -1,13 +1,17 @@
 -- A take of a semaphore that its task gave last does to the clocks what a miss does: its own entry, and nothing else. Assumes nothing.
-use mathlib.Core.Path.{_≡_, refl, sym, _∙_, ap}
-use mathlib.Core.Bool.{Bool}
+use mathlib.Core.Path.{_≡_, refl, sym, _∙_, ap, subst}
+use mathlib.Core.Bool.{Bool, true, false, cond, _&&_}
 use mathlib.Core.List.{List}
 use Prim.Native.Nat.{ℕ, zero, suc, _+_, _*_, _≤_, _<_, max}
 use native.Mathlib.Omega.{arith}
-use lib.ListN.{length, set}
+use lib.ListN.{length}
 use lib.Seq.{set-getD}
 use Rattle.theory.specs.order.Limits.{tasks, semaphores}
-use Rattle.theory.specs.order.Recording.{Op, Event, kind}
+use Rattle.theory.specs.order.Recording.{Op, Event, kind, kindSeries}
+use Rattle.theory.specs.acceptance.Table.{Fitting}
+use Rattle.theory.specs.acceptance.Control.{gaveIn}
+use Rattle.theory.specs.skipping.Skipping.{giver}
+use Rattle.theory.specs.feeding.Step.{nextNumber, clockKind}
 use Rattle.theory.specs.fillings.Completion.{Filling, fills}
 use Rattle.theory.specs.tables.Turns.{turns}
 use Rattle.theory.specs.tables.Rows.{cell, taskRow, semaphoreRow, joinCell, joinRow, flow}
@@ -19,7 +23,9 @@ use Rattle.theory.proofs.tables.Rows.{Knows, same-max, join-self}
 use Rattle.theory.proofs.tables.Acts.{clock-own-same, clock-own-other}
 use Rattle.theory.proofs.tables.Nodes.{row, InRange, due-in, semaphore-in}
 use Rattle.theory.proofs.tables.ClockTables.{OfTask, Past, ExactClocks}
-use Rattle.theory.proofs.skipping.Learnt.{Had, Learnt}
+use Rattle.theory.proofs.acceptance.Keeping.{is-by}
+use Rattle.theory.proofs.acceptance.ControlTable.{ExactControl, gave-same}
+use Rattle.theory.proofs.skipping.Learnt.{Had, gave, Learnt}
 
 -- Joining a row that is nowhere above the other
 
@@ -88,3 +94,24 @@ module _ {w : Filling} {es : List Event} {b : List ℕ} (x : ExactClocks w es b)
 
       pub take-as-miss : nextClocks w (kind Op.miss) t s number b ≡ nextClocks w (kind Op.take) t s number b
       take-as-miss = flow-below tasks (fills w) (semaphoreRow s) t t (clockOwn t number b) own-below
+
+-- The kind that moves the clocks
+
+-- a take that the table says to be skipped is such, so that the clocks are the same if they are moved by the record's own kind
+module _ {w : Filling} {es : List Event} {control b : List ℕ} (c : ExactControl es control) (l : Learnt es) (x : ExactClocks w es b) where
+  pub skip-same : (k t n : ℕ) → Fitting k t n → nextClocks w (clockKind control k t n) t n (nextNumber control) b ≡ nextClocks w k t n (nextNumber control) b
+  skip-same k t n f = decided (equal k (kind Op.take))
+    where
+      number : nextNumber control ≡ suc (length es)
+      number = let e = c .count in omega arith
+
+      moved : ℕ → List ℕ
+      moved m = nextClocks w m t n (nextNumber control) b
+
+      by-giver : k ≡ kind Op.take → n < semaphores → (g : Bool) → gaveIn control n t ≡ g → moved (cond g (kind Op.miss) k) ≡ moved k
+      by-giver e h true q = take-as-miss x l (gave (is-by (giver es n) t (sym (gave-same c n t h) ∙ q))) h (f .task-fits) number ∙ sym (ap moved e)
+      by-giver e h false q = refl
+
+      decided : {a : Bool} → Reflects (k ≡ kind Op.take) a → moved (cond (a && gaveIn control n t) (kind Op.miss) k) ≡ moved k
+      decided (right e) = by-giver e (subst (λ (k : ℕ). n < kindSeries k) e (f .on-fits)) (gaveIn control n t) refl
+      decided (wrong _) = refl

@@ -1,49 +1,22 @@
 -- What has come to a semaphore has come to its holder's next act, and to that of the task that gave it last: so its last giver learns nothing by taking it
 -- again, whatever else it holds, and in any filling. Assumes nothing.
-use mathlib.Core.Path.{_≡_, refl, sym, _∙_, ap, subst}
-use mathlib.Core.Bool.{Bool, true, false, cond, _&&_, _||_, true≢false}
-use mathlib.Core.Logic.{_⊎_, inl, inr, ⊎-elim}
+use mathlib.Core.Path.{_≡_, refl, sym, _∙_}
+use mathlib.Core.Bool.{Bool, true, false, cond, true≢false}
+use mathlib.Core.Logic.{_⊎_, inl, inr}
 use mathlib.Core.List.{List, [], _∷_, _++_}
 use Prim.Native.Nat.{ℕ}
 use native.Mathlib.Omega.{arith}
-use lib.Dec.{eqb}
-use Rattle.theory.specs.order.Recording.{Op, take, give, Event, act, lost, kind, _is_}
+use Rattle.theory.specs.order.Recording.{Op, take, give, Event, act, lost}
 use Rattle.theory.specs.fillings.Completion.{Filling}
-use Rattle.theory.specs.acceptance.Owning.{isOwned, under, since, Who, nobody, by, nextHolder, laterWho, whoSince, holder, KeepsProfile}
+use Rattle.theory.specs.acceptance.Owning.{under, nobody, by, nextHolder, holder, KeepsProfile}
 use Rattle.theory.specs.skipping.Skipping.{nextGiver, giver}
-use Rattle.theory.proofs.basics.Reflects.{Reflects, right, wrong, equal, both}
+use Rattle.theory.proofs.basics.Reflects.{Reflects, right, wrong, equal}
+use Rattle.theory.proofs.acceptance.Owning.{who-snoc}
 use Rattle.theory.proofs.order.Ops.{same-op}
-use Rattle.theory.proofs.order.Carry.{Node, due, semaphore, Acquires, own, by-take, Releases, own-next, by-give}
+use Rattle.theory.proofs.order.Carry.{Node, due, semaphore, by-take, Releases, own-next, by-give}
 use Rattle.theory.proofs.order.Places.{Occurs, nowhere}
 use Rattle.theory.proofs.fillings.Reach.{Flow, Reach, reach-start, reach-next}
 use Rattle.theory.proofs.fillings.Came.{Snoc, old, new, occurs-snoc}
-
--- One more event
-
-later-snoc : (next : Event → ℕ → Who → Who) (h : Who) (es : List Event) (e : Event) (s : ℕ) → laterWho next h (es ++ (e ∷ [])) s ≡ next e s (laterWho next h es s)
-later-snoc next h [] e s = refl
-later-snoc next h (d ∷ es) e s = later-snoc next (next d s h) es e s
-
--- what came since the profile began: the record is among it under the profile only
-since-snoc : (es : List Event) (e : Event) → since (es ++ (e ∷ [])) ≡ cond (under es) (since es ++ (e ∷ [])) []
-since-snoc [] e = decided (isOwned e)
-  where
-    decided : (b : Bool) → cond b [] (since []) ≡ []
-    decided true = refl
-    decided false = refl
-since-snoc (d ∷ es) e = decided (isOwned d) (since-snoc es e)
-  where
-    decided : (b : Bool) → since (es ++ (e ∷ [])) ≡ cond (under es) (since es ++ (e ∷ [])) [] →
-        cond b (es ++ (e ∷ [])) (since (es ++ (e ∷ []))) ≡ cond (b || under es) (cond b es (since es) ++ (e ∷ [])) []
-    decided true q = refl
-    decided false q = q
-
-pub who-snoc : (next : Event → ℕ → Who → Who) (es : List Event) (e : Event) (s : ℕ) → whoSince next (es ++ (e ∷ [])) s ≡ cond (under es) (next e s (whoSince next es s)) nobody
-who-snoc next es e s = ap (λ (l : List Event). laterWho next nobody l s) (since-snoc es e) ∙ decided (under es)
-  where
-    decided : (b : Bool) → laterWho next nobody (cond b (since es ++ (e ∷ [])) []) s ≡ cond b (next e s (whoSince next es s)) nobody
-    decided true = later-snoc next nobody (since es) e s
-    decided false = refl
 
 -- Holders and last givers
 
@@ -81,11 +54,12 @@ cause {es} {o} {u} {n} {s} {t} q (holding k) = decided (equal n s) (same-op o ta
     decided (right m) (wrong _) (right p) k = absurd (nobody-by k)
     decided (right m) (wrong _) (wrong f) k = before (holding k) (λ x. f (x .1))
     decided (wrong f) _ _ k = before (holding k) (λ x. f (x .0))
-cause {es} {o} {u} {n} {s} {t} q (gave k) = decided (both (equal n s) (same-op o give)) (rw (who-snoc nextGiver es (act o u n) s, q) at k)
+cause {es} {o} {u} {n} {s} {t} q (gave k) = decided (equal n s) (same-op o give) (rw (who-snoc nextGiver es (act o u n) s, q) at k)
   where
-    decided : {a : Bool} → Reflects ((n ≡ s) × (o ≡ give)) a → cond a (by u) (giver es s) ≡ by t → Cause es o u n s t
-    decided (right (m, p)) k = gives m p (by-one k)
-    decided (wrong f) k = before (gave k) f
+    decided : {a b : Bool} → Reflects (n ≡ s) a → Reflects (o ≡ give) b → cond a (cond b (by u) (giver es s)) (giver es s) ≡ by t → Cause es o u n s t
+    decided (right m) (right p) k = gives m p (by-one k)
+    decided (right m) (wrong f) k = before (gave k) (λ x. f (x .1))
+    decided (wrong f) _ k = before (gave k) (λ x. f (x .0))
 
 -- What has come to the semaphore
 

@@ -28,7 +28,8 @@ use Rattle.theory.proofs.order.Ops.{event-act}
 use Rattle.theory.proofs.acceptance.Rows.{allowed}
 use Rattle.theory.proofs.acceptance.ControlTable.{ExactControl, same-refusal}
 use Rattle.theory.proofs.feeding.Simulation.{Shape, an-act, a-mark, shape-of, Simulates, Represents, RepresentsSets, clocks-simulate, sets-simulate}
-use Rattle.theory.proofs.totals.Moved.{Room, place-below, Moved, bool-false, moved-by}
+use Rattle.theory.proofs.tables.Counters.{Room}
+use Rattle.theory.proofs.totals.Moved.{place-below, Moved, bool-false, moved-by}
 
 -- Lists of records
 

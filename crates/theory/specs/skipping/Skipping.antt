@@ -10,7 +10,7 @@ use Rattle.theory.specs.tables.Reckonings.{indicator}
 
 -- who gave semaphore s last, after an event, from who did before
 abbrev pub nextGiver : Event → ℕ → Who → Who
-nextGiver (act o t n) s g = cond (eqb n s && o is give) (by t) g
+nextGiver (act o t n) s g = cond (eqb n s) (cond (o is give) (by t) g) g
 nextGiver (lost mask) s g = g
 
 -- "the last give of that semaphore", since the profile began: "Gives before it never count as the last give"
