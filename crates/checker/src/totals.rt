@@ -12,7 +12,8 @@ ghost use mathlib.Core.Path.{_≡_};
 ghost use Prim.Native.Nat.{_<_};
 ghost use Rattle.theory.specs.order.Limits.{variables};
 ghost use Rattle.theory.specs.feeding.Meaning.{meaning};
-ghost use Rattle.theory.specs.totals.Totals.{controlCells, totalsOf, anyRace, oneMore, raise, totalled};
+ghost use Rattle.theory.specs.tables.Counters.{oneMore, raise};
+ghost use Rattle.theory.specs.totals.Totals.{controlCells, totalsOf, anyRace, totalled};
 
 // The end of a counter's range.
 const LAST: u32 = 4_294_967_295;
