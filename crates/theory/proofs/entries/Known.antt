@@ -45,7 +45,7 @@ use Rattle.theory.proofs.acceptance.Rows.{ActAllowed}
 use Rattle.theory.proofs.acceptance.ControlTable.{fresh-control, same-refusal}
 use Rattle.theory.proofs.totals.Kept.{fresh-cell}
 use Rattle.theory.proofs.tables.Bits.{mask-none, mask-lowest}
-use Rattle.theory.proofs.feeding.Simulation.{Shape, an-act, a-mark, shape-of, Represents, fresh-base, after-all, clocks-simulate, same-step}
+use Rattle.theory.proofs.feeding.Simulation.{Shape, an-act, a-mark, shape-of, Represents, base-control, fresh-base, after-all, clocks-simulate, same-step}
 use Rattle.theory.proofs.feeding.Asked.{access-op}
 use Rattle.theory.proofs.lazy.Columns.{none-of-zero}
 use Rattle.theory.proofs.entries.Kept.{cell-kept}
@@ -146,7 +146,7 @@ module _ (fs : List Fault) (fit : AllFit fs) (some : 0 < length fs) (few : lengt
 
   pub represents : Represents (recording rs) s
   unfolding freshState
-  represents = after-all clocks-simulate [] (startWith fs) rs (record { base = record { control-exact = start .exact fresh-control; history = fresh-base .history; ranged = fresh-base .ranged; seen = fresh-base .seen; learnt = fresh-base .learnt }; clocks = clocks-simulate .begins .clocks })
+  represents = after-all clocks-simulate [] (startWith fs) rs (record { base = base-control fresh-base (start .exact fresh-control); clocks = clocks-simulate .begins .clocks })
 
   -- entries are as they were after any records
   all-kept : (rs : List Record) (z : State) (i : ℕ) → entriesAt ≤ i → getD ((afterAll byClocks z rs) .control) i 0 ≡ getD (z .control) i 0

@@ -203,9 +203,13 @@ set-answer {es} {control} {last} {sets} {fullsets} b x (an-act o t n a) = rw (ev
     decided (wrong l) = rw (other-tests o l, is-false {b = isAccess o} l, number)
 set-answer b x (a-mark t n m) = rw (next-number (b .control-exact))
 
+-- the same with another control table that is exact
+pub base-control : {es : List Event} {control after last : List ℕ} → Base es control last → ExactControl es after → Base es after last
+base-control b x = record { control-exact = x; history = b .history; ranged = b .ranged; seen = b .seen; learnt = b .learnt }
+
 -- a total that is raised changes nothing that the state holds of the recording
 base-totalled : {es : List Event} {control last : List ℕ} (m : Meaning) (v : ℕ) → Base es control last → Base es (totalled m v control) last
-base-totalled m v b = record { control-exact = exact-totalled m v (b .control-exact); history = b .history; ranged = b .ranged; seen = b .seen; learnt = b .learnt }
+base-totalled m v b = base-control b (exact-totalled m v (b .control-exact))
 
 -- One record
 
