@@ -1,5 +1,6 @@
--- The control table counts the skipped takes of the recording: of the clocks, and of the sets, which do not skip. Assumes nothing.
-use mathlib.Core.Path.{_≡_, refl, sym, _∙_, ap}
+-- The takes that are skipped are those of the recording, and the control table counts them: of the clocks, and of the sets, which do not skip.
+-- Assumes nothing.
+use mathlib.Core.Path.{_≡_, refl, sym, _∙_, ap, subst}
 use mathlib.Core.Bool.{Bool, true, false, cond, _&&_, _||_, and-false, or-assoc}
 use mathlib.Mathlib.Data.Bool.Basic.{or-eq-false-eq-eq-false-and-eq-false}
 use mathlib.Core.Logic.{_≢_}
@@ -11,10 +12,10 @@ use lib.ListN.{length, getD, set}
 use lib.Seq.{getD-set-other}
 use Rattle.theory.specs.declared.record.Record.{Record}
 use Rattle.theory.specs.order.Limits.{semaphores, records}
-use Rattle.theory.specs.order.Recording.{Op, Event, act, lost, kind, lossMark, eventOf, _is_}
+use Rattle.theory.specs.order.Recording.{Op, Event, act, lost, kind, kindSeries, lossMark, eventOf, _is_}
 use Rattle.theory.specs.acceptance.Owning.{isOwned, under, isBy}
 use Rattle.theory.specs.acceptance.Table.{Fitting, Proper, standing, refusal, appendUnless, extended, recording}
-use Rattle.theory.specs.acceptance.Control.{countAt, profileAt, underIn, holderAt, giverAt, gaveIn, skippedAt, skippedIn, takenBy, givenBy, counted, updated, controlAfter}
+use Rattle.theory.specs.acceptance.Control.{countAt, profileAt, underIn, holderAt, giverAt, gaveIn, skippedAt, skippedIn, skipsIn, takenBy, givenBy, counted, updated, controlAfter}
 use Rattle.theory.specs.verdicts.Verdict.{Verdict, Race, Clear, Doubt}
 use Rattle.theory.specs.tables.Reckonings.{indicator}
 use Rattle.theory.specs.tables.Counters.{raise}
@@ -23,7 +24,7 @@ use Rattle.theory.specs.feeding.Step.{freshControl, freshState, freshSet
 use Rattle.theory.specs.feeding.Feeding.{Checker, afterAll, byClocks, bySets, checkerRefusal}
 use Rattle.theory.specs.totals.Totals.{racesAt, totalAt, withVerdict, totalled}
 use Rattle.theory.specs.skipping.Skipping.{nextGiver, giver, skips, skippedFrom, skippedTakes}
-use Rattle.theory.specs.skipping.Demands.{CountsSkips, SkipsUnder}
+use Rattle.theory.specs.skipping.Demands.{SkipsThese, CountsSkips, SkipsUnder}
 use Rattle.theory.proofs.basics.Reflects.{Reflects, right, wrong, equal}
 use Rattle.theory.proofs.order.Ops.{no-mark, event-act}
 use Rattle.theory.proofs.tables.Counters.{Room, one-more, raise-same, raise-other}
@@ -31,8 +32,24 @@ use Rattle.theory.proofs.acceptance.Rows.{allowed}
 use Rattle.theory.proofs.acceptance.Accepted.{fits-of}
 use Rattle.theory.proofs.acceptance.Owning.{who-none}
 use Rattle.theory.proofs.acceptance.ControlTable.{ExactControl, gave-same, same-refusal}
-use Rattle.theory.proofs.feeding.Simulation.{Shape, an-act, a-mark, shape-of, Represents, RepresentsSets}
+use Rattle.theory.proofs.feeding.Simulation.{Shape, an-act, a-mark, shape-of, after-all, clocks-simulate}
 use Rattle.theory.proofs.totals.Kept.{Keeps, clocks-keep, sets-keep, fresh-cell}
+
+-- Which takes are skipped
+
+-- those that the recording says
+skips-same : {es : List Event} {control : List ℕ} {r : Record} → ExactControl es control → Shape es r → skipsIn control (r .kind) (r .task) (r .on) ≡ skips es (eventOf r)
+skips-same {es} {control} x (an-act o t n a) = rw (event-act o t n) (decided (equal (kind o) (kind Op.take)))
+  where
+    decided : {b : Bool} → Reflects (kind o ≡ kind Op.take) b → (b && gaveIn control n t) ≡ (b && isBy (giver es n) t)
+    decided (right q) = gave-same x n t (subst (λ (k : ℕ). n < kindSeries k) q (a .fits .on-fits))
+    decided (wrong d) = refl
+skips-same x (a-mark t n m) = refl
+
+pub clocks-skip-these : SkipsThese
+clocks-skip-these rs r e =
+    let x = after-all clocks-simulate [] freshState rs (clocks-simulate .begins) .base .control-exact in
+    ap (λ (b : Bool). cond b (kind Op.miss) (r .kind)) (skips-same x (shape-of (recording rs) r e))
 
 -- The count of a recording
 
