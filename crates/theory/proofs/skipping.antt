@@ -2,5 +2,6 @@
 pub mod Learnt
 pub mod Clocks
 pub mod Plain
+pub mod Code
 pub mod Counted
 pub mod Examples
