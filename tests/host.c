@@ -1,6 +1,6 @@
 /* A host program in C over the archives: document 01's example, row 11 at its edge, kept bytes, the empty text; then the same example fed
- * record by record to a running state and to the sets, and as a text in pieces, and its totals at each moment; a planner's entries before
- * it; lists for the lazy reckoning, and with home sets; the stack that calls need. */
+ * record by record to a running state and to the sets, and as a text in pieces, and its totals at each moment; a garage with owned semaphores;
+ * a planner's entries before it; lists for the lazy reckoning, and with home sets; the stack that calls need. */
 #include <stdio.h>
 #include <string.h>
 #include <ucontext.h>
@@ -114,6 +114,49 @@ static const struct fed refused[] = {
 };
 
 enum { RECORDS = sizeof example / sizeof example[0], REFUSED = sizeof refused / sizeof refused[0], BEHIND = 3 };
+
+/* A garage with owned semaphores: what is refused before the ORDER_OWNED does not make it late; then each of rows 14 to 16, and rows that go
+ * before them. */
+static const struct fed garage[] = {
+    {ORDER_OWNED, 1, 0, {ORDER_REFUSED, 6, 0}},
+    {ORDER_OWNED, 0, 1, {ORDER_REFUSED, 3, 0}},
+    {ORDER_OWNED, 16, 0, {ORDER_REFUSED, 2, 0}},
+    {ORDER_OWNED, 0, 0, {ORDER_ACCEPTED, 1, 0}},
+    {ORDER_OWNED, 0, 0, {ORDER_REFUSED, 14, 0}},
+    {ORDER_OWNED, 0, UINT32_MAX, {ORDER_REFUSED, 3, 0}},
+    {ORDER_START, 0, 1, {ORDER_ACCEPTED, 2, 0}},
+    {ORDER_OWNED, 1, 0, {ORDER_REFUSED, 14, 0}},
+    {ORDER_OWNED, 2, 0, {ORDER_REFUSED, 6, 0}},
+    {ORDER_GIVE, 0, 31, {ORDER_REFUSED, 16, 0}},
+    {ORDER_TAKE, 0, 31, {ORDER_ACCEPTED, 3, 0}},
+    {ORDER_TAKE, 0, 31, {ORDER_REFUSED, 16, 0}},
+    {ORDER_TAKE, 1, 31, {ORDER_REFUSED, 16, 0}},
+    {ORDER_GIVE, 1, 31, {ORDER_REFUSED, 16, 0}},
+    {ORDER_MISS, 1, 31, {ORDER_ACCEPTED, 4, 0}},
+    {ORDER_WRITE, 0, 5, {ORDER_CLEAR, 5, 0}},
+    {ORDER_LOST, 77, 3, {ORDER_REFUSED, 15, 0}},
+    {ORDER_LOST, 0, 0, {ORDER_REFUSED, 4, 0}},
+    {ORDER_LOST, 0, 4, {ORDER_REFUSED, 9, 0}},
+    {ORDER_READ, 1, 5, {ORDER_RACE, 6, 5}},
+    {ORDER_GIVE, 0, 31, {ORDER_ACCEPTED, 7, 0}},
+    {ORDER_TAKE, 1, 31, {ORDER_ACCEPTED, 8, 0}},
+    {ORDER_READ, 1, 5, {ORDER_CLEAR, 9, 0}},
+    {ORDER_TAKE, 1, 0, {ORDER_ACCEPTED, 10, 0}},
+    {ORDER_GIVE, 1, 31, {ORDER_ACCEPTED, 11, 0}},
+    {ORDER_TAKE, 1, 31, {ORDER_ACCEPTED, 12, 0}},
+    {ORDER_JOIN, 0, 1, {ORDER_ACCEPTED, 13, 0}},
+    {ORDER_TAKE, 0, 31, {ORDER_REFUSED, 16, 0}},
+    {ORDER_GIVE, 0, 0, {ORDER_REFUSED, 16, 0}},
+    {ORDER_GIVE, 1, 0, {ORDER_REFUSED, 6, 0}},
+    {ORDER_WRITE, 0, 5, {ORDER_CLEAR, 14, 0}},
+};
+
+/* Without an ORDER_OWNED first nothing of it holds: it comes too late. */
+static const struct fed late[] = {
+    {ORDER_START, 0, 1, {ORDER_ACCEPTED, 1, 0}},  {ORDER_OWNED, 0, 0, {ORDER_REFUSED, 14, 0}}, {ORDER_TAKE, 0, 3, {ORDER_ACCEPTED, 2, 0}},
+    {ORDER_TAKE, 1, 3, {ORDER_ACCEPTED, 3, 0}},   {ORDER_GIVE, 1, 4, {ORDER_ACCEPTED, 4, 0}},  {ORDER_WRITE, 0, 5, {ORDER_CLEAR, 5, 0}},
+    {ORDER_LOST, 0, 3, {ORDER_ACCEPTED, 6, 0}},   {ORDER_READ, 1, 5, {ORDER_DOUBT, 7, 5}},     {ORDER_OWNED, 1, 0, {ORDER_REFUSED, 14, 0}},
+};
 
 /* The clocks or the sets: their calls, and memory for two states and for a copy. */
 struct way {
@@ -240,6 +283,22 @@ static void run(const struct way *way) {
     same(way, "and the other is left alone", way->one, way->two);
 }
 
+/* Feeds such a list to a fresh state. What is refused leaves it as it was. */
+static void garage_is(const struct way *way, const struct fed *records, size_t count) {
+    way->begin(way->one);
+    for (size_t i = 0; i < count; i++) {
+        memcpy(way->copy, way->one, way->size);
+        feed(way, way->one, &records[i]);
+        if (records[i].answer[0] == ORDER_REFUSED) same(way, "a refused record of a garage changes nothing", way->one, way->copy);
+    }
+}
+
+static void garages(const struct way *way) {
+    garage_is(way, garage, sizeof garage / sizeof garage[0]);
+    check("a Race in the garage, and its two Clears after it", totals_are(way, way->one, 5, (const uint32_t[]){3, 1, 0}, 1));
+    garage_is(way, late, sizeof late / sizeof late[0]);
+}
+
 /* Totals at the end of their range stay there, also where a record is taken: the control table is the first of a state, and has the phase of
  * task 0 in its first cell and the count of records after the sixteen phases. */
 static void range_end(const struct way *way) {
@@ -273,11 +332,17 @@ static void one_bits(const struct way *way) {
 }
 
 /* However the records are fed, by the tables or to the whole state, the same answers and the same bytes of the state come of them. */
-static void layout(void) {
+static void layout(int owned) {
     static struct order_state one, two;
     order_state_begin(&one);
     order_state_begin(&two);
     int same_state = 1;
+    if (owned) {
+        uint32_t a[3], b[3];
+        order_state_feed(&one, ORDER_OWNED, 0, 0, a);
+        order_step(&two, ORDER_OWNED, 0, 0, b);
+        same_state = a[0] == ORDER_ACCEPTED && b[0] == ORDER_ACCEPTED && memcmp(&one, &two, sizeof one) == 0;
+    }
     for (uint32_t i = 0; i < 2000; i++) {
         uint32_t a[3], b[3], x = i * 2654435761u;
         uint8_t kind = (uint8_t)(i < 15 ? ORDER_START : (x >> 28) % (ORDER_LOST + 1));
@@ -299,6 +364,7 @@ static void states(void) {
                                {"sets", begin_sets, feed_sets, totals_sets, any_race_sets, sizeof sets[0], &sets[0], &sets[1], &sets[2]}};
     for (size_t i = 0; i < sizeof ways / sizeof ways[0]; i++) {
         run(&ways[i]);
+        garages(&ways[i]);
         range_end(&ways[i]);
         one_bits(&ways[i]);
     }
@@ -649,6 +715,15 @@ static const struct list lists[] = {
      {{ORDER_START, 0, 1}, {ORDER_WRITE, 0, 5}, {ORDER_GIVE, 0, 2}, {ORDER_FRESH, 1, 5}, {ORDER_WRITE, 1, 5}},
      {0, 0, 0, 0}},
     {"no access ends it", 4, {{ORDER_START, 0, 1}, {ORDER_WRITE, 0, 5}, {ORDER_GIVE, 0, 2}, {ORDER_TAKE, 1, 2}}, {0, 0, 0, 0}},
+    {"owned semaphores",
+     7,
+     {{ORDER_OWNED, 0, 0}, {ORDER_START, 0, 1}, {ORDER_TAKE, 0, 2}, {ORDER_WRITE, 0, 5}, {ORDER_GIVE, 0, 2}, {ORDER_TAKE, 1, 2}, {ORDER_READ, 1, 5}},
+     {0, 1, 1, 2}},
+    {"an owned ends it", 1, {{ORDER_OWNED, 0, 0}}, {0, 0, 0, 0}},
+    {"a late owned", 2, {{ORDER_READ, 0, 5}, {ORDER_OWNED, 0, 0}}, {14, 0, 0, 0}},
+    {"a mark among owned semaphores", 3, {{ORDER_OWNED, 0, 0}, {ORDER_LOST, 0, 1}, {ORDER_READ, 0, 5}}, {15, 0, 0, 0}},
+    {"a give by a task that holds nothing", 3, {{ORDER_OWNED, 0, 0}, {ORDER_GIVE, 0, 1}, {ORDER_READ, 0, 5}}, {16, 0, 0, 0}},
+    {"a take of a held semaphore", 4, {{ORDER_OWNED, 0, 0}, {ORDER_TAKE, 0, 1}, {ORDER_TAKE, 0, 1}, {ORDER_READ, 0, 5}}, {16, 0, 0, 0}},
     {"a kind past a byte", 3, {{ORDER_START, 0, 1}, {ORDER_WRITE + 256, 0, 5}, {ORDER_READ, 1, 5}}, {1, 0, 0, 0}},
     {"the first refused counts", 4, {{ORDER_READ, 0, 5}, {ORDER_READ, 16, 64}, {ORDER_LOST, 0, 0}, {ORDER_READ, 0, 5}}, {2, 0, 0, 0}},
     {"refused at the end", 3, {{ORDER_START, 0, 1}, {ORDER_WRITE, 0, 5}, {ORDER_READ, 2, UINT32_MAX}}, {3, 0, 0, 0}},
@@ -734,6 +809,16 @@ static const struct question questions[] = {
     {"a mark ends it", 3, {{ORDER_START, 0, 1}, {ORDER_WRITE, 0, 5}, {ORDER_LOST, 0, 3}}, 3, {0, ORDER_NEITHER}},
     {"a kind past a byte", 3, {{ORDER_START, 0, 1}, {ORDER_WRITE + 256, 0, 5}, {ORDER_READ, 1, 5}}, 3, {1, ORDER_NEITHER}},
     {"a kind past a byte at the end", 2, {{ORDER_START, 0, 1}, {UINT32_MAX, 0, 5}}, 3, {1, ORDER_NEITHER}},
+    {"owned semaphores, a Clear",
+     7,
+     {{ORDER_OWNED, 0, 0}, {ORDER_START, 0, 1}, {ORDER_TAKE, 0, 2}, {ORDER_WRITE, 0, 5}, {ORDER_GIVE, 0, 2}, {ORDER_TAKE, 1, 2}, {ORDER_READ, 1, 5}},
+     0,
+     {0, ORDER_YES}},
+    {"owned semaphores, a Race", 4, {{ORDER_OWNED, 0, 0}, {ORDER_START, 0, 1}, {ORDER_WRITE, 0, 5}, {ORDER_READ, 1, 5}}, 3, {0, ORDER_NO}},
+    {"an owned ends it", 1, {{ORDER_OWNED, 0, 0}}, 1, {0, ORDER_NEITHER}},
+    {"a late owned", 2, {{ORDER_READ, 0, 5}, {ORDER_OWNED, 0, 0}}, 1, {14, ORDER_NEITHER}},
+    {"a mark among owned semaphores", 3, {{ORDER_OWNED, 0, 0}, {ORDER_LOST, 0, 1}, {ORDER_READ, 0, 5}}, 1, {15, ORDER_NEITHER}},
+    {"a give by a task that holds nothing", 3, {{ORDER_OWNED, 0, 0}, {ORDER_GIVE, 0, 1}, {ORDER_READ, 0, 5}}, 1, {16, ORDER_NEITHER}},
     {"a task past the last", 2, {{ORDER_START, 0, 1}, {ORDER_READ, 16, 5}}, UINT16_MAX, {2, ORDER_NEITHER}},
     {"a task of many bits at the end", 1, {{ORDER_READ, UINT32_MAX, 5}}, 1, {2, ORDER_NEITHER}},
     {"a variable past the last", 1, {{ORDER_BUMP, 0, 64}}, 1, {3, ORDER_NEITHER}},
@@ -760,23 +845,33 @@ static void settled(void) {
     }
 }
 
-/* All kinds of records, each verdict, and lines that are refused. */
+/* All kinds of records, each verdict, and lines that are refused; the same in a garage with owned semaphores. */
 static const char every[] = "op=start task=0 on=1\nop=start task=0 on=2\nop=write task=0 on=5\nop=read task=1 on=5\nop=give task=0 on=2\n"
                             "op=take task=1 on=2\nop=bump task=1 on=5\nop=set task=1 on=3\nop=look task=2 on=3\nop=miss task=2 on=4\n"
                             "op=fresh task=2 on=6\nop=write task=1 on=6\nop=lost tasks=7\nop=write task=0 on=6\nop=join task=0 on=2\n"
                             "op=read task=2 on=5\nop=read task=0 on=99999\nop=lost tasks=65535\n\nop=read task=0 on=5 \n";
 
-enum { EVERY = sizeof every - 1 };
+static const char owned[] = "op=owned task=0 on=0\nop=start task=0 on=1\nop=take task=0 on=2\nop=write task=0 on=5\nop=take task=1 on=2\n"
+                            "op=give task=1 on=2\nop=miss task=1 on=2\nop=read task=1 on=5\nop=give task=0 on=2\nop=take task=1 on=2\n"
+                            "op=bump task=1 on=5\nop=lost tasks=3\nop=owned task=1 on=0\nop=join task=0 on=1\nop=take task=0 on=2\n";
+
+enum { EVERY = sizeof every - 1, OWNED = sizeof owned - 1 };
 
 static void stacked_report(void) {
     static uint8_t out[64 * EVERY];
     check("a report on a stack of its own", report_of(every, EVERY, out, sizeof out) <= sizeof out);
+    check("and one of a garage", report_of(owned, OWNED, out, sizeof out) <= sizeof out);
 }
 
 static void stacked_piece(void) {
     static uint8_t out[64 * EVERY];
     check("a piece on a stack of its own", order_text_piece(&cut.kept, (const uint8_t *)every, EVERY, out, sizeof out) <= sizeof out);
+    order_text_begin(&cut.kept);
+    check("and one of a garage", order_text_piece(&cut.kept, (const uint8_t *)owned, OWNED, out, sizeof out) <= sizeof out);
 }
+
+static const uint32_t stacked_garage[][3] = {{ORDER_OWNED, 0, 0}, {ORDER_START, 0, 1}, {ORDER_TAKE, 0, 2}, {ORDER_WRITE, 0, 5}, {ORDER_GIVE, 0, 2},
+                                             {ORDER_TAKE, 1, 2},  {ORDER_MISS, 0, 2},  {ORDER_BUMP, 1, 5}, {ORDER_READ, 0, 5}};
 
 static void stacked_lazy(void) {
     static const uint32_t list[][3] = {{ORDER_START, 0, 1}, {ORDER_WRITE, 0, 5}, {ORDER_BUMP, 1, 5},  {ORDER_LOST, 0, 3},
@@ -784,6 +879,8 @@ static void stacked_lazy(void) {
     uint64_t answer[4];
     order_lazy(list, sizeof list / sizeof list[0], answer);
     check("a list on a stack of its own", answer[0] == 0);
+    order_lazy(stacked_garage, sizeof stacked_garage / sizeof stacked_garage[0], answer);
+    check("and one of a garage", answer[0] == 0);
 }
 
 static void stacked_settle(void) {
@@ -793,6 +890,8 @@ static void stacked_settle(void) {
     uint32_t answer[2];
     order_settle(list, sizeof list / sizeof list[0], 3, answer);
     check("a list and a home set on a stack of its own", answer[0] == 0 && answer[1] != ORDER_NEITHER);
+    order_settle(stacked_garage, sizeof stacked_garage / sizeof stacked_garage[0], 3, answer);
+    check("and one of a garage", answer[0] == 0 && answer[1] != ORDER_NEITHER);
 }
 
 /* A call needs less stack than the header promises: it is made on a stack of its own, and the lowest byte that it changed is looked for. */
@@ -825,7 +924,8 @@ int main(void) {
     whole_texts();
     row_11();
     states();
-    layout();
+    layout(0);
+    layout(1);
     pieces(TEXT);
     pieces(TEXT - 1);
     text_totals();

@@ -1,7 +1,7 @@
 //! Bad input at scale: random bytes, cut and spoilt texts, every length of report memory, and texts of megabytes.
 
 use crate::cuts::{Cuts, WAYS};
-use crate::generate::{self, Random, Shape};
+use crate::generate::{self, Profile, Random, Shape};
 use crate::oracle::{self, Fate, Judged, Record, Verdict, RECORD_DIGITS};
 use crate::{entry, feeding, program, streaming, tally::Tally};
 
@@ -151,9 +151,11 @@ fn judged(recording: &[Record], report: &[u8]) -> Vec<Judged> {
 /// Recordings with all kinds of records, marks and damage, and more records than 16 bits can count. They are too long for the search, so the
 /// running state and the sets are held against the entry.
 fn long_texts(tally: &mut Tally, order: Option<&str>) {
-    for (seed, (stray, damage)) in [(0, 0), (10, 10), (30, 40)].into_iter().enumerate() {
-        let shape =
-            Shape { length: 120_000, tasks: 16, variables: 64, objects: 32, marks: 5, named: usize::MAX, idle: 30, stay: 0, stray, damage };
+    let profile = Some(Profile { wrong: 10 });
+    let kinds = [(5, 0, 0, None), (5, 10, 10, None), (5, 30, 40, None), (0, 0, 0, profile), (1, 10, 10, profile)];
+    for (seed, (marks, stray, damage, owned)) in kinds.into_iter().enumerate() {
+        let (length, tasks, variables, objects, named) = (120_000, 16, 64, 32, usize::MAX);
+        let shape = Shape { length, tasks, variables, objects, marks, named, idle: 30, stay: 0, stray, damage, owned };
         let text = generate::recording(&mut Random::new(seed as u64), &shape);
         large(tally, order, &format!("long, {seed}"), &text, &|got| orderly(&text, got));
         let reading = oracle::read(&text);

@@ -5,7 +5,7 @@
 use crate::cuts::{pieces, Cuts, WAYS};
 use crate::examples::text;
 use crate::feeding::{self, Lent, Numbers, Reckoning, BOTH};
-use crate::generate::{recording, shape, Random, Shape};
+use crate::generate::{owned_shape, recording, shape, Random, Shape};
 use crate::oracle::{self, Fate, Totals, Verdict, LIMIT};
 use crate::program::{self, ended, feed, start};
 use crate::streaming::{of_records, Kept};
@@ -46,6 +46,10 @@ const AFTER: &[(&str, u32)] = &[
     ("op=give task=0 on=4", 5),
     ("op=fresh task=0 on=5", 5),
     ("op=miss task=0 on=0", 5),
+    ("op=owned task=0 on=0", 5),
+    ("op=owned task=9 on=0", 5),
+    ("op=owned task=0 on=1", 3),
+    ("op=owned task=16 on=0", 2),
     ("", 1),
     ("op=read task=0 on=1", 5),
 ];
@@ -331,14 +335,17 @@ const RECORDINGS: u64 = 200;
 /// So many of them are given to the entry and to the program.
 const WHOLE: u64 = 2;
 
-/// Recordings of all kinds of records, marks and damage, after so many acts of task 0 that the limit comes while they are under way.
-fn run_met(tally: &mut Tally, order: Option<&str>) {
+/// Recordings of all kinds of records, marks and damage, after so many acts of task 0 that the limit comes while they are under way. Where the
+/// first of them is an `owned`, the recordings are under the profile, and rows 14 to 16 are behind row 5.
+fn run_met(tally: &mut Tally, order: Option<&str>, owned: bool) {
     let before = LIMIT - LEFT;
-    let pad = text(PAD);
-    let (mut acts, act) = (pad.repeat(before), feeding::records(&pad)[0]);
+    let (pad, first) = (text(PAD), text(if owned { "owned 0 0" } else { PAD }));
+    let (mut acts, act) = ([&first[..], &pad.repeat(before - 1)].concat(), feeding::records(&pad)[0]);
+    let length = acts.len();
     let states = BOTH.each_ref().map(|by| {
         let mut lent = Lent::fresh(by)?;
-        (0..before).try_for_each(|_| lent.feed(act, false).map(|_| ()))?;
+        lent.feed(feeding::records(&first)[0], false)?;
+        (1..before).try_for_each(|_| lent.feed(act, false).map(|_| ()))?;
         Ok(lent)
     });
     let kept = Kept::begun().and_then(|mut kept| {
@@ -346,15 +353,15 @@ fn run_met(tally: &mut Tally, order: Option<&str>) {
         wrote.is_empty().then_some(kept).ok_or("acts that are no accesses get a line".to_string())
     });
     for seed in 0..RECORDINGS {
-        let mut random = Random::new(6_000_000 + seed);
-        let shape = shape(&mut random);
+        let mut random = Random::new(6_000_000 + seed + 100_000 * owned as u64);
+        let shape = if owned { owned_shape(&mut random) } else { shape(&mut random) };
         let text = recording(&mut random, &Shape { length: LEFT / 2 + shape.length, ..shape });
-        let reading = oracle::read_after(before, &text);
+        let reading = oracle::read_after(before, owned, &text);
         let judged = oracle::judge(&reading.recording);
         let report = oracle::report(&reading, &judged);
         let past = reading.fates.iter().filter(|fate| **fate == Fate::Refused(5)).count();
         tally.see("refused 5", past);
-        let name = format!("recording {seed} at the limit");
+        let name = format!("recording {seed} at the limit{}", if owned { ", under the profile" } else { "" });
         for state in &states {
             feeding::expect_from(tally, &name, state, &feeding::records(&text), &reading, &judged);
         }
@@ -362,7 +369,7 @@ fn run_met(tally: &mut Tally, order: Option<&str>) {
         let answer = kept.clone().and_then(|mut kept| kept.text(of_records, &text, cuts));
         tally.expect(&format!("pieces, {name}, cut {cuts:?}"), &text, &report, answer);
         if seed < WHOLE {
-            acts.truncate(before * pad.len());
+            acts.truncate(length);
             acts.extend(&text);
             tally.expect(&format!("entry, {name}"), &text, &report, entry::report(&acts, 0));
             if let Some(order) = order {
@@ -372,9 +379,40 @@ fn run_met(tally: &mut Tally, order: Option<&str>) {
     }
 }
 
+/// The last record under the profile and what comes after it: row 5 goes before rows 14, 15 and 16, and nobody's holding is forgotten by then.
+fn run_owned(tally: &mut Tally, order: Option<&str>) {
+    let (head, tail) =
+        ("owned 0 0, start 0 1, take 0 31, take 1 0", "take 1 31, give 1 31, lost 3, owned 0 0, give 1 0, take 0 0, give 0 31");
+    let after = "take 1 31, give 0 31, give 1 31, take 0 1, lost 3, owned 0 0, lost 0, lost 4, take 0 32, take 16 0, owned 0 1, miss 0 0";
+    let rows = [Some(16), Some(16), Some(15), Some(14), None, None, None];
+    let rows_after = [5, 5, 5, 5, 5, 5, 4, 5, 3, 2, 3, 5];
+    let accepted = LIMIT - rows.iter().filter(|row| row.is_none()).count();
+    let mut whole = text(head);
+    let mut lines = head.split(", ").count();
+    whole.extend(text(PAD).repeat(accepted - lines));
+    lines = accepted;
+    let mut report = String::new();
+    for row in rows.into_iter().chain(rows_after.map(Some)) {
+        lines += 1;
+        report += &row.map_or(String::new(), |row| format!("line={lines} refused={row}\n"));
+    }
+    whole.extend(text(&format!("{tail}, {after}")));
+    let right = entry::report(&whole, 0).and_then(|got| same(&got, report.as_bytes()));
+    tally.check(right.is_ok(), || format!("entry, under the profile at the limit: {}", right.unwrap_err()));
+    let right = Kept::begun().and_then(|mut kept| by_pieces(&mut kept, &whole)).and_then(|got| same(&got, report.as_bytes()));
+    tally.check(right.is_ok(), || format!("pieces, under the profile at the limit: {}", right.unwrap_err()));
+    if let Some(order) = order {
+        let right = program::report(order, &whole, Cuts::Nowhere).and_then(|got| same(&got, report.as_bytes()));
+        tally.check(right.is_ok(), || format!("program, under the profile at the limit: {}", right.unwrap_err()));
+    }
+}
+
 pub fn run(tally: &mut Tally, order: Option<&str>, totals: Option<&str>) {
     run_long(tally, order, totals);
     tally.part("as many records as may be");
-    run_met(tally, order);
+    run_met(tally, order, false);
     tally.part("recordings that meet the limit");
+    run_met(tally, order, true);
+    run_owned(tally, order);
+    tally.part("recordings under the profile that meet the limit");
 }

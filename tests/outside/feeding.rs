@@ -1,4 +1,4 @@
-//! The running state and the sets, fed without text, in lent tables with guard cells on both sides.
+//! The running state, by its tables and whole, and the sets, fed without text, in lent tables with guard cells on both sides.
 
 use crate::oracle::{self, Act, Judged, Reading, Record, Totals, VARIABLES};
 use crate::tally::Tally;
@@ -37,21 +37,44 @@ extern "C" {
         on: u32,
         answer: *mut u32,
     );
+    fn order_step(state: *mut u32, kind: u8, task: u32, on: u32, answer: *mut u32);
     fn order_totals(control: *const u32, variable: u32, totals: *mut u32) -> u32;
     fn order_any_race(control: *const u32) -> u32;
 }
 
-/// One of the two reckonings: how large its tables are, and its calls.
+/// The whole state is lent by its first cell, and its tables follow each other.
+unsafe extern "C" fn step(
+    control: *mut u32,
+    _last: *mut u32,
+    _clocks: *mut u32,
+    _fullclocks: *mut u32,
+    kind: u8,
+    task: u32,
+    on: u32,
+    answer: *mut u32,
+) {
+    order_step(control, kind, task, on, answer)
+}
+
+/// One of the reckonings: how large its tables are, how many guard cells stand before each and after the last, and its calls.
 pub struct Reckoning {
     pub name: &'static str,
     sizes: [usize; 4],
+    guards: [usize; 5],
     begin: Begin,
     feed: Feed,
 }
 
-pub const CLOCKS: Reckoning = Reckoning { name: "clocks", sizes: [1235, 3072, 1312, 1312], begin: order_begin, feed: order_feed };
-pub const SETS: Reckoning = Reckoning { name: "sets", sizes: [1235, 3072, 7872, 7872], begin: order_sets_begin, feed: order_sets_feed };
+const CONTROL: usize = 1268;
+pub const CLOCKS: Reckoning =
+    Reckoning { name: "clocks", sizes: [CONTROL, 3072, 1312, 1312], guards: [GUARD; 5], begin: order_begin, feed: order_feed };
+pub const SETS: Reckoning =
+    Reckoning { name: "sets", sizes: [CONTROL, 3072, 7872, 7872], guards: [GUARD; 5], begin: order_sets_begin, feed: order_sets_feed };
+const WHOLE: Reckoning = Reckoning { name: "whole state", guards: [GUARD, 0, 0, 0, GUARD], feed: step, ..CLOCKS };
+/// The clocks and the sets.
 pub const BOTH: [Reckoning; 2] = [CLOCKS, SETS];
+/// The same, and the clocks once more, as a whole state.
+pub const ALL: [Reckoning; 3] = [CLOCKS, SETS, WHOLE];
 
 /// A state in one piece of memory, a guard before, between and after its tables.
 #[derive(Clone)]
@@ -63,10 +86,10 @@ pub struct Lent<'a> {
 impl Lent<'_> {
     /// Tables that hold these numbers.
     pub fn holding(by: &Reckoning, mut cell: impl FnMut() -> u32) -> Lent<'_> {
-        let mut memory = vec![FILL; GUARD];
-        for size in by.sizes {
+        let mut memory = vec![FILL; by.guards[0]];
+        for (size, guard) in by.sizes.into_iter().zip(&by.guards[1..]) {
             memory.extend((0..size).map(|_| cell()));
-            memory.extend([FILL; GUARD]);
+            memory.resize(memory.len() + guard, FILL);
         }
         Lent { by, memory }
     }
@@ -82,19 +105,19 @@ impl Lent<'_> {
 
     pub fn tables(&mut self) -> [*mut u32; 4] {
         let mut after = self.memory.as_mut_ptr();
-        self.by.sizes.map(|size| {
-            let table = after.wrapping_add(GUARD);
-            after = table.wrapping_add(size);
+        [0, 1, 2, 3].map(|at| {
+            let table = after.wrapping_add(self.by.guards[at]);
+            after = table.wrapping_add(self.by.sizes[at]);
             table
         })
     }
 
     pub fn guarded(&self) -> bool {
         let mut place = 0;
-        self.by.sizes.iter().chain(&[0]).all(|size| {
-            let guard = &self.memory[place..][..GUARD];
-            place += GUARD + size;
-            guard == [FILL; GUARD]
+        self.by.guards.iter().zip(self.by.sizes.iter().chain(&[0])).all(|(guard, size)| {
+            let cells = &self.memory[place..][..*guard];
+            place += guard + size;
+            cells.iter().all(|cell| *cell == FILL)
         })
     }
 
@@ -163,9 +186,9 @@ fn compare(mut lent: Lent, records: &[Numbers], expected: &[([u32; 3], Totals)])
     Ok(())
 }
 
-/// Both reckonings answer each of these records, as it was read, just as the path search does, and count its verdicts.
+/// All reckonings answer each of these records, as it was read, just as the path search does, and count its verdicts.
 pub fn expect(tally: &mut Tally, name: &str, records: &[Numbers], reading: &Reading, judged: &[Judged]) {
-    for by in &BOTH {
+    for by in &ALL {
         expect_from(tally, &format!("{}, {name}", by.name), &Lent::fresh(by), records, reading, judged);
     }
 }

@@ -2,6 +2,8 @@
 
 use crate::oracle::{fullest, Act, Op, OPS, VARIABLES};
 
+const SEMAPHORES: usize = 32;
+
 /// splitmix64: small, and the same on every machine.
 pub struct Random(u64);
 
@@ -50,10 +52,34 @@ pub struct Shape {
     pub stray: usize,
     /// A line is damaged.
     pub damage: usize,
+    /// It follows the profile of owned semaphores.
+    pub owned: Option<Profile>,
+}
+
+#[derive(Clone, Copy)]
+pub struct Profile {
+    /// A line is one that the profile refuses, in percent.
+    pub wrong: usize,
+}
+
+/// One shape in five is under the profile.
+fn profile(random: &mut Random) -> Option<Profile> {
+    random.percent(20).then(|| Profile { wrong: random.pick(&[0, 0, 5, 20]) })
 }
 
 /// Most shapes have few of everything, so that records meet; some have the full range.
 pub fn shape(random: &mut Random) -> Shape {
+    let owned = profile(random);
+    shape_of(random, owned)
+}
+
+/// The same under the profile, always.
+pub fn owned_shape(random: &mut Random) -> Shape {
+    let owned = std::iter::repeat_with(|| profile(random)).find_map(|owned| owned);
+    shape_of(random, owned)
+}
+
+fn shape_of(random: &mut Random, owned: Option<Profile>) -> Shape {
     let short = random.percent(70);
     let many = random.percent(25);
     Shape {
@@ -61,12 +87,14 @@ pub fn shape(random: &mut Random) -> Shape {
         tasks: if many { 16 } else { 2 + random.below(4) },
         variables: random.pick(&[1, 1, 2, 3, 64]),
         objects: random.pick(&[1, 1, 2, 3, 32]),
-        marks: random.pick(&[0, 3, 10, 25]),
+        // Under the profile marks are refused.
+        marks: if owned.is_some() { random.pick(&[0, 0, 3]) } else { random.pick(&[0, 3, 10, 25]) },
         named: random.pick(&[2, 6, 12, 20]),
         idle: random.pick(&[0, 25, 60]),
         stay: 0,
         stray: random.pick(&[0, 0, 4, 20]),
         damage: random.pick(&[0, 0, 0, 4, 20]),
+        owned,
     }
 }
 
@@ -81,6 +109,9 @@ struct Maker<'a> {
     couriers: Vec<u32>,
     /// The task that accessed each variable last.
     before: [Option<u32>; VARIABLES],
+    /// The profile has begun, and who holds each semaphore then.
+    under: bool,
+    holders: [Option<u32>; SEMAPHORES],
     named: usize,
     text: Vec<u8>,
 }
@@ -100,9 +131,14 @@ pub fn recording(random: &mut Random, shape: &Shape) -> Vec<u8> {
         unseen,
         couriers,
         before: [None; VARIABLES],
+        under: false,
+        holders: [None; SEMAPHORES],
         named: shape.named,
         text: vec![],
     };
+    if shape.owned.is_some() {
+        maker.owned();
+    }
     if maker.random.percent(70) {
         for _ in 0..1 + maker.random.below(shape.tasks) {
             maker.start();
@@ -123,6 +159,8 @@ impl Maker<'_> {
         if self.random.percent(shape.stray) {
             let line = stray(self.random);
             self.put(line);
+        } else if self.under && shape.owned.is_some_and(|owned| self.random.percent(owned.wrong)) {
+            self.wrong();
         } else if self.random.percent(shape.marks) {
             self.mark();
         } else if shape.stay > 0 && self.random.percent(shape.stay) {
@@ -151,6 +189,29 @@ impl Maker<'_> {
 
     fn act(&mut self, word: &str, task: u32, on: usize) {
         self.put(format!("op={word} task={task} on={on}"));
+    }
+
+    /// The profile begins. Lines that are refused before it do not make it late.
+    fn owned(&mut self) {
+        for _ in 0..self.random.pick(&[0, 0, 0, 1, 3]) {
+            let (word, task, on) = self.random.pick(&[
+                ("owned", 0, 1),
+                ("owned", 1, 0),
+                ("owned", 16, 0),
+                ("take", 1, 0),
+                ("give", 0, 32),
+                ("start", 0, 0),
+                ("join", 0, 1),
+                ("read", 0, 64),
+            ]);
+            self.act(word, task, on);
+        }
+        // At times it is late all the same.
+        if self.random.percent(4) {
+            self.act("miss", 0, 0);
+        }
+        self.act("owned", 0, 0);
+        self.under = true;
     }
 
     fn actor(&mut self) -> u32 {
@@ -212,14 +273,72 @@ impl Maker<'_> {
     }
 
     fn exchange(&mut self) {
-        let word = self.random.pick(&["take", "take", "give", "give", "look", "look", "set", "set", "miss"]);
+        if self.under && self.random.percent(80) {
+            return self.exchange_owned();
+        }
+        let words: &[&str] = if self.under {
+            &["look", "look", "set", "set", "miss"]
+        } else {
+            &["take", "take", "give", "give", "look", "look", "set", "set", "miss"]
+        };
+        let word = self.random.pick(words);
         let (task, on) = (self.actor(), self.random.below(self.shape.objects));
         self.act(word, task, on);
     }
 
+    /// A free semaphore is taken, a held one is given by its holder, and at times somebody waits for it in vain. What an ended task held stays.
+    fn exchange_owned(&mut self) {
+        let on = self.random.below(self.shape.objects);
+        let (task, late) = (self.actor(), self.random.percent(15));
+        match self.holders[on] {
+            None if !late => self.take(task, on),
+            Some(holder) if !late && self.acting.contains(&holder) => self.give(holder, on),
+            _ => self.act("miss", task, on),
+        }
+    }
+
+    fn take(&mut self, task: u32, on: usize) {
+        self.act("take", task, on);
+        self.holders[on].get_or_insert(task);
+    }
+
+    fn give(&mut self, task: u32, on: usize) {
+        self.act("give", task, on);
+        if self.holders[on] == Some(task) {
+            self.holders[on] = None;
+        }
+    }
+
+    /// What the profile refuses, or what is refused for another reason first.
+    fn wrong(&mut self) {
+        let (task, any) = (self.actor(), self.random.below(self.shape.objects));
+        let held: Vec<usize> = (0..SEMAPHORES).filter(|on| self.holders[*on].is_some()).collect();
+        let on = if held.is_empty() { any } else { self.random.pick(&held) };
+        let holder = self.holders[on].unwrap_or(task);
+        match self.random.below(12) {
+            0..=2 => self.take(task, on),
+            3 => self.take(holder, on),
+            4..=5 => self.give(task, on),
+            6 => self.give(task, any),
+            7 => self.act("owned", task, 0),
+            8 => {
+                let (by, number) = self.random.pick(&[(task, 1), (15, 0), (15, 1), (16, 0), (0, 0)]);
+                self.act("owned", by, number);
+            }
+            9..=10 => self.put(format!("op=lost tasks={}", 1_u32 << task)),
+            _ => {
+                let mask = self.random.pick(&[0, 1, 3, 65_535, 65_536]);
+                self.put(format!("op=lost tasks={mask}"));
+            }
+        }
+    }
+
     /// One task hands over to the next, at times with a link of the chain left out or lost.
     fn hand_over(&mut self) {
-        let (out, into) = self.random.pick(&[("give", "take"), ("set", "look")]);
+        if self.under && self.random.percent(70) {
+            return self.section();
+        }
+        let (out, into) = if self.under { ("set", "look") } else { self.random.pick(&[("give", "take"), ("set", "look")]) };
         let (from, to, on) = (self.actor(), self.actor(), self.random.below(self.shape.objects));
         self.access_by(from);
         match self.random.below(6) {
@@ -234,6 +353,29 @@ impl Maker<'_> {
             _ => self.act(into, to, on),
         }
         self.access_by(to);
+    }
+
+    /// Under the profile: one task takes a semaphore, accesses and gives it, then the same or another one does; at times one of them waits in vain,
+    /// or keeps it.
+    fn section(&mut self) {
+        let on = self.random.below(self.shape.objects);
+        let from = match self.holders[on] {
+            Some(holder) if self.acting.contains(&holder) => holder,
+            _ => self.actor(),
+        };
+        let to = if self.random.percent(30) { from } else { self.actor() };
+        for task in [from, to] {
+            match self.holders[on] {
+                None if self.random.percent(90) => self.take(task, on),
+                None => self.act("miss", task, on),
+                Some(holder) if holder == task => {}
+                Some(_) => self.act("miss", task, on),
+            }
+            self.access_by(task);
+            if self.holders[on] == Some(task) && self.random.percent(90) {
+                self.give(task, on);
+            }
+        }
     }
 
     /// One task starts a courier and another joins it, which is a path only if the courier acts.

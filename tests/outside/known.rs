@@ -44,14 +44,14 @@ pub const SEEN: [&str; 14] = [
 // ---- What is compared
 
 /// A recording, read and judged.
-struct Deck {
+pub struct Deck {
     text: Vec<u8>,
     reading: Reading,
     judged: Vec<Judged>,
 }
 
 impl Deck {
-    fn new(text: Vec<u8>) -> Deck {
+    pub fn new(text: Vec<u8>) -> Deck {
         let reading = oracle::read(&text);
         let judged = oracle::judge(&reading.recording);
         Deck { text, reading, judged }
@@ -145,7 +145,7 @@ fn expect(tally: &mut Tally, name: &str, file: &[u8], deck: &Deck, expected: &st
 }
 
 /// They come to what document 02 makes of them.
-fn compare(tally: &mut Tally, name: &str, file: &[u8], deck: &Deck, order: Option<&Folder>, cuts: (Cuts, Cuts)) {
+pub fn compare(tally: &mut Tally, name: &str, file: &[u8], deck: &Deck, order: Option<&Folder>, cuts: (Cuts, Cuts)) {
     let entries = entries::read(file);
     see(tally, &entries, deck);
     expect(tally, name, file, deck, &deck.report(&entries), order, cuts);
@@ -313,6 +313,12 @@ const SHORT: &[(&str, &str, &str, &str)] = &[
         "accepted 5 0 1",
         "start 0 1, start 0 2, write 0 5, write 1 5, write 2 5",
         "3 0 clear 0, 4 1 known 3, 5 2 race 3",
+    ),
+    (
+        "under the profile",
+        "accepted 5 0 1",
+        "owned 0 0, start 0 1, take 0 3, write 0 5, take 1 3, give 0 3, read 1 5, lost 3, take 1 3, read 1 5",
+        "4 0 clear 0, !5 16, 6 1 known 4, !8 15, 8 1 clear 0",
     ),
     // Refused entries are left out, and the others are not.
     ("no entry", "x", ONE, "?1 12, 2 0 clear 0, 3 1 race 2"),
@@ -647,7 +653,7 @@ fn spoil(random: &mut Random, line: &mut Vec<u8>) {
 }
 
 /// A file for a recording: its pairs apart, accepted or not, one or several times, among other entries and lines that are none.
-fn entry_file(random: &mut Random, deck: &Deck) -> Vec<u8> {
+pub fn entry_file(random: &mut Random, deck: &Deck) -> Vec<u8> {
     let share = random.pick(&[0, 30, 60, 90, 100, 100]);
     let mut keys = BTreeSet::new();
     for Judged { access, apart, .. } in &deck.judged {

@@ -3,7 +3,7 @@
 
 use crate::examples::text;
 use crate::feeding::{self, Lent, Numbers, SETS};
-use crate::generate::{recording, shape, Random, Shape};
+use crate::generate::{recording, shape, Profile, Random, Shape};
 use crate::oracle::{self, Access, Act, Event, Fate, Op, Paths, Record, LIMIT, LOST, OPS};
 use crate::tally::Tally;
 use crate::{on_threads, short_texts, BETWEEN, THREADS};
@@ -56,7 +56,7 @@ fn shown(list: &[Lend]) -> String {
 }
 
 /// The answer to a list is just this.
-fn expect(tally: &mut Tally, name: &str, list: &[Lend], expected: Answer) {
+pub fn expect(tally: &mut Tally, name: &str, list: &[Lend], expected: Answer) {
     let got = said(list);
     tally.check(got == Ok(expected), || format!("lazy, {name}: {}--- expected\n{expected:?}\n--- got\n{got:?}\n---", shown(list)));
 }
@@ -231,7 +231,7 @@ fn as_it_is(list: &[Lend], answers: &[(usize, Answer)]) -> Result<(), String> {
 
 /// The same for each task by itself. The sets name the lowest task apart alone, so the list is fed to them with that task renamed to 1 and the
 /// others to higher numbers; a new task 0 starts what was task 0, and does nothing else, for which a number must be free. Without the marks, as
-/// a Race is then one as it arrived.
+/// a Race is then one as it arrived. An `owned` is the first record, to which no access has a path; so the new task 0 may do it.
 fn task_by_task(list: &[Lend], answers: &[(usize, Answer)]) -> Result<(), String> {
     let acts: Vec<Option<Act>> =
         read(list).recording.iter().map(|record| if let Record::Act(act) = record { Some(*act) } else { None }).collect();
@@ -247,12 +247,13 @@ fn task_by_task(list: &[Lend], answers: &[(usize, Answer)]) -> Result<(), String
         let mut order = tasks.clone();
         order.sort_by_key(|&task| (task != first, task));
         let renamed = |task: u32| 1 + order.iter().position(|&one| one == task).unwrap() as u32;
-        let mut records = vec![(kind(Op::Start), 0, renamed(0))];
+        let owned = acts.iter().flatten().filter(|act| act.op == Op::Owned).map(|_| (kind(Op::Owned), 0, 0));
+        let mut records: Vec<Numbers> = owned.chain([(kind(Op::Start), 0, renamed(0))]).collect();
         // The record, among those, of each of the list.
         let mut places = Vec::new();
-        for act in &acts {
+        for act in acts.iter().map(|act| act.filter(|act| act.op != Op::Owned)) {
             places.push(act.map(|_| records.len()));
-            if let Some(act) = act {
+            if let Some(act) = &act {
                 let on = if names_task(act) { renamed(act.on) } else { act.on };
                 records.push((kind(act.op), renamed(act.task), on));
             }
@@ -275,7 +276,7 @@ fn kind(op: Op) -> u8 {
     OPS.iter().find(|known| known.2 == op).unwrap().1
 }
 
-fn lend(records: &[Numbers]) -> Vec<Lend> {
+pub fn lend(records: &[Numbers]) -> Vec<Lend> {
     records.iter().map(|&(kind, task, on)| [kind as u32, task, on]).collect()
 }
 
@@ -285,7 +286,7 @@ fn short(records: &str) -> Vec<Lend> {
 }
 
 /// Lent in each of these lengths, a list is answered as document 02 says, and the sets say the same of its accesses.
-fn compare(tally: &mut Tally, name: &str, list: &[Lend], ends: impl Iterator<Item = usize>) {
+pub fn compare(tally: &mut Tally, name: &str, list: &[Lend], ends: impl Iterator<Item = usize>) {
     let expected = beginnings(tally, list);
     let lent = list.to_vec();
     let mut answers = Vec::new();
@@ -444,6 +445,33 @@ const SHORT: &[(&str, &str, Answer)] = &[
     // The edges of the series.
     ("the last numbers", "start 0 15, write 0 63, give 0 31, take 15 31, read 15 63", [0, 1, 1, 2]),
     ("the last numbers the other way", "start 0 15, write 15 63, set 15 31, look 0 31, bump 0 63", [0, 32768, 32768, 2]),
+    // Under the profile of owned semaphores the walks are the same, and an `owned` is not walked.
+    ("owned, nothing between", "owned 0 0, start 0 1, write 0 5, read 1 5", [0, 1, 0, 0]),
+    ("owned, handed over", "owned 0 0, start 0 1, take 0 2, write 0 5, give 0 2, take 1 2, read 1 5", [0, 1, 1, 2]),
+    ("owned, kept", "owned 0 0, start 0 1, take 0 2, write 0 5, miss 1 2, take 1 3, read 1 5", [0, 1, 0, 1]),
+    (
+        "owned, an own write in order",
+        "owned 0 0, start 0 1, take 0 2, write 0 5, give 0 2, take 1 2, write 1 5, give 1 2, take 1 2, read 1 5",
+        [0, 1, 1, 0],
+    ),
+    (
+        "owned, taken again by the same task",
+        "owned 0 0, start 0 1, take 0 2, write 0 5, give 0 2, take 0 2, give 0 2, take 1 2, read 1 5",
+        [0, 1, 1, 4],
+    ),
+    ("owned, joined while it holds", "owned 0 0, start 0 1, take 1 2, write 1 5, join 0 1, write 0 5", [0, 2, 2, 1]),
+    ("row 14", "write 0 5, owned 0 0, read 0 5", [14, 0, 0, 0]),
+    ("row 14, twice", "owned 0 0, owned 0 0, read 0 5", [14, 0, 0, 0]),
+    ("row 14 at the end", "owned 0 0, start 0 1, write 0 5, owned 1 0", [14, 0, 0, 0]),
+    ("row 15", "owned 0 0, start 0 1, write 0 5, lost 3, write 1 5", [15, 0, 0, 0]),
+    ("row 15 at the end", "owned 0 0, lost 1", [15, 0, 0, 0]),
+    ("row 16, a take", "owned 0 0, start 0 1, take 0 2, write 0 5, take 1 2, read 1 5", [16, 0, 0, 0]),
+    ("row 16, the holder's take", "owned 0 0, take 0 2, take 0 2, read 0 5", [16, 0, 0, 0]),
+    ("row 16, a give", "owned 0 0, start 0 1, take 0 2, give 1 2, read 1 5", [16, 0, 0, 0]),
+    ("row 16, nobody's give", "owned 0 0, give 0 2", [16, 0, 0, 0]),
+    ("row 16 before 15", "owned 0 0, give 0 2, lost 1, owned 0 0", [16, 0, 0, 0]),
+    ("row 15 before 14", "owned 0 0, lost 1, owned 0 0, give 0 2", [15, 0, 0, 0]),
+    ("row 14 before 16", "owned 0 0, owned 0 0, give 0 2, lost 1", [14, 0, 0, 0]),
     // Refused.
     ("refused at the end", "start 0 1, write 0 5, give 0 2, read 2 5", [6, 0, 0, 0]),
     ("the first refused counts", "start 0 1, read 0 64, join 1 1, read 1 5", [3, 0, 0, 0]),
@@ -453,7 +481,7 @@ const SHORT: &[(&str, &str, Answer)] = &[
 
 /// Records that are refused wherever they stand while task 0 is live and task 9 unseen, and with what.
 const REFUSED: &[(Lend, u64)] = &[
-    ([12, 0, 5], 1),
+    ([13, 0, 5], 1),
     ([255, 0, 5], 1),
     ([256, 0, 5], 1),
     ([257, 0, 5], 1),
@@ -467,6 +495,8 @@ const REFUSED: &[(Lend, u64)] = &[
     ([11, 65_536, 64], 2),
     ([9, u32::MAX, 5], 2),
     ([7, 1 << 31, 1 << 31], 2),
+    ([12, 16, 0], 2),
+    ([12, u32::MAX, 1], 2),
     ([0, 0, 64], 3),
     ([1, 0, 256], 3),
     ([11, 0, 65_541], 3),
@@ -478,6 +508,9 @@ const REFUSED: &[(Lend, u64)] = &[
     ([10, 0, 32], 3),
     ([6, 0, 16], 3),
     ([7, 0, 256], 3),
+    ([12, 0, 1], 3),
+    ([12, 9, 256], 3),
+    ([12, 0, 1 << 31], 3),
     ([8, 0, 0], 4),
     ([8, u32::MAX, 65_536], 4),
     ([8, 0, 65_537], 4),
@@ -485,6 +518,7 @@ const REFUSED: &[(Lend, u64)] = &[
     ([0, 9, 5], 6),
     ([6, 9, 9], 6),
     ([7, 9, 0], 6),
+    ([12, 9, 0], 6),
     ([6, 0, 0], 7),
     ([7, 0, 0], 8),
     ([7, 0, 9], 9),
@@ -505,7 +539,9 @@ fn run_short(tally: &mut Tally) {
 /// Every kind of ending.
 fn run_endings(tally: &mut Tally) {
     let before = "start 0 1, start 0 2, write 0 5, give 0 2, take 1 2, ";
-    for (word, _, op, _) in OPS {
+    // An `owned` is the first record or none.
+    expect(tally, "ends in an owned", &short("owned 0 0"), [0; 4]);
+    for (word, _, op, _) in OPS.iter().filter(|known| known.2 != Op::Owned) {
         let on = match op {
             Op::Start => 3,
             Op::Join => 2,
@@ -568,6 +604,20 @@ fn run_full(tally: &mut Tally) {
     list[10] = [7, 0, 0];
     expect(tally, "refused long before the limit", &list, [8, 0, 0, 0]);
 
+    let held = "owned 0 0, start 0 1, take 0 1, write 0 5";
+    let mut list = repeat(held, "miss 1 1", "read 1 5");
+    expect(tally, "under the profile, as many as there may be", &list, [0, 1, 0, 0]);
+    for record in short("owned 0 0, lost 3, take 1 1, give 1 1, give 0 1, read 0 5") {
+        list.truncate(LIMIT);
+        list.push(record);
+        expect(tally, &format!("under the profile, one past the limit, {record:?}"), &list, [5, 0, 0, 0]);
+    }
+    for (record, row) in short("owned 0 0, lost 3, take 1 1, take 0 1, give 1 1").into_iter().zip([14, 15, 16, 16, 16]) {
+        list.truncate(LIMIT - 1);
+        list.push(record);
+        expect(tally, &format!("under the profile, the last of the limit, {record:?}"), &list, [row, 0, 0, 0]);
+    }
+
     let all = |word: &str| (0..16).map(|task| format!("{word} {task} 5")).collect::<Vec<_>>().join(", ");
     let starts: String = (1..16).map(|task| format!("start 0 {task}")).collect::<Vec<_>>().join(", ");
     let writes = all("write");
@@ -618,9 +668,30 @@ fn run_generated(first: u64) -> Tally {
 /// A few that are long.
 fn run_long(first: u64) -> Tally {
     let mut tally = Tally::new();
-    let base =
-        |stay, tasks| Shape { length: 3_000, tasks, variables: 3, objects: 4, marks: 2, named: 1_000, idle: 30, stay, stray: 0, damage: 0 };
-    let shapes = [base(0, 4), base(95, 4), base(0, 16), base(95, 16), Shape { variables: 64, objects: 32, ..base(80, 16) }, base(80, 2)];
+    let base = |stay, tasks| Shape {
+        length: 3_000,
+        tasks,
+        variables: 3,
+        objects: 4,
+        marks: 2,
+        named: 1_000,
+        idle: 30,
+        stay,
+        stray: 0,
+        damage: 0,
+        owned: None,
+    };
+    let owned = |stay, tasks| Shape { marks: 0, owned: Some(Profile { wrong: 0 }), ..base(stay, tasks) };
+    let shapes = [
+        base(0, 4),
+        base(95, 4),
+        base(0, 16),
+        base(95, 16),
+        Shape { variables: 64, objects: 32, ..base(80, 16) },
+        base(80, 2),
+        owned(0, 4),
+        Shape { objects: 32, ..owned(80, 16) },
+    ];
     for (at, shape) in shapes.iter().enumerate().skip(first as usize).step_by(THREADS as usize) {
         let list = lend(&feeding::records(&recording(&mut Random::new(8_000_000 + at as u64), shape)));
         compare(&mut tally, &format!("long list {at}"), &list, (0..=list.len()).step_by(7));

@@ -1,8 +1,8 @@
 //! Tests from outside: the C entry, texts in pieces and the programs `order` and `totals` against the plain path search, byte for byte, and bad
 //! input at scale; as many records as may be, and more; the programs on input that pauses; the running state and the sets, fed without text,
 //! against the same search, answer for answer, and their totals after each record; the lazy reckoning, reports with a planner's entries, and
-//! `settle`, against a literal reading of document 02 over that search. `outside [ORDER TOTALS SETTLE]` runs them; without the programs only the
-//! archive is tested.
+//! `settle`, against a literal reading of document 02 over that search; all of them under the profile of owned semaphores too.
+//! `outside [ORDER TOTALS SETTLE]` runs them; without the programs only the archive is tested.
 //! `outside --report [ENTRIES]` prints what the plain path search says of the recording on standard input, with a file of entries if one is given.
 
 mod bad;
@@ -17,6 +17,7 @@ mod known;
 mod lazy;
 mod numbers;
 mod oracle;
+mod owned;
 mod pauses;
 mod program;
 mod settle;
@@ -26,7 +27,7 @@ mod tally;
 mod totals;
 
 use cuts::{Cuts, WAYS};
-use generate::{filling, recording, shape, Random, Shape};
+use generate::{filling, recording, shape, Profile, Random, Shape};
 use oracle::{Fate, Verdict};
 use std::io::Read;
 use tally::Tally;
@@ -62,7 +63,7 @@ fn run_examples(tally: &mut Tally, order: Option<&str>) {
 }
 
 /// What may stand between a write by task 0 and a write by task 1, where task 2 may come and go.
-const BETWEEN: [&str; 25] = [
+const BETWEEN: [&str; 27] = [
     "op=write task=0 on=5",
     "op=write task=1 on=5",
     "op=bump task=0 on=5",
@@ -88,6 +89,8 @@ const BETWEEN: [&str; 25] = [
     "op=lost tasks=2",
     "op=lost tasks=3",
     "op=lost tasks=4",
+    "op=owned task=0 on=0",
+    "op=owned task=1 on=0",
 ];
 
 /// Every text with up to three of these lines, which leaves out no short one.
@@ -191,8 +194,20 @@ fn run_generated(first: u64, order: Option<&str>) -> Tally {
 /// A few that are long, and a few with much lost, which take the search some seconds.
 fn run_long(first: u64) -> Tally {
     let mut tally = Tally::new();
-    let base =
-        |length, tasks| Shape { length, tasks, variables: 3, objects: 4, marks: 0, named: 0, idle: 30, stay: 0, stray: 2, damage: 2 };
+    let base = |length, tasks| Shape {
+        length,
+        tasks,
+        variables: 3,
+        objects: 4,
+        marks: 0,
+        named: 0,
+        idle: 30,
+        stay: 0,
+        stray: 2,
+        damage: 2,
+        owned: None,
+    };
+    let owned = |wrong| Some(Profile { wrong });
     let shapes = [
         base(3_000, 4),
         base(3_000, 16),
@@ -200,6 +215,8 @@ fn run_long(first: u64) -> Tally {
         Shape { marks: 1, named: 20, ..base(2_000, 16) },
         Shape { marks: 30, named: 60, ..base(200, 3) },
         Shape { marks: 10, named: 64, ..base(100, 16) },
+        Shape { owned: owned(5), ..base(2_000, 4) },
+        Shape { owned: owned(10), objects: 32, ..base(3_000, 16) },
     ];
     for (at, shape) in shapes.iter().enumerate().skip(first as usize).step_by(THREADS as usize) {
         let mut random = Random::new(1_000_000 + at as u64);
@@ -219,7 +236,7 @@ fn on_threads(tally: &mut Tally, part: impl Fn(u64) -> Tally + Sync) {
 
 /// A test that never met a verdict or a refusal says nothing about it.
 fn run_coverage(tally: &mut Tally) {
-    let rows = [1, 2, 3, 4, 5, 6, 7, 8, 9].map(|row| format!("refused {row}"));
+    let rows = [1, 2, 3, 4, 5, 6, 7, 8, 9, 14, 15, 16].map(|row| format!("refused {row}"));
     let unsayable = [1, 2, 3, 4].map(|row| format!("unsayable, refused {row}"));
     let others =
         ["race", "clear", "doubt", "doubt tipped by a random completion", "recordings with a mark", "tables of any content, accepted"]
@@ -264,6 +281,7 @@ fn run_all(order: Option<&str>, totals: Option<&str>, settle: Option<&str>) {
     numbers::run(&mut tally);
     lazy::run(&mut tally);
     settle::run(&mut tally, order, settle);
+    owned::run(&mut tally, order, totals, settle);
     known::run(&mut tally, order, totals);
     swaps::run(&mut tally, order);
     bad::run(&mut tally, order);

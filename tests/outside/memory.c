@@ -60,15 +60,22 @@ static uint32_t sum(const uint32_t *memory, size_t count) {
 typedef void begin_call(uint32_t *, uint32_t *, uint32_t *, uint32_t *);
 typedef void feed_call(uint32_t *, uint32_t *, uint32_t *, uint32_t *, uint8_t, uint32_t, uint32_t, uint32_t *);
 
-/* Tables, answers and totals are unset before their calls. Starts come first and joins last, so that there are tasks to act. */
-static void fed(const char *name, begin_call *begin, feed_call *feed, size_t size) {
-    static const uint8_t kinds[] = {ORDER_START, ORDER_WRITE, ORDER_GIVE, ORDER_SET,  ORDER_LOST,
-                                    ORDER_TAKE,  ORDER_LOOK,  ORDER_READ, ORDER_JOIN, 255};
+/* Tables, answers and totals are unset before their calls. Starts come first and joins last, so that there are tasks to act; an owned before
+ * all of them or late. */
+static void fed(const char *name, begin_call *begin, feed_call *feed, size_t size, int owned) {
+    static const uint8_t kinds[] = {ORDER_START, ORDER_WRITE, ORDER_GIVE, ORDER_SET, ORDER_OWNED, ORDER_LOST, ORDER_TAKE,
+                                    ORDER_GIVE,  ORDER_LOOK,  ORDER_MISS, ORDER_READ, ORDER_JOIN, ORDER_TAKE, 255};
     static const uint32_t numbers[] = {0, 1, 3, 15, 16, 31, 32, 63, 64, 32768, 65535, 65536, UINT32_MAX};
     enum { KINDS = sizeof kinds, NUMBERS = sizeof numbers / sizeof numbers[0] };
     uint32_t *control = cells(ORDER_CONTROL_CELLS), *last = cells(ORDER_HISTORY_CELLS), *arrived = cells(size), *full = cells(size);
     int right = 1;
     begin(control, last, arrived, full);
+    if (owned) {
+        uint32_t *answer = cells(3);
+        feed(control, last, arrived, full, ORDER_OWNED, 0, 0, answer);
+        right = answer[0] == ORDER_ACCEPTED && answer[1] == 1 && answer[2] == 0;
+        free(answer);
+    }
     for (size_t i = 0; i < KINDS * NUMBERS * NUMBERS; i++) {
         uint32_t *answer = cells(3);
         feed(control, last, arrived, full, kinds[i / (NUMBERS * NUMBERS)], numbers[i / NUMBERS % NUMBERS], numbers[i % NUMBERS], answer);
@@ -95,14 +102,18 @@ static void fed(const char *name, begin_call *begin, feed_call *feed, size_t siz
 }
 
 /* The whole state in memory of its own. */
-static void fed_whole(void) {
+static void fed_whole(uint32_t first) {
     struct order_state *state = malloc(sizeof *state);
     if (!state) abort();
     order_state_begin(state);
     int right = 1;
     for (uint32_t i = 0; i < 500; i++) {
         uint32_t *answer = cells(3);
-        order_step(state, (uint8_t)(i % 11), i / 11 % 18, i % 67, answer);
+        if (i == 0) {
+            order_step(state, (uint8_t)first, 0, 0, answer);
+        } else {
+            order_step(state, (uint8_t)(i % 13), i / 13 % 18, i % 67, answer);
+        }
         right = right && answer[0] <= ORDER_DOUBT && answer[1] > 0 && (answer[2] > 0) == (answer[0] >= ORDER_RACE);
         free(answer);
     }
@@ -195,17 +206,22 @@ static void cut_entries(const char *file, size_t file_len, const char *text, siz
     free(whole);
 }
 
-/* The first so many records of a list, all kinds by turns once all tasks are started, the last one being as it is given. */
-static void listed(size_t len, uint8_t last, uint64_t refusal) {
+/* The first so many records of a list, all kinds by turns once all tasks are started, the last one being as it is given. Where semaphores are
+ * owned, each task by turns takes one, writes and gives it. */
+static void listed(size_t len, uint8_t last, uint64_t refusal, int owned) {
     static const uint8_t kinds[] = {ORDER_WRITE, ORDER_GIVE, ORDER_SET,  ORDER_TAKE,  ORDER_LOOK, ORDER_READ,
                                     ORDER_BUMP,  ORDER_MISS, ORDER_LOST, ORDER_FRESH, ORDER_WRITE};
+    static const uint8_t turns[] = {ORDER_TAKE, ORDER_WRITE, ORDER_GIVE};
     uint32_t (*list)[3] = malloc(len ? len * sizeof *list : 1);
     uint64_t *answer = malloc(4 * sizeof *answer);
     if (!list || !answer) abort();
-    for (uint32_t i = 0; i < len; i++) {
-        list[i][0] = i + 1 == len ? last : i < 15 ? ORDER_START : kinds[i % sizeof kinds];
-        list[i][1] = i < 15 ? 0 : i / 3 % 16;
-        list[i][2] = i < 15 ? i + 1 : i / 7 % 31 + 1;
+    if (owned) list[0][0] = ORDER_OWNED, list[0][1] = list[0][2] = 0;
+    for (uint32_t at = owned ? 1 : 0; at < len; at++) {
+        uint32_t i = owned ? at - 1 : at;
+        list[at][0] = at + 1 == len ? last : i < 15 ? ORDER_START : owned ? turns[i % 3] : kinds[i % sizeof kinds];
+        list[at][1] = i < 15 ? 0 : i / 3 % 16;
+        list[at][2] = i < 15 ? i + 1 : i / (owned ? 3 : 7) % 31 + 1;
+        if (list[at][0] == ORDER_OWNED) list[at][2] = 0;
     }
     order_lazy(list, len, answer);
     int right = answer[0] == refusal && answer[1] <= UINT16_MAX && (answer[2] & ~answer[1]) == 0 && answer[3] <= 15 * len;
@@ -229,11 +245,19 @@ static void listed(size_t len, uint8_t last, uint64_t refusal) {
 }
 
 static void lazily(void) {
-    listed(0, ORDER_WRITE, 0);
+    listed(0, ORDER_WRITE, 0, 0);
     for (size_t len = 1; len < 4000; len += len < 100 ? 1 : 389) {
-        listed(len, ORDER_WRITE, 0);
-        listed(len, ORDER_GIVE, 0);
-        listed(len, 255, 1);
+        listed(len, ORDER_WRITE, 0, 0);
+        listed(len, ORDER_GIVE, 0, 0);
+        listed(len, 255, 1, 0);
+        if (len < 2) continue;
+        /* A give in the place of a take has no holder. */
+        int held = len >= 17 && (len - 2) % 3 != 0;
+        listed(len, ORDER_WRITE, 0, 1);
+        listed(len, ORDER_GIVE, held ? 0 : 16, 1);
+        listed(len, ORDER_OWNED, 14, 1);
+        listed(len, ORDER_LOST, 15, 1);
+        listed(len, 255, 1, 1);
     }
 }
 
@@ -255,9 +279,11 @@ int main(void) {
                                "rec=4000000 var=63 low=14 high=15 mark=accepted\nrec=0000001 var=5 low=1 high=15 mark=open\n"
                                "rec=00001 var=64 low=1";
     for (size_t cut = sizeof file - 1; cut > 50; cut -= 7) cut_entries(file, cut, sample, len);
-    fed("clocks", order_begin, order_feed, ORDER_CLOCK_CELLS);
-    fed_whole();
-    fed("sets", order_sets_begin, order_sets_feed, ORDER_SET_CELLS);
+    for (int owned = 0; owned <= 1; owned++) {
+        fed("clocks", order_begin, order_feed, ORDER_CLOCK_CELLS, owned);
+        fed_whole(owned ? ORDER_OWNED : ORDER_READ);
+        fed("sets", order_sets_begin, order_sets_feed, ORDER_SET_CELLS, owned);
+    }
     lazily();
     printf("memory: %d passed, %d failed\n", passed, failed);
     return failed != 0;

@@ -1,12 +1,15 @@
 //! Records with numbers that no text can say, and tables of any content.
 
-use crate::feeding::{self, Lent, Numbers, BOTH};
+use crate::feeding::{self, Lent, Numbers, ALL};
 use crate::generate::{recording, shape, Random};
-use crate::oracle::{self, Fate, Reading, LIMIT};
+use crate::oracle::{self, Act, Fate, Op, Reading, Record, LIMIT};
 use crate::tally::Tally;
 
 /// Task 1 is live, task 2 has ended, and task 0 has written variable 5.
 const BEFORE: [Numbers; 4] = [(6, 0, 1), (6, 0, 2), (7, 0, 2), (1, 0, 5)];
+/// Under the profile, and tasks 0 and 1 hold some semaphores.
+const OWNED: [Numbers; 1] = [(12, 0, 0)];
+const HELD: [Numbers; 4] = [(2, 0, 1), (2, 1, 5), (2, 0, 0), (2, 1, 31)];
 const AFTER: [Numbers; 2] = [(1, 0, 5), (1, 1, 5)];
 
 /// Live tasks, an ended one, unseen ones and none, among these some that are a task in their low bits.
@@ -23,7 +26,7 @@ fn read(records: &[Numbers]) -> Reading {
     oracle::feed(records.iter().map(|&(kind, task, on)| oracle::record_of(kind, task, on)))
 }
 
-/// Both reckonings answer as the path search does. Counts the refusals of records that no text can say.
+/// All reckonings answer as the path search does. Counts the refusals of records that no text can say.
 fn compare(tally: &mut Tally, name: &str, records: &[Numbers]) {
     let reading = read(records);
     for (&(kind, task, on), fate) in records.iter().zip(&reading.fates) {
@@ -43,12 +46,25 @@ fn each_kind(tally: &mut Tally) {
         for task in TASKS {
             let records = [&BEFORE[..], &NUMBERS.map(|on| (kind, task, on)), &AFTER].concat();
             compare(tally, &format!("kind {kind} of task {task}"), &records);
+            let numbers = NUMBERS.map(|on| (kind, task, on));
+            let records = [&OWNED[..], &BEFORE, &HELD, &numbers, &numbers, &AFTER].concat();
+            compare(tally, &format!("kind {kind} of task {task} under the profile"), &records);
         }
     }
 }
 
 fn is_access((kind, task, on): Numbers) -> bool {
     matches!(oracle::record_of(kind, task, on), Some(oracle::Record::Act(act)) if oracle::is_access(act.op))
+}
+
+/// A record that this row may refuse: an `owned`, a mark, a take or a give.
+fn of_profile((kind, task, on): Numbers, row: u32) -> bool {
+    match oracle::record_of(kind, task, on) {
+        Some(Record::Act(Act { op: Op::Owned, .. })) => row == 14,
+        Some(Record::Lost(_)) => row == 15,
+        Some(Record::Act(Act { op: Op::Take | Op::Give, .. })) => row == 16,
+        _ => false,
+    }
 }
 
 fn any(random: &mut Random) -> Numbers {
@@ -79,7 +95,7 @@ fn among_others(tally: &mut Tally) {
 /// Tables to which no list of records leads: each record is answered still, in the form of an answer. Rows 1 to 4 do not ask the state.
 fn any_tables(tally: &mut Tally) {
     for seed in 0..300 {
-        for by in &BOTH {
+        for by in &ALL {
             let mut random = Random::new(3_000_000 + seed);
             let end = random.pick(&[2, 3, LIMIT, 1 << 32]);
             let mut lent = Lent::holding(by, || random.below(end) as u32);
@@ -89,7 +105,7 @@ fn any_tables(tally: &mut Tally) {
                 let answer = lent.feed(record, true);
                 let right = match (read(&[record]).fates[0], &answer) {
                     (Fate::Refused(row @ 1..=4), Ok(answer)) => *answer == [0, row, 0],
-                    (_, Ok([0, row, with])) => (5..=9).contains(row) && *with == 0,
+                    (_, Ok([0, row @ (5..=9 | 14..=16), with])) => (*row < 14 || of_profile(record, *row)) && *with == 0,
                     // Accesses have a verdict, and no others.
                     (_, Ok([said, number, _])) => {
                         tally.see("tables of any content, accepted", 1);

@@ -22,6 +22,7 @@ pub enum Op {
     Fresh,
     Miss,
     Bump,
+    Owned,
 }
 
 use Op::*;
@@ -39,6 +40,7 @@ pub const OPS: &[(&str, u8, Op, u32)] = &[
     ("fresh", 9, Fresh, 63),
     ("miss", 10, Miss, 31),
     ("bump", 11, Bump, 63),
+    ("owned", 12, Owned, 0),
 ];
 
 /// The kind number of a loss mark.
@@ -126,12 +128,28 @@ struct Accepted {
     before: usize,
     records: Vec<Record>,
     life: [Life; TASKS as usize],
+    /// The recording follows the profile of owned semaphores.
+    profile: bool,
 }
 
-fn fresh(before: usize) -> Accepted {
+fn fresh(before: usize, profile: bool) -> Accepted {
     let mut life = [Life::Unseen; TASKS as usize];
     life[0] = Life::Live;
-    Accepted { before, records: Vec::new(), life }
+    Accepted { before, records: Vec::new(), life, profile }
+}
+
+/// Under the profile, the task that holds a semaphore: going back, whoever took it and has not given it since. All are free where the profile
+/// begins. A miss is no take, and a join frees nothing.
+pub fn holder(records: &[Record], semaphore: u32) -> Option<u32> {
+    for record in records.iter().rev() {
+        match *record {
+            Record::Act(Act { op: Take, task, on }) if on == semaphore => return Some(task),
+            Record::Act(Act { op: Give, on, .. }) if on == semaphore => return None,
+            Record::Act(Act { op: Owned, .. }) => return None,
+            _ => {}
+        }
+    }
+    None
 }
 
 fn named(mask: u32) -> impl Iterator<Item = u32> {
@@ -143,10 +161,12 @@ fn highest(op: Op) -> u32 {
     OPS.iter().find(|known| known.2 == op).unwrap().3
 }
 
-/// The first of rows 1 to 9 that applies.
+/// The first of rows 1 to 9 and 14 to 16 that applies.
 fn refusal(so_far: &Accepted, record: Option<Record>) -> Option<u32> {
     let live = |task: u32| so_far.life[task as usize] == Life::Live;
-    let full = so_far.before + so_far.records.len() >= LIMIT;
+    let accepted = so_far.before + so_far.records.len();
+    let full = accepted >= LIMIT;
+    let holder = |semaphore: u32| holder(&so_far.records, semaphore);
     match record {
         None => Some(1),
         Some(Record::Act(Act { op, task, on })) => {
@@ -164,6 +184,10 @@ fn refusal(so_far: &Accepted, record: Option<Record>) -> Option<u32> {
                 Some(8)
             } else if op == Join && !live(on) {
                 Some(9)
+            } else if op == Owned && accepted > 0 {
+                Some(14)
+            } else if so_far.profile && (op == Take && holder(on).is_some() || op == Give && holder(on) != Some(task)) {
+                Some(16)
             } else {
                 None
             }
@@ -175,6 +199,8 @@ fn refusal(so_far: &Accepted, record: Option<Record>) -> Option<u32> {
                 Some(5)
             } else if !named(mask).all(live) {
                 Some(9)
+            } else if so_far.profile {
+                Some(15)
             } else {
                 None
             }
@@ -187,6 +213,7 @@ fn accept(so_far: &mut Accepted, record: Record) {
         match op {
             Start => so_far.life[on as usize] = Life::Live,
             Join => so_far.life[on as usize] = Life::Ended,
+            Owned => so_far.profile = true,
             _ => {}
         }
     }
@@ -204,7 +231,7 @@ pub enum Fate {
 
 pub struct Reading {
     /// So many records were accepted before, each the line of a text: they were acts of task 0 and nothing more, so that they make no pair
-    /// and no path, and all that they do is to be counted.
+    /// and no path, and all that they do is to be counted. The first of them may have been an `owned`.
     pub before: usize,
     pub recording: Vec<Record>,
     pub fates: Vec<Fate>,
@@ -212,21 +239,21 @@ pub struct Reading {
 
 /// Feeds each line of a text to a state that starts fresh.
 pub fn read(text: &[u8]) -> Reading {
-    read_after(0, text)
+    read_after(0, false, text)
 }
 
-/// The same after so many acts of task 0.
-pub fn read_after(before: usize, text: &[u8]) -> Reading {
-    feed_after(before, lines(text).into_iter().map(read_line))
+/// The same after so many acts of task 0, the first of them an `owned` or not.
+pub fn read_after(before: usize, profile: bool, text: &[u8]) -> Reading {
+    feed_after(fresh(before, profile), lines(text).into_iter().map(read_line))
 }
 
 /// Feeds records, or what stands for one and is none, to a state that starts fresh.
 pub fn feed(records: impl Iterator<Item = Option<Record>>) -> Reading {
-    feed_after(0, records)
+    feed_after(fresh(0, false), records)
 }
 
-fn feed_after(before: usize, records: impl Iterator<Item = Option<Record>>) -> Reading {
-    let mut so_far = fresh(before);
+fn feed_after(mut so_far: Accepted, records: impl Iterator<Item = Option<Record>>) -> Reading {
+    let before = so_far.before;
     let mut fates = Vec::new();
     for record in records {
         fates.push(match (refusal(&so_far, record), record) {

@@ -4,7 +4,7 @@
 use crate::cuts::{pieces, Cuts, WAYS};
 use crate::examples::text;
 use crate::feeding::{self, Lent, Numbers, CLOCKS};
-use crate::generate::{filling, recording, shape, Random, Shape};
+use crate::generate::{filling, recording, shape, Profile, Random, Shape};
 use crate::oracle::{self, Access, Act, Fate, Op, Record, Verdict, LIMIT, LOST, OPS, RECORD_DIGITS, TASKS};
 use crate::program::{self, PATIENCE};
 use crate::tally::Tally;
@@ -69,7 +69,7 @@ fn shown(list: &[Lend], home: u32) -> String {
 }
 
 /// The answer is just this.
-fn expect(tally: &mut Tally, name: &str, list: &[Lend], home: u32, expected: Answer) {
+pub fn expect(tally: &mut Tally, name: &str, list: &[Lend], home: u32, expected: Answer) {
     let got = said(list, home);
     tally.check(got == Ok(expected), || format!("settle, {name}: {}--- expected\n{expected:?}\n--- got\n{got:?}\n---", shown(list, home)));
 }
@@ -460,6 +460,9 @@ const SHORT: &[(&str, &str, &[u32], &[u32])] = &[
     ("two bumps", "start 0 1, bump 0 5, lost 3, bump 1 5", &[0, 1, 2, 3], &[]),
     ("a bump and a read", "start 0 1, bump 0 5, lost 3, read 1 5", &[3], &[0, 1, 2]),
     ("a mark at the start tells nothing", "lost 1, start 0 1, lost 3, write 0 5, write 1 5", &[], &[0, 1, 2, 3, 0xffff]),
+    // Under the profile nothing is lost: a Clear or a Race, whatever home is.
+    ("owned, Clear", "owned 0 0, start 0 1, take 0 2, write 0 5, give 0 2, take 1 2, read 1 5", &[0, 1, 2, 3, 0xffff], &[]),
+    ("owned, a Race", "owned 0 0, start 0 1, take 0 2, write 0 5, give 0 2, miss 1 2, read 1 5", &[], &[0, 1, 2, 3, 0xffff]),
     // The edges of the series.
     ("the last numbers", "start 0 15, write 0 63, give 0 31, lost 32768, read 15 63", &[0x8000, 0xffff], &[0, 1, 0x7fff]),
     ("the last flag", "start 0 15, write 15 63, set 15 31, lost 1, bump 0 63", &[1, 0x7fff], &[0, 0x8000, 0xfffe]),
@@ -483,6 +486,16 @@ const NO_ANSWER: &[(&str, &str, u32)] = &[
     ("refused before an ending that is no access", "join 0 0, give 0 1", 8),
     ("a mark that is refused", "start 0 1, write 0 5, lost 7, write 1 5", 9),
     ("a mark of nobody", "start 0 1, write 0 5, lost 0, write 1 5", 4),
+    ("ends in an owned", "owned 0 0", 0),
+    ("owned, ends in a take", "owned 0 0, start 0 1, write 0 5, write 1 5, take 1 3", 0),
+    ("row 14", "start 0 1, owned 0 0, write 0 5, lost 3, write 1 5", 14),
+    ("row 14, twice", "owned 0 0, owned 0 0", 14),
+    ("row 15", "owned 0 0, start 0 1, write 0 5, lost 3, write 1 5", 15),
+    ("row 15 at the end", "owned 0 0, start 0 1, lost 3", 15),
+    ("row 16, a take", "owned 0 0, start 0 1, take 0 3, write 0 5, take 1 3, write 1 5", 16),
+    ("row 16, a give", "owned 0 0, start 0 1, take 0 3, write 0 5, give 1 3, write 1 5", 16),
+    ("row 16 before 15", "owned 0 0, give 0 3, lost 1", 16),
+    ("row 15 before 16", "owned 0 0, lost 1, give 0 3", 15),
 ];
 
 const HOMES: [u32; 8] = [0, 1, 2, 3, 0x00ff, 0xaaaa, 0xfffe, 0xffff];
@@ -524,7 +537,7 @@ fn run_short(tally: &mut Tally) {
 
 /// Records that are refused wherever they stand while task 0 is live and task 9 unseen, and with what.
 const REFUSED: &[(Lend, u32)] = &[
-    ([12, 0, 5], 1),
+    ([13, 0, 5], 1),
     ([255, 0, 5], 1),
     ([256, 0, 5], 1),
     ([257, 0, 5], 1),
@@ -535,15 +548,19 @@ const REFUSED: &[(Lend, u32)] = &[
     ([1, 256, 5], 2),
     ([11, 65_536, 64], 2),
     ([9, u32::MAX, 5], 2),
+    ([12, 16, 0], 2),
     ([0, 0, 64], 3),
     ([11, 0, 65_541], 3),
     ([3, 9, 32], 3),
     ([4, 0, u32::MAX], 3),
     ([6, 0, 16], 3),
+    ([12, 0, 1], 3),
+    ([12, 9, 65_536], 3),
     ([8, 0, 0], 4),
     ([8, u32::MAX, 65_536], 4),
     ([8, 0, u32::MAX], 4),
     ([0, 9, 5], 6),
+    ([12, 9, 0], 6),
     ([6, 0, 0], 7),
     ([7, 0, 0], 8),
     ([7, 0, 9], 9),
@@ -591,6 +608,21 @@ fn run_full(tally: &mut Tally) {
     expect(tally, "one past the limit, refused before that", &list, 0xffff, [2, NEITHER]);
     list[10] = [7, 0, 0];
     expect(tally, "refused long before the limit", &list, 2, [8, NEITHER]);
+
+    let mut list = short("owned 0 0, start 0 1, take 0 2, write 0 5, give 0 2, take 1 2");
+    list.resize(LIMIT - 1, [kind(Op::Miss) as u32, 0, 2]);
+    list.extend(short("read 1 5"));
+    expect(tally, "under the profile, as many as there may be", &list, 0, [0, YES]);
+    for record in short("owned 0 0, lost 3, take 0 2, give 0 2") {
+        list.truncate(LIMIT);
+        list.push(record);
+        expect(tally, &format!("under the profile, one past the limit, {record:?}"), &list, 3, [5, NEITHER]);
+    }
+    for (record, row) in short("owned 0 0, lost 3, take 0 2, take 1 2, give 0 2").into_iter().zip([14, 15, 16, 16, 16]) {
+        list.truncate(LIMIT - 1);
+        list.push(record);
+        expect(tally, &format!("under the profile, the last of the limit, {record:?}"), &list, 3, [row, NEITHER]);
+    }
 }
 
 // ---- Lists
@@ -601,7 +633,7 @@ fn read(list: &[Lend]) -> oracle::Reading {
 }
 
 /// What document 02 says of a list, by the rule.
-fn beginning(list: &[Lend], home: u32) -> Answer {
+pub fn beginning(list: &[Lend], home: u32) -> Answer {
     let reading = read(list);
     let row = reading.fates.iter().find_map(|fate| if let Fate::Refused(row) = fate { Some(*row) } else { None });
     match (row, reading.recording.last()) {
@@ -637,7 +669,7 @@ fn verdicts(list: &[Lend]) -> Result<Vec<Option<Verdict>>, String> {
 }
 
 /// Lent in some of its lengths, with some home sets, a list is answered by the rule; and the answers agree with the verdicts and with each other.
-fn compare(tally: &mut Tally, random: &mut Random, name: &str, list: &[Lend], most: usize) {
+pub fn compare(tally: &mut Tally, random: &mut Random, name: &str, list: &[Lend], most: usize) {
     let reading = read(list);
     let refused = reading.fates.iter().position(|fate| matches!(fate, Fate::Refused(_)));
     let accepted = refused.unwrap_or(list.len());
@@ -740,7 +772,9 @@ fn run_generated(first: u64) -> Tally {
     for seed in (first..LISTS).step_by(THREADS as usize) {
         let mut random = Random::new(14_000_000 + seed);
         let (any, stray) = (shape(&mut random), random.pick(&[0, 0, 0, 4]));
-        let (marks, named) = (random.pick(&[5, 10, 25]), random.pick(&[2, 4, 6]));
+        // Under the profile marks are refused.
+        let marks = if any.owned.is_some() { random.pick(&[0, 0, 1]) } else { random.pick(&[5, 10, 25]) };
+        let named = random.pick(&[2, 4, 6]);
         let shape = Shape { length: any.length.min(150), marks, named, stray, damage: stray / 4, ..any };
         let text = recording(&mut random, &shape);
         let list = lend(&feeding::records(&text));
@@ -778,9 +812,15 @@ fn run_long(first: u64) -> Tally {
         stay: 0,
         stray: 0,
         damage: 0,
+        owned: None,
     };
-    let shapes =
-        [base(4, 1, 8), base(16, 1, 12), Shape { variables: 64, objects: 32, ..base(16, 2, 12) }, Shape { length: 200, ..base(4, 8, 20) }];
+    let shapes = [
+        base(4, 1, 8),
+        base(16, 1, 12),
+        Shape { variables: 64, objects: 32, ..base(16, 2, 12) },
+        Shape { length: 200, ..base(4, 8, 20) },
+        Shape { owned: Some(Profile { wrong: 0 }), ..base(4, 0, 0) },
+    ];
     for (at, shape) in shapes.iter().enumerate().skip(first as usize).step_by(THREADS as usize) {
         let mut random = Random::new(15_000_000 + at as u64);
         let list = lend(&feeding::records(&recording(&mut random, shape)));
@@ -855,7 +895,7 @@ fn words(random: &mut Random, home: u32) -> Vec<String> {
 }
 
 /// The line for a home set and the access that ends a recording.
-fn line(text: &[u8], home: u32) -> String {
+pub fn line(text: &[u8], home: u32) -> String {
     let reading = oracle::read(text);
     let first =
         reading.fates.iter().enumerate().find_map(|(at, fate)| if let Fate::Refused(row) = fate { Some((at + 1, row)) } else { None });
@@ -912,16 +952,16 @@ fn table(text: &[u8], ended: bool) -> String {
     out
 }
 
-struct Program<'a> {
-    path: &'a str,
+pub struct Program<'a> {
+    pub path: &'a str,
 }
 
 impl Program<'_> {
-    fn expect_line(&self, tally: &mut Tally, name: &str, words: &[String], text: &[u8], cuts: Cuts, expected: &str) {
+    pub fn expect_line(&self, tally: &mut Tally, name: &str, words: &[String], text: &[u8], cuts: Cuts, expected: &str) {
         tally.expect(&format!("settle {words:?}, {name}, cut {cuts:?}"), text, expected, ran(self.path, words, text, cuts));
     }
 
-    fn expect_table(&self, tally: &mut Tally, name: &str, text: &[u8], cuts: Cuts) {
+    pub fn expect_table(&self, tally: &mut Tally, name: &str, text: &[u8], cuts: Cuts) {
         tally.expect(&format!("settle, {name}, cut {cuts:?}"), text, &table(text, true), ran(self.path, &[], text, cuts));
     }
 

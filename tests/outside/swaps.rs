@@ -39,11 +39,13 @@ enum Premise {
     Flags,
     /// They have no variable in common, except two reads or two bumps.
     Variables,
+    /// Neither is an `owned`, which no swap moves (F-12).
+    Owned,
 }
 
 use Premise::*;
 
-const PREMISES: [Premise; 7] = [Tasks, Marks, Acting, Named, Semaphores, Flags, Variables];
+const PREMISES: [Premise; 8] = [Tasks, Marks, Acting, Named, Semaphores, Flags, Variables, Owned];
 
 fn act(record: &Record) -> Option<&Act> {
     if let Record::Act(act) = record {
@@ -85,6 +87,7 @@ impl Premise {
                 let both = |op| act(a).unwrap().op == op && act(b).unwrap().op == op;
                 !common(a, b, &[Op::Read, Op::Write, Op::Bump, Op::Fresh]) || both(Op::Read) || both(Op::Bump)
             }
+            Owned => [a, b].iter().all(|record| act(record).is_none_or(|act| act.op != Op::Owned)),
         }
     }
 }
@@ -341,6 +344,13 @@ const FORBIDDEN: &[(Premise, &str, usize, &str, &str)] = &[
     (Named, "start 0 2, start 0 1, join 2 1, write 2 5", 2, "4 2 clear 0", "!2 9, 3 2 clear 0"),
     (Semaphores, "start 0 1, write 0 5, give 0 2, take 1 2, read 1 5", 3, "2 0 clear 0, 5 1 clear 0", "2 0 clear 0, 5 1 race 2"),
     (Semaphores, "start 0 1, write 0 5, take 1 2, give 0 2, read 1 5", 3, "2 0 clear 0, 5 1 race 2", "2 0 clear 0, 5 1 clear 0"),
+    (
+        Semaphores,
+        "owned 0 0, start 0 1, take 0 2, write 0 5, give 0 2, take 1 2, read 1 5",
+        5,
+        "4 0 clear 0, 7 1 clear 0",
+        "4 0 clear 0, !5 16, 6 1 race 4",
+    ),
     (Flags, "start 0 1, write 0 5, set 0 2, look 1 2, read 1 5", 3, "2 0 clear 0, 5 1 clear 0", "2 0 clear 0, 5 1 race 2"),
     (Flags, "start 0 1, write 0 5, look 1 2, set 0 2, read 1 5", 3, "2 0 clear 0, 5 1 race 2", "2 0 clear 0, 5 1 clear 0"),
     (Variables, "start 0 1, write 0 5, write 1 5", 2, "2 0 clear 0, 3 1 race 2", "2 1 clear 0, 3 0 race 2"),
@@ -349,6 +359,12 @@ const FORBIDDEN: &[(Premise, &str, usize, &str, &str)] = &[
     (Variables, "start 0 1, bump 0 5, read 1 5", 2, "2 0 clear 0, 3 1 race 2", "2 1 clear 0, 3 0 race 2"),
     (Variables, "start 0 1, start 0 2, write 0 5, fresh 2 5, write 1 5", 3, "3 0 clear 0, 5 1 clear 0", "4 0 clear 0, 5 1 race 4"),
     (Variables, "start 0 1, start 0 2, write 0 5, fresh 2 5, write 1 5", 4, "3 0 clear 0, 5 1 clear 0", "3 0 clear 0, 4 1 race 3"),
+];
+
+/// An `owned` stands first and is by task 0, so that a swap that moves it has one task acting in both. What becomes of the list then.
+const OWNED_MOVED: &[(&str, &str, &str)] = &[
+    ("owned 0 0, write 0 5, lost 1", "2 0 clear 0, !3 15", "1 0 clear 0, !2 14"),
+    ("owned 0 0, start 0 1, take 0 3, take 1 3, write 1 5", "!4 16, 4 1 clear 0", "!2 14, 4 1 clear 0"),
 ];
 
 /// The same where no premise is broken.
@@ -410,6 +426,27 @@ const ALLOWED: &[(&str, &str, usize, &str, &str)] = &[
         "3 0 clear 0, 6 1 doubt 3",
         "4 0 clear 0, 6 1 doubt 4",
     ),
+    (
+        "under the profile, two takes",
+        "owned 0 0, start 0 1, take 0 2, take 1 3, write 0 5, give 0 2, take 1 2, read 1 5",
+        3,
+        "5 0 clear 0, 8 1 clear 0",
+        "5 0 clear 0, 8 1 clear 0",
+    ),
+    (
+        "under the profile, two gives",
+        "owned 0 0, start 0 1, take 0 2, take 1 3, write 0 5, give 0 2, give 1 3, take 1 2, take 0 3, read 1 5",
+        6,
+        "5 0 clear 0, 10 1 clear 0",
+        "5 0 clear 0, 10 1 clear 0",
+    ),
+    (
+        "under the profile, a take and a write",
+        "owned 0 0, start 0 1, take 0 2, write 1 5, read 0 5",
+        3,
+        "4 1 clear 0, 5 0 race 4",
+        "3 1 clear 0, 5 0 race 3",
+    ),
     ("a fresh of another variable", "start 0 1, write 0 5, fresh 1 6, write 1 5", 2, "2 0 clear 0, 4 1 race 2", "3 0 clear 0, 4 1 race 3"),
 ];
 
@@ -444,6 +481,16 @@ fn run_by_hand(tally: &mut Tally, order: Option<&str>) {
         let alike = by_search(&run).is_ok_and(|said| by_search(&other) == Ok(said));
         tally.check(!alike, || format!("swaps, forbidden, {name}: nothing changes"));
     }
+    for (records, before, after) in OWNED_MOVED {
+        let lines = text(records);
+        let recording: Vec<Record> = oracle::lines(&lines).into_iter().map(|line| oracle::read_line(line).unwrap()).collect();
+        let (run, mut other) = (run_of(&recording), run_of(&recording));
+        other.swap(0, 1);
+        let found = broken(&run[0].1, &run[1].1);
+        tally.check(found == [Tasks, Owned], || format!("swaps, an owned moved, {records}: {found:?} are broken"));
+        expect(tally, records, &run, before, order);
+        expect(tally, records, &other, after, order);
+    }
     for (name, records, first, before, after) in ALLOWED {
         let (run, other) = swapped(records, *first);
         let found = broken(&run[first - 1].1, &run[*first].1);
@@ -464,6 +511,9 @@ fn swap_about(tally: &mut Tally, random: &mut Random, run: &mut Run, times: usiz
         let (a, b) = (run[at].1, run[at + 1].1);
         if broken(&a, &b).is_empty() {
             see(tally, act(&a).unwrap(), act(&b).unwrap());
+            let owned = run[..at].iter().any(|(_, record)| act(record).is_some_and(|act| act.op == Op::Owned));
+            let exchange = [a, b].iter().any(|record| matches!(act(record).unwrap().op, Op::Take | Op::Give));
+            tally.see("swaps, with a take or a give under the profile", (owned && exchange) as usize);
             run.swap(at, at + 1);
         }
     }
@@ -484,7 +534,8 @@ fn see(tally: &mut Tally, a: &Act, b: &Act) {
 }
 
 /// What the runs must have met, each often.
-const SEEN: [&str; 12] = [
+const SEEN: [&str; 13] = [
+    "swaps, with a take or a give under the profile",
     "swaps, two accesses",
     "swaps, two reads of one variable",
     "swaps, two bumps of one variable",
@@ -628,7 +679,9 @@ pub fn run(tally: &mut Tally, order: Option<&str>) {
     on_threads(tally, |first| run_generated(first, order));
     tally.part("swaps, runs at random");
     on_threads(tally, run_forbidden);
-    let forbidden = PREMISES.map(|premise| format!("swaps, forbidden, {premise:?}: something changes"));
+    // Next to an `owned` one task acts in both, so that no other premise is broken alone.
+    let forbidden = PREMISES.into_iter().filter(|premise| *premise != Owned);
+    let forbidden = forbidden.map(|premise| format!("swaps, forbidden, {premise:?}: something changes"));
     let program = order.map(|_| BY_PROGRAM.to_string());
     for what in SEEN.into_iter().map(String::from).chain(forbidden).chain(program) {
         let times = tally.seen.get(&what).copied().unwrap_or(0);

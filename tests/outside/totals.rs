@@ -25,7 +25,7 @@ fn tables_of(text: &[u8], every: usize, ended: bool) -> String {
     oracle::tables(&reading, &oracle::judge(&reading.recording), every, ended)
 }
 
-fn compare(tally: &mut Tally, program: &str, name: &str, text: &[u8], every: usize, cuts: Cuts) {
+pub fn compare(tally: &mut Tally, program: &str, name: &str, text: &[u8], every: usize, cuts: Cuts) {
     let answer = program::run(program, &words(every), text, cuts);
     tally.expect(&format!("totals {every}, {name}, cut {cuts:?}"), text, &tables_of(text, every, true), answer);
 }
