@@ -41,8 +41,7 @@ returns-2 c =
     let count = number .before in
     let word = count .before .before .before .before in
     let at-if1 = word .before .before .before in
-    rw (sym (at-if1 .before .is-under .ensures) ∙ not-false _ (at-if1 .if1 .left), ← count .skipped .ensures)
-    (
+    rw (sym (at-if1 .before .is-under .ensures) ∙ not-false _ (at-if1 .if1 .left), ← count .skipped .ensures) (
       word .put-padded .ensures then number .put-cell .ensures then end .put-padded2 .ensures,
       omega (
         arith,
