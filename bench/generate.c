@@ -1,8 +1,12 @@
-/* Writes a recording to standard output: generate SEED RECORDS TASKS [NOISE [PLAIN]]
+/* Writes a recording to standard output: generate SEED RECORDS TASKS [NOISE [PLAIN [SAME]]]
  *
  * The same words give the same bytes. Half of the records are accesses, one in fifty is a loss mark, the rest are hand-overs; tasks are
  * started early and some are joined late. NOISE lines in 1,000 (none if not given) are bent: wrong numbers, words, bytes or length; PLAIN
- * records in 1,000 (none if not given) are a fresh, a miss or a bump. */
+ * records in 1,000 (none if not given) are a fresh, a miss or a bump.
+ *
+ * With SAME it is a garage with owned semaphores: `owned` comes first and there are no marks. A task takes a semaphore, accesses variables and
+ * gives it back, one section in seven has a second within it; nearly half of the records are accesses. SAME in 1,000 takes are of a
+ * semaphore that the same task gave last. Without its first line it is as good a recording, with the same takes. */
 #include <stdint.h>
 #include <stdio.h>
 #include <stdlib.h>
@@ -70,18 +74,75 @@ static void bent(void) {
     }
 }
 
+/* ---- owned semaphores */
+
+static unsigned holder[32], giver[32];   /* a task and one more, 0 for nobody */
+static unsigned held[16][2], depth[16]; /* the semaphores that a task holds */
+static unsigned takes, repeats;         /* how many of the takes are of a semaphore that the same task gave last */
+
+/* A free semaphore that the task gave last, or one that it did not; 32 where there is none. */
+static unsigned free_semaphore(unsigned task, int own) {
+    unsigned first = below(32);
+    for (unsigned i = 0; i < 32; i++) {
+        unsigned s = (first + i) % 32;
+        if (!holder[s] && (giver[s] == task + 1) == own) return s;
+    }
+    return 32;
+}
+
+/* Where there was none to take again, one more of the next ones is. */
+static void take_free(unsigned task, unsigned same) {
+    int own = repeats * 1000.0 < same * (double)takes || below(1000) < same;
+    unsigned s = free_semaphore(task, own);
+    if (s == 32) s = free_semaphore(task, !own);
+    if (s == 32) return act("miss", task, 0);
+    takes++, repeats += giver[s] == task + 1;
+    holder[s] = task + 1;
+    held[task][depth[task]++] = s;
+    act("take", task, s);
+}
+
+static void give_back(unsigned task) {
+    unsigned at = below(4) ? depth[task] - 1 : 0, s = held[task][at];
+    held[task][at] = held[task][--depth[task]];
+    holder[s] = 0;
+    giver[s] = task + 1;
+    act("give", task, s);
+}
+
+static void owned_act(unsigned same) {
+    unsigned task = any_live();
+    if (below(20) == 0) act(below(2) ? "look" : "set", task, below(32));
+    else if (below(100) < (depth[task] ? 58 : 12)) act(below(5) < 3 ? "read" : "write", task, below(64));
+    else if (depth[task] == 0 || (depth[task] == 1 && below(6) == 0)) take_free(task, same);
+    else give_back(task);
+}
+
+/* What may be refused there. */
+static void stray(void) {
+    switch (below(4)) {
+    case 0: return mark();
+    case 1: return act("owned", any_live(), below(3) / 2);
+    default: return hand_over();
+    }
+}
+
 int main(int argc, char **argv) {
-    if (argc < 4) return fprintf(stderr, "usage: generate SEED RECORDS TASKS [NOISE [PLAIN]]\n"), 2;
+    if (argc < 4) return fprintf(stderr, "usage: generate SEED RECORDS TASKS [NOISE [PLAIN [SAME]]]\n"), 2;
     seed = strtoull(argv[1], 0, 10);
     unsigned records = (unsigned)atoi(argv[2]), tasks = (unsigned)atoi(argv[3]), noise = argc > 4 ? (unsigned)atoi(argv[4]) : 0;
-    unsigned plain = argc > 5 ? (unsigned)atoi(argv[5]) : 0;
+    unsigned plain = argc > 5 ? (unsigned)atoi(argv[5]) : 0, same = argc > 6 ? (unsigned)atoi(argv[6]) : 0;
+    int owned = argc > 6;
     if (tasks < 1 || tasks > 16) return fprintf(stderr, "generate: 1 to 16 tasks\n"), 2;
-    for (unsigned i = 0; i < records; i++) {
+    if (owned) act("owned", 0, 0);
+    for (unsigned i = owned; i < records; i++) {
         if (noise && below(1000) < noise) bent();
+        if (owned && noise && below(1000) < noise) stray();
         if (started < tasks && below(8) == 0) start();
         else if (lives > tasks / 2 + 1 && i > records - records / 10 && below(64) == 0) join();
-        else if (below(50) == 0) mark();
+        else if (!owned && below(50) == 0) mark();
         else if (plain && below(1000) < plain) plain_act();
+        else if (owned) owned_act(same);
         else if (below(100) < 51) act(below(5) < 3 ? "read" : "write", any_live(), below(64));
         else hand_over();
     }

@@ -4,14 +4,15 @@
 #include <stdint.h>
 #include <string.h>
 
-enum { READ, WRITE, TAKE, GIVE, LOOK, SET, START, JOIN, LOST, FRESH, MISS, BUMP, KINDS };
+enum { READ, WRITE, TAKE, GIVE, LOOK, SET, START, JOIN, LOST, FRESH, MISS, BUMP, OWNED, KINDS };
 
 /* rows: 16 tasks' next acts, 16 tasks' having acted, 32 semaphores, 32 flags */
 typedef struct {
     uint32_t clock[2][96][16];
     uint32_t last[3][64][16]; /* reads, writes, bumps */
     uint8_t phase[16];
-    uint32_t count;
+    uint32_t count, owned, skipped;
+    uint8_t holder[32], giver[32]; /* with owned semaphores: a task and one more, 0 for nobody */
 } State;
 
 static void join_row(uint32_t *to, const uint32_t *from) {
@@ -42,13 +43,13 @@ static void fill(uint32_t (*c)[16], uint32_t mask) {
 }
 
 static int refusal(const State *s, int kind, uint32_t task, uint32_t on) {
-    static const uint32_t series[] = {64, 64, 32, 32, 32, 32, 16, 16, 0, 64, 32, 64};
+    static const uint32_t series[] = {64, 64, 32, 32, 32, 32, 16, 16, 0, 64, 32, 64, 1};
     if (kind == LOST) {
         if (on == 0 || on > 65535) return 4;
         if (s->count >= 4000000) return 5;
         for (int t = 0; t < 16; t++)
             if ((on >> t & 1) && s->phase[t] != 1) return 9;
-        return 0;
+        return s->owned ? 15 : 0;
     }
     if (task > 15) return 2;
     if (on >= series[kind]) return 3;
@@ -57,6 +58,9 @@ static int refusal(const State *s, int kind, uint32_t task, uint32_t on) {
     if (kind == START && s->phase[on] != 0) return 7;
     if (kind == JOIN && on == task) return 8;
     if (kind == JOIN && s->phase[on] != 1) return 9;
+    if (kind == OWNED && s->count) return 14;
+    if (s->owned && kind == TAKE && s->holder[on]) return 16;
+    if (s->owned && kind == GIVE && s->holder[on] != task + 1) return 16;
     return 0;
 }
 
@@ -118,6 +122,12 @@ static uint8_t *feed(State *s, uint8_t *o, uint64_t line, int kind, uint32_t tas
         for (int a = 0; a < 3; a++) memset(s->last[a][on], 0, sizeof s->last[a][on]);
     if (kind == START) s->phase[on] = 1;
     if (kind == JOIN) s->phase[on] = 2;
+    if (kind == OWNED) s->owned = 1;
+    if (s->owned && kind == TAKE) {
+        s->holder[on] = (uint8_t)(task + 1);
+        if (s->giver[on] == task + 1) s->skipped++, kind = MISS; /* it knows all that the semaphore knows */
+    }
+    if (s->owned && kind == GIVE) s->holder[on] = 0, s->giver[on] = (uint8_t)(task + 1);
     act(s->clock[0], kind, task, on, number);
     act(s->clock[1], kind, task, on, number);
     return o;
@@ -139,8 +149,9 @@ static const uint8_t *number(const uint8_t *p, const uint8_t *end, uint32_t *v) 
 }
 
 static int op(const uint8_t *p, size_t n) {
-    static const char *const words[] = {"read", "write", "take", "give", "look", "set", "start", "join", "lost", "fresh", "miss", "bump"};
-    static const uint8_t lengths[] = {4, 5, 4, 4, 4, 3, 5, 4, 4, 5, 4, 4};
+    static const char *const words[] = {"read", "write", "take", "give", "look", "set", "start",
+                                        "join", "lost",  "fresh", "miss", "bump", "owned"};
+    static const uint8_t lengths[] = {4, 5, 4, 4, 4, 3, 5, 4, 4, 5, 4, 4, 5};
     for (int k = 0; k < KINDS; k++)
         if (n == lengths[k] && p[0] == (uint8_t)words[k][0] && !memcmp(p, words[k], n)) return k;
     return -1;

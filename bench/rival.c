@@ -10,6 +10,8 @@
  * - Once a task has acted, what a join of it hears is what its next act would know: one bit for each task, not a row.
  * - A mark makes all objects know the same: one row stands for all that no give or set has told since.
  * - A line is read on the guess that it is of the text form; only where it is not is its end looked for.
+ * - With owned semaphores a take of one that the same task gave last joins nothing, a give is a copy, since its task knows all that the
+ *   semaphore knows, and one filling is enough, since there are no marks.
  *
  * Built alone it is a program, standard input to standard output; with -DENTRY it is a second `order_report`. */
 #define _GNU_SOURCE
@@ -25,7 +27,7 @@
 #endif
 #define TOO_SMALL UINT64_MAX
 
-enum { READ, WRITE, TAKE, GIVE, LOOK, SET, START, JOIN, LOST, FRESH, MISS, BUMP, NONE };
+enum { READ, WRITE, TAKE, GIVE, LOOK, SET, START, JOIN, LOST, FRESH, MISS, BUMP, OWNED, NONE, BACK /* a give of an owned semaphore */ };
 
 #ifdef WIDE
 
@@ -54,8 +56,9 @@ typedef struct {
 typedef struct {
     Filling arrived, fullest;
     Clock latest[3][64]; /* by the kind that asks (read, write, bump): the latest access of each variable by each task that conflicts with it */
-    uint32_t live, unseen, count;
+    uint32_t live, unseen, count, owned, skipped;
     uint64_t line;
+    uint8_t holder[32], giver[32]; /* with owned semaphores: a task and one more, 0 for nobody */
 } State;
 
 static void fresh(State *s) {
@@ -119,6 +122,7 @@ static void act(Filling *f, unsigned kind, unsigned task, unsigned on, unsigned 
     case LOOK: hear(f, task, 32 + on); break;
     case GIVE: tell(f, task, on); break;
     case SET: tell(f, task, 32 + on); break;
+    case BACK: f->object[on] = f->task[task], f->told |= (uint64_t)1 << on; break;
     case START: f->task[on] = f->task[task]; break;
     case JOIN:
         if (f->acted >> on & 1) join_clock(&f->task[task], &f->task[on]);
@@ -185,20 +189,22 @@ static uint8_t *put_refused(uint8_t *o, uint64_t line, uint32_t refusal) {
     memcpy(o, "line=", 5);
     o = put_decimal(o + 5, line);
     memcpy(o, " refused=", 9);
-    *(o += 9) = (uint8_t)('0' + refusal);
-    o[1] = '\n';
-    return o + 2;
+    o = put_small(o + 9, refusal);
+    *o = '\n';
+    return o + 1;
 }
 
 /* ---- the step */
 
-static uint32_t series(uint32_t kind) { return kind <= WRITE || kind == FRESH || kind == BUMP ? 64 : kind <= SET || kind == MISS ? 32 : 16; }
+static uint32_t series(uint32_t kind) {
+    return kind <= WRITE || kind == FRESH || kind == BUMP ? 64 : kind <= SET || kind == MISS ? 32 : kind == OWNED ? 1 : 16;
+}
 
 static uint32_t refusal(const State *s, uint32_t kind, uint32_t task, uint32_t on) {
     if (kind == LOST) {
         if (on - 1 >= 65535) return 4;
         if (s->count >= LIMIT) return 5;
-        return on & ~s->live ? 9 : 0;
+        return on & ~s->live ? 9 : s->owned ? 15 : 0;
     }
     if (task > 15) return 2;
     if (on >= series(kind)) return 3;
@@ -206,6 +212,9 @@ static uint32_t refusal(const State *s, uint32_t kind, uint32_t task, uint32_t o
     if (!(s->live >> task & 1)) return 6;
     if (kind == START) return s->unseen >> on & 1 ? 0 : 7;
     if (kind == JOIN) return on == task ? 8 : s->live >> on & 1 ? 0 : 9;
+    if (kind == OWNED) return s->count ? 14 : 0;
+    if (s->owned && kind == TAKE) return s->holder[on] ? 16 : 0;
+    if (s->owned && kind == GIVE) return s->holder[on] == task + 1 ? 0 : 16;
     return 0;
 }
 
@@ -213,11 +222,12 @@ static uint8_t *judge(State *s, uint8_t *o, uint32_t kind, uint32_t task, uint32
     uint32_t asks = kind == BUMP ? 2 : kind;
     Clock *latest = &s->latest[asks][on];
     uint32_t verdict = 1, with = 0;
-    uint32_t mask = apart(latest, &s->fullest.task[task]);
-    if (!mask) {
+    uint32_t mask = apart(latest, &(s->owned ? &s->arrived : &s->fullest)->task[task]);
+    if (!mask && !s->owned) {
         mask = apart(latest, &s->arrived.task[task]);
-        verdict = mask ? 2 : 0;
+        verdict = 2;
     }
+    if (!mask) verdict = 0;
     /* A task's own cell is the number of its last act, so it is never apart from itself. */
     if (mask) with = cells(latest)[__builtin_ctz(mask)];
     if (asks != 0) cells(&s->latest[0][on])[task] = (Cell)number;
@@ -230,6 +240,19 @@ static uint8_t *judge(State *s, uint8_t *o, uint32_t kind, uint32_t task, uint32
     return put_access(o, number, task, on, verdict, with);
 }
 
+/* An act with owned semaphores. */
+static void own(State *s, uint32_t kind, uint32_t task, uint32_t on, uint32_t number) {
+    if (kind == TAKE) {
+        s->holder[on] = (uint8_t)(task + 1);
+        if (s->giver[on] == task + 1) s->skipped++, kind = MISS;
+    } else if (kind == GIVE) {
+        s->holder[on] = 0;
+        s->giver[on] = (uint8_t)(task + 1);
+        kind = BACK;
+    }
+    act(&s->arrived, kind, task, on, number);
+}
+
 static uint8_t *feed(State *s, uint8_t *o, uint32_t kind, uint32_t task, uint32_t on) {
     uint32_t refused = refusal(s, kind, task, on);
     if (refused) return put_refused(o, s->line, refused);
@@ -240,6 +263,8 @@ static uint8_t *feed(State *s, uint8_t *o, uint32_t kind, uint32_t task, uint32_
         for (int a = 0; a < 3; a++) memset(&s->latest[a][on], 0, sizeof s->latest[a][on]);
     if (kind == START) s->live |= 1u << on, s->unseen &= ~(1u << on);
     if (kind == JOIN) s->live &= ~(1u << on);
+    if (s->owned) return own(s, kind, task, on, number), o;
+    if (kind == OWNED) s->owned = 1;
     act(&s->arrived, kind, task, on, number);
     act(&s->fullest, kind, task, on, number);
     return o;
@@ -279,6 +304,7 @@ static uint32_t op(const uint8_t *p, unsigned *len) {
     case EIGHT('o', 'p', '=', 'w', 'r', 'i', 't', 'e'): return *len = 9, p[8] == ' ' ? WRITE : NONE;
     case EIGHT('o', 'p', '=', 's', 't', 'a', 'r', 't'): return *len = 9, p[8] == ' ' ? START : NONE;
     case EIGHT('o', 'p', '=', 'f', 'r', 'e', 's', 'h'): return *len = 9, p[8] == ' ' ? FRESH : NONE;
+    case EIGHT('o', 'p', '=', 'o', 'w', 'n', 'e', 'd'): return *len = 9, p[8] == ' ' ? OWNED : NONE;
     default: return NONE;
     }
 }

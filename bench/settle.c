@@ -3,37 +3,7 @@
  * A recording of `generate` as a list: `order_settle` over it, with the empty set, tasks 0 to 7 and all tasks as home, against one pass of
  * `order_feed` over the same list, by turns. Times are medians of processor time. With 0 rounds there is one pass and one call,
  * with tasks 0 to 7, for callgrind. */
-#include <stdio.h>
-#include <stdlib.h>
-#include <string.h>
-#include <time.h>
-
-#include "../include/order.h"
-
-enum { MOST = 4000000, ROUNDS = 1000 };
-
-static uint32_t list[MOST][3];
-static size_t len;
-
-/* By kind number. */
-static const char *const words[] = {"read", "write", "take", "give", "look", "set", "start", "join", "lost", "fresh", "miss", "bump"};
-
-static void add(const char *line) {
-    char word[8];
-    unsigned task = 0, on;
-    if (sscanf(line, "op=%7s task=%u on=%u", word, &task, &on) != 3 && sscanf(line, "op=%7s tasks=%u", word, &on) != 2) return;
-    for (uint32_t kind = 0; kind < sizeof words / sizeof words[0]; kind++) {
-        if (strcmp(word, words[kind]) != 0 || len == MOST) continue;
-        list[len][0] = kind, list[len][1] = task, list[len][2] = on;
-        len++;
-    }
-}
-
-static uint64_t now(void) {
-    struct timespec t;
-    clock_gettime(CLOCK_PROCESS_CPUTIME_ID, &t);
-    return (uint64_t)t.tv_sec * 1000000000u + (uint64_t)t.tv_nsec;
-}
+#include "list.h"
 
 static uint32_t said[3];
 
@@ -65,26 +35,11 @@ static uint64_t time_settle(uint16_t home) {
     return took;
 }
 
-static int by_size(const void *a, const void *b) {
-    uint64_t x = *(const uint64_t *)a, y = *(const uint64_t *)b;
-    return (x > y) - (x < y);
-}
-
-/* Nanoseconds a record. */
-static double median(uint64_t *took, size_t rounds) {
-    qsort(took, rounds, sizeof *took, by_size);
-    return (double)took[rounds / 2] / (double)len;
-}
-
 int main(int argc, char **argv) {
     static const uint16_t homes[] = {0, 0x00ff, UINT16_MAX};
     enum { HOMES = sizeof homes / sizeof homes[0] };
     static uint64_t fed[ROUNDS], settled[HOMES][ROUNDS];
-    size_t rounds = argc > 2 ? (size_t)atoi(argv[2]) : 25;
-    FILE *recording = argc > 1 ? fopen(argv[1], "r") : NULL;
-    if (!recording || rounds > ROUNDS) return fprintf(stderr, "usage: settle RECORDING [ROUNDS] (0 to %d)\n", ROUNDS), 2;
-    char line[80];
-    while (fgets(line, sizeof line, recording)) add(line);
+    size_t rounds = read_list("settle", argc, argv);
     /* The list ends in an access. */
     while (len && list[len - 1][0] != ORDER_READ && list[len - 1][0] != ORDER_WRITE && list[len - 1][0] != ORDER_BUMP) len--;
 
@@ -97,10 +52,10 @@ int main(int argc, char **argv) {
         fed[round] = time_feed();
         for (size_t i = 0; i < HOMES; i++) settled[i][round] = time_settle(homes[i]);
     }
-    double by_feed = median(fed, rounds);
+    double by_feed = median(fed, rounds) / (double)len;
     printf("%-22s %9s %9s %9s\n", "home", "settle ns", "feed ns", "ratio");
     for (size_t i = 0; i < HOMES; i++) {
-        double by_settle = median(settled[i], rounds);
+        double by_settle = median(settled[i], rounds) / (double)len;
         printf("%-22x %9.1f %9.1f %9.2f\n", (unsigned)homes[i], by_settle, by_feed, by_settle / by_feed);
     }
     return 0;

@@ -1,6 +1,6 @@
 /* The order checker for a host program in C. Link the archives whose functions are used: `rt staticlib NAME` writes libNAME.a, where NAME is
- * report (order_report), host (a running state and the sets, fed record by record, and their totals; order_lazy, order_settle), gateway
- * (order_step) or pieces (order_piece, order_entries). */
+ * report (order_report), host (a running state and the sets, fed record by record, their totals and skipped takes; order_lazy, order_settle),
+ * gateway (order_step) or pieces (order_piece, order_entries). */
 #ifndef ORDER_H
 #define ORDER_H
 
@@ -61,7 +61,7 @@ uint64_t order_report(const uint8_t *text, size_t text_len, uint8_t *report, siz
 #define ORDER_DOUBT 4
 
 /* How many cells each table of a running state has. */
-#define ORDER_CONTROL_CELLS 1268
+#define ORDER_CONTROL_CELLS 1301
 #define ORDER_HISTORY_CELLS 3072
 #define ORDER_CLOCK_CELLS 1312
 #define ORDER_SET_CELLS 7872
@@ -104,13 +104,23 @@ uint32_t order_totals(const uint32_t control[ORDER_CONTROL_CELLS], uint32_t vari
 /* Whether any access of any variable was a Race so far: 1 or 0. It looks at one cell. */
 uint32_t order_any_race(const uint32_t control[ORDER_CONTROL_CELLS]);
 
-/* The two with a whole state. */
+/* How many takes were skipped so far: with owned semaphores, takes of a semaphore that the same task gave last, for which no clocks are
+ * compared. Refused records count nowhere; without ORDER_OWNED it is 0. No verdict depends on it.
+ *
+ * control: as in order_any_race. By the sets, which compare no clocks, it is the same count. */
+uint32_t order_skipped(const uint32_t control[ORDER_CONTROL_CELLS]);
+
+/* The three with a whole state. */
 static inline uint32_t order_state_totals(const struct order_state *s, uint32_t variable, uint32_t totals[3]) {
     return order_totals(s->control, variable, totals);
 }
 
 static inline uint32_t order_state_any_race(const struct order_state *s) {
     return order_any_race(s->control);
+}
+
+static inline uint32_t order_state_skipped(const struct order_state *s) {
+    return order_skipped(s->control);
 }
 
 /* The same as order_state_feed by one call that is lent the whole state. It copies the state there and back, 27 kilobytes, so that a record
@@ -220,13 +230,17 @@ static inline uint64_t order_text_entries_end(struct order_text *t, uint8_t *rep
     return n;
 }
 
-/* The totals of the lines that have ended, between two pieces. */
+/* The totals and the skipped takes of the lines that have ended, between two pieces. */
 static inline uint32_t order_text_totals(const struct order_text *t, uint32_t variable, uint32_t totals[3]) {
     return order_state_totals(&t->state, variable, totals);
 }
 
 static inline uint32_t order_text_any_race(const struct order_text *t) {
     return order_state_any_race(&t->state);
+}
+
+static inline uint32_t order_text_skipped(const struct order_text *t) {
+    return order_state_skipped(&t->state);
 }
 
 /* The same reckoned by sets in place of clocks, for a host that wants a second opinion: a state of its own, the same answer to each
@@ -255,6 +269,10 @@ static inline uint32_t order_sets_state_totals(const struct order_sets *s, uint3
 
 static inline uint32_t order_sets_state_any_race(const struct order_sets *s) {
     return order_any_race(s->control);
+}
+
+static inline uint32_t order_sets_state_skipped(const struct order_sets *s) {
+    return order_skipped(s->control);
 }
 
 /* The lazy reckoning, for a host that has a recording in memory as a list of records and asks about the access that ends it: which other

@@ -1,11 +1,16 @@
-// The control table: each task's phase, the count of accepted records, the profile and each semaphore's holder. crates/theory/specs/acceptance/Control.antt says the same of the table as a list.
+// The control table: each task's phase, the count of accepted records, the profile, each semaphore's holder and last giver, and the skipped
+// takes. crates/theory/specs/acceptance/Control.antt says the same of the table as a list.
+use crate::counters::raise;
 use theory::COUNT;
 use theory::Control;
 use theory::GIVE;
+use theory::GIVERS;
 use theory::HOLDERS;
 use theory::JOIN;
+use theory::MISS;
 use theory::OWNED;
 use theory::PROFILE;
+use theory::SKIPPED;
 use theory::START;
 use theory::Semaphore;
 use theory::TAKE;
@@ -16,7 +21,8 @@ ghost use Prim.Native.Nat.{_<_};
 ghost use lib.ListN.{set};
 ghost use Rattle.theory.specs.order.Limits.{tasks, semaphores, records};
 ghost use Rattle.theory.specs.acceptance.Table.{Proper};
-ghost use Rattle.theory.specs.acceptance.Control.{liveIn, unseenIn, countAt, countIn, underIn, heldIn, holdsIn, acceptanceCells, counted, withHolder, controlAfter};
+ghost use Rattle.theory.specs.feeding.Step.{clockKind};
+ghost use Rattle.theory.specs.acceptance.Control.{liveIn, unseenIn, countAt, countIn, underIn, heldIn, holdsIn, gaveIn, skippedIn, acceptanceCells, counted, takenBy, givenBy, controlAfter};
 
 const UNSEEN: u32 = 0;
 
@@ -45,7 +51,7 @@ pub(crate) fn is_unseen(control: &Control, t: Task) -> bool
 }
 
 // The recording is under the profile of owned semaphores.
-pub(crate) fn is_under(control: &Control) -> bool
+pub fn is_under(control: &Control) -> bool
     ensures { λ r. ⌜ r ≡ underIn (now (control .entry)) ⌝ }
 {
     control[PROFILE] == UNDER
@@ -67,6 +73,30 @@ pub(crate) fn holds(control: &Control, s: Semaphore, t: Task) -> bool
     control[HOLDERS + s.0 as usize] == t.0 + 1
 }
 
+// The task gave the semaphore last.
+fn gave(control: &Control, s: Semaphore, t: Task) -> bool
+    requires { ⌜ (s .0 < semaphores) × (t .0 < tasks) ⌝ }
+    ensures { λ r. ⌜ r ≡ gaveIn (now (control .entry)) (s .0) (t .0) ⌝ }
+{
+    control[GIVERS + s.0 as usize] == t.0 + 1
+}
+
+// The kind by which a record moves the clocks: a take that is skipped does so as a miss does, which makes no step.
+pub(crate) fn clock_kind(control: &Control, kind: u8, task: u32, on: u32) -> u8
+    requires { ⌜ Proper kind task on ⌝ }
+    ensures { λ r. ⌜ r ≡ clockKind (now (control .entry)) kind task on ⌝ }
+{
+    match kind {
+        TAKE => {
+            if gave(control, Semaphore(on), Task(task)) {
+                return MISS;
+            }
+            TAKE
+        }
+        _ => kind,
+    }
+}
+
 // One more accepted record. The bound keeps the sum within its type.
 fn count(control: &mut Control)
     requires { ⌜ countIn (now control) < records ⌝ }
@@ -75,7 +105,7 @@ fn count(control: &mut Control)
     control[COUNT] = control[COUNT] + 1;
 }
 
-// One more accepted record, by which a cell gets a value: a phase, a holder, or the profile.
+// One more accepted record, by which a cell gets a value: a phase, a holder, a giver, or the profile.
 fn enter(control: &mut Control, i: usize, value: u32)
     requires { ⌜ (i < acceptanceCells) × (i ≢ countAt) × (countIn (now control) < records) ⌝ }
     ensures { λ _. ⌜ now (control .exit) ≡ counted (set (now (control .entry)) i value) ⌝ }
@@ -84,13 +114,31 @@ fn enter(control: &mut Control, i: usize, value: u32)
     count(control);
 }
 
-// One more accepted record, by which a semaphore gets a holder, or none. Holders are kept under the profile alone.
-fn hand_over(control: &mut Control, s: Semaphore, who: u32)
-    requires { ⌜ (s .0 < semaphores) × (countIn (now control) < records) ⌝ }
-    ensures { λ _. ⌜ now (control .exit) ≡ counted (withHolder (s .0) who (now (control .entry))) ⌝ }
+// One more accepted record, a take. Under the profile its task is the holder, and it is counted if it is skipped.
+fn note_take(control: &mut Control, s: Semaphore, t: Task)
+    requires { ⌜ (s .0 < semaphores) × (t .0 < tasks) × (countIn (now control) < records) ⌝ }
+    ensures { λ _. ⌜ now (control .exit) ≡ counted (takenBy (t .0) (s .0) (now (control .entry))) ⌝ }
+{
+    if !is_under(control) {
+        count(control);
+        return;
+    }
+    if gave(control, s, t) {
+        raise(control, SKIPPED);
+        enter(control, HOLDERS + s.0 as usize, t.0 + 1);
+        return;
+    }
+    enter(control, HOLDERS + s.0 as usize, t.0 + 1);
+}
+
+// One more accepted record, a give. Under the profile nobody holds the semaphore, and its task is the last giver.
+fn note_give(control: &mut Control, s: Semaphore, t: Task)
+    requires { ⌜ (s .0 < semaphores) × (t .0 < tasks) × (countIn (now control) < records) ⌝ }
+    ensures { λ _. ⌜ now (control .exit) ≡ counted (givenBy (t .0) (s .0) (now (control .entry))) ⌝ }
 {
     if is_under(control) {
-        enter(control, HOLDERS + s.0 as usize, who);
+        control[HOLDERS + s.0 as usize] = FREE;
+        enter(control, GIVERS + s.0 as usize, t.0 + 1);
         return;
     }
     count(control);
@@ -104,9 +152,16 @@ pub(crate) fn note(control: &mut Control, kind: u8, task: u32, on: u32)
     match kind {
         START => enter(control, on as usize, LIVE),
         JOIN => enter(control, on as usize, ENDED),
-        TAKE => hand_over(control, Semaphore(on), task + 1),
-        GIVE => hand_over(control, Semaphore(on), FREE),
+        TAKE => note_take(control, Semaphore(on), Task(task)),
+        GIVE => note_give(control, Semaphore(on), Task(task)),
         OWNED => enter(control, PROFILE, UNDER),
         _ => count(control),
     }
+}
+
+// How many takes were skipped so far.
+pub fn skipped(control: &Control) -> u32
+    ensures { λ r. ⌜ r ≡ skippedIn (now (control .entry)) ⌝ }
+{
+    control[SKIPPED]
 }

@@ -2,6 +2,7 @@
 use crate::acting::act_by_clocks;
 use crate::acting::act_by_sets;
 use crate::clocks;
+use crate::control::clock_kind;
 use crate::control::note;
 use crate::refusals::refusal;
 use crate::sets;
@@ -24,7 +25,7 @@ ghost use Rattle.theory.specs.feeding.Step.{stepOf, setStepOf};
 ghost use Rattle.theory.specs.feeding.Lent.{tables, setTables};
 
 // Feeds a record. A refused record leaves every table as it was. An accepted one gets its number; the kind says what its other numbers are:
-// an act has an acting task, and a mark none, but a mask.
+// an act has an acting task, and a mark none, but a mask. A take that is skipped is an act as a miss is, and is noted as a take.
 pub fn step_in_place(
     control: &mut Control,
     last: &mut History,
@@ -40,6 +41,7 @@ pub fn step_in_place(
     }
     let kind = r.kind;
     let number = RecordNumber(control[COUNT] + 1);
+    let moved = clock_kind(control, kind, r.task, r.on);
     note(control, kind, r.task, r.on);
     match kind {
         LOST => {
@@ -51,7 +53,7 @@ pub fn step_in_place(
             last,
             clocks,
             fullclocks,
-            kind,
+            moved,
             Task(r.task),
             r.on,
             number,

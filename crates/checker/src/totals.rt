@@ -1,4 +1,5 @@
 // Totals of verdicts, in the control table: read at any moment, and raised by the step.
+use crate::counters::raise;
 use theory::Answer;
 use theory::CLEAR_TOTALS;
 use theory::Control;
@@ -12,10 +13,7 @@ ghost use mathlib.Core.Path.{_≡_};
 ghost use Prim.Native.Nat.{_<_};
 ghost use Rattle.theory.specs.order.Limits.{variables};
 ghost use Rattle.theory.specs.feeding.Meaning.{meaning};
-ghost use Rattle.theory.specs.totals.Totals.{controlCells, totalsOf, anyRace, oneMore, raise, totalled};
-
-// The end of a counter's range.
-const LAST: u32 = 4_294_967_295;
+ghost use Rattle.theory.specs.totals.Totals.{totalsOf, anyRace, totalled};
 
 // How many accesses of a variable were answered by each verdict so far.
 pub fn totals_of(control: &Control, v: u32) -> Totals
@@ -43,21 +41,6 @@ pub fn any_race(control: &Control) -> bool
     ensures { λ r. ⌜ r ≡ anyRace (now (control .entry)) ⌝ }
 {
     0 < control[RACES]
-}
-
-// One more; at the end of its range a counter stays.
-fn one_more(n: u32) -> u32
-    ensures { λ r. ⌜ r ≡ oneMore n ⌝ }
-{
-    if n < LAST { n + 1 } else { n }
-}
-
-// One more in a cell of the control table.
-fn raise(control: &mut Control, i: usize)
-    requires { ⌜ i < controlCells ⌝ }
-    ensures { λ _. ⌜ now (control .exit) ≡ raise i (now (control .entry)) ⌝ }
-{
-    control[i] = one_more(control[i]);
 }
 
 // The answer to an access of the variable is counted. Any other is no verdict, and counts nowhere.

@@ -1,10 +1,12 @@
-// The totals of verdicts, for a host program in C. They lie in the control table of a running state, that of the clocks or that of the sets.
+// The totals of verdicts and the count of skipped takes, for a host program in C. They lie in the control table of a running state, that of the clocks or that of the sets.
 use checker::any_race;
+use checker::skipped;
 use checker::totals_of;
 use theory::Control;
 ghost use mathlib.Core.Path.{_≡_};
 ghost use mathlib.Core.Bool.{cond};
 ghost use mathlib.Core.List.{[], _∷_};
+ghost use Rattle.theory.specs.acceptance.Control.{skippedIn};
 ghost use Rattle.theory.specs.tables.Reckonings.{indicator};
 ghost use Rattle.theory.specs.totals.Totals.{totalsOf, anyRace};
 
@@ -29,4 +31,12 @@ pub extern "C" fn order_any_race(control: &Control) -> u32
     ensures { λ r. ⌜ r ≡ indicator (anyRace (now (control .entry))) ⌝ }
 {
     if any_race(control) { 1 } else { 0 }
+}
+
+// Returns how many takes were skipped so far.
+#[no_mangle]
+pub extern "C" fn order_skipped(control: &Control) -> u32
+    ensures { λ r. ⌜ r ≡ skippedIn (now (control .entry)) ⌝ }
+{
+    skipped(control)
 }

@@ -21,7 +21,7 @@ use Rattle.theory.specs.entries.Table.{takenIn, full, entered, afterEntry, excu
 use Rattle.theory.specs.entries.Known.{Fault, Fits, AllFit, none-left, and-fits, enteredAll, startWith}
 use Rattle.theory.proofs.totals.Kept.{fresh-cell}
 use Rattle.theory.proofs.acceptance.ControlTable.{fresh-control}
-use Rattle.theory.proofs.feeding.Simulation.{Represents, fresh-base, clocks-simulate}
+use Rattle.theory.proofs.feeding.Simulation.{Represents, base-control, fresh-base, clocks-simulate}
 use Rattle.theory.proofs.entries.Taken.{taken-all, entered-taken, entered-size, is-entered}
 use Rattle.text.specs.declared.parsed.Parsed.{Parsed}
 use Rattle.text.specs.declared.entry.Entry.{Entry}
@@ -210,7 +210,7 @@ unfolding freshState
 starts fs fit few =
     let x = taken-all fs fit freshControl (fresh-control .size) (omega (arith, fresh-taken)) in
     record {
-      base = record { control-exact = x .exact fresh-control; history = fresh-base .history; ranged = fresh-base .ranged; seen = fresh-base .seen };
+      base = base-control fresh-base (x .exact fresh-control);
       clocks = clocks-simulate .begins .clocks;
     }
 

@@ -11,3 +11,4 @@ pub mod lazy
 pub mod entries
 pub mod swapping
 pub mod settling
+pub mod skipping

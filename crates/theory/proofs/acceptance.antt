@@ -3,5 +3,6 @@ pub mod Rows
 pub mod Accepted
 pub mod Updated
 pub mod Owning
+pub mod Keeping
 pub mod ControlTable
 pub mod Examples

@@ -1,4 +1,5 @@
 -- Rows and columns of any width and any join; acts and marks; clocks and sets are exact; their masks find the partner
+pub mod Counters
 pub mod Rows
 pub mod Joining
 pub mod Words

@@ -18,3 +18,5 @@ pub mod lazy
 pub mod swapping
 -- Which controller could have settled it
 pub mod settling
+-- Takes without clock work
+pub mod skipping

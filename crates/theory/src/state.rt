@@ -7,16 +7,20 @@ use crate::limits::VARIABLES;
 
 // The tables that a state is made of, by their sizes. crates/theory/specs says which cells hold what.
 
-// Each task's phase (0 unseen, 1 live, 2 ended), then the count of accepted records, whether they are under the profile of owned semaphores, and
-// each semaphore's holder; the count of Races, and for each verdict a total for each variable: Clear, Race, Doubt; then the faults that a planner
-// has accepted.
+// Each task's phase (0 unseen, 1 live, 2 ended), then the count of accepted records, whether they are under the profile of owned semaphores,
+// each semaphore's holder and last giver, and the count of skipped takes; the count of Races, and for each verdict a total for each variable: Clear,
+// Race, Doubt; then the faults that a planner has accepted.
 pub const COUNT: usize = TASKS as usize;
 
 pub const PROFILE: usize = COUNT + 1;
 
 pub const HOLDERS: usize = PROFILE + 1;
 
-pub const RACES: usize = HOLDERS + SEMAPHORES as usize;
+pub const GIVERS: usize = HOLDERS + SEMAPHORES as usize;
+
+pub const SKIPPED: usize = GIVERS + SEMAPHORES as usize;
+
+pub const RACES: usize = SKIPPED + 1;
 
 pub const CLEAR_TOTALS: usize = RACES + 1;
 

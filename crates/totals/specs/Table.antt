@@ -7,6 +7,7 @@ use lib.Dec.{eqb}
 use lib.ListN.{length, replicate}
 use Rattle.theory.specs.declared.verdict_totals.Totals.{Totals}
 use Rattle.theory.specs.order.Limits.{variables}
+use Rattle.theory.specs.acceptance.Control.{underIn, skippedIn}
 use Rattle.theory.specs.totals.Totals.{totalsOf}
 use Rattle.text.specs.LineForm.{space}
 use Rattle.text.specs.Printing.{bytes, decimal}
@@ -82,6 +83,10 @@ tableOf control = head ++ linesBelow control variables ++ bytes "all" ++ countsO
 abbrev pub room : ℕ
 room = (variables + 2) * line
 
--- the same as one of several: an empty line follows, so that they can be told apart
+-- F-13: under the profile of owned semaphores a line says how many takes were skipped
+unfoldable pub skippedLine : List ℕ → List ℕ
+skippedLine control = cond (underIn control) (bytes "skipped" ++ cell 0 (skippedIn control) ++ bytes "\n") []
+
+-- the table and that line, and as one of several an empty line, so that they can be told apart
 unfoldable pub shownOf : Bool → List ℕ → List ℕ
-shownOf several control = tableOf control ++ cond several (bytes "\n") []
+shownOf several control = tableOf control ++ skippedLine control ++ cond several (bytes "\n") []

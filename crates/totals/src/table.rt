@@ -3,6 +3,8 @@ use crate::sums::Sums;
 use crate::sums::added_to;
 use crate::sums::all_of;
 use crate::sums::nothing_yet;
+use checker::is_under;
+use checker::skipped;
 use checker::totals_of;
 use report::put_digit;
 use theory::Control;
@@ -14,7 +16,7 @@ ghost use lib.ListN.{length, getD};
 ghost use Rattle.theory.specs.order.Limits.{variables};
 ghost use Rattle.io.specs.Counts.{Counts};
 ghost use Rattle.text.specs.Wrote.{Wrote};
-ghost use Rattle.totals.specs.Table.{Small, line, sumsBelow, padded, cell, countsOf, variableLine, linesBelow, tableOf, room, shownOf};
+ghost use Rattle.totals.specs.Table.{Small, line, sumsBelow, padded, cell, countsOf, variableLine, linesBelow, tableOf, room, skippedLine, shownOf};
 
 // The widths of the first column and of the others, with the space before each number.
 const NAME_WIDTH: usize = 3;
@@ -24,8 +26,8 @@ const COUNT_WIDTH: usize = 8;
 // So much room is asked for a line: it has five numbers, each of 20 digits at most.
 const LINE: usize = 128;
 
-// The lines of a table: for each variable, its head and its sums.
-const LINES: usize = VARIABLES as usize + 2;
+// The lines of a table: for each variable, its head, its sums and the skipped takes.
+const LINES: usize = VARIABLES as usize + 3;
 
 pub(crate) const TABLE: usize = LINES * LINE;
 
@@ -132,12 +134,26 @@ fn put_table(out: &mut [u8], control: &Control) -> usize
     put_counts(out, c, b.sums)
 }
 
-// The table, and an empty line after it where it is one of several.
+// How many takes were skipped, where the recording is under the profile.
+fn put_skipped(out: &mut [u8], at: usize, control: &Control) -> usize
+    requires { ⌜ at + line ≤ length (now out) ⌝ }
+    ensures { λ r. ⌜ Wrote (now (out .entry)) at (skippedLine (now (control .entry))) (now (out .exit)) r × (r ≤ at + line) ⌝ }
+{
+    if !is_under(control) {
+        return at;
+    }
+    let a = put_padded(out, at, 0, b"skipped");
+    let b = put_cell(out, a, 0, skipped(control) as u64);
+    put_padded(out, b, 0, b"\n")
+}
+
+// The table with the line of skipped takes, and an empty line after it where it is one of several.
 pub(crate) fn put_shown(out: &mut [u8], control: &Control, several: bool) -> usize
-    requires { ⌜ room < length (now out) ⌝ }
+    requires { ⌜ room + line < length (now out) ⌝ }
     ensures { λ r. ⌜ Wrote (now (out .entry)) 0 (shownOf several (now (control .entry))) (now (out .exit)) r × Counts r (now (out .exit)) ⌝ }
 {
-    let n = put_table(out, control);
+    let table = put_table(out, control);
+    let n = put_skipped(out, table, control);
     if !several {
         return n;
     }

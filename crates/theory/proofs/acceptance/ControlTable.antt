@@ -1,4 +1,4 @@
--- The control table is exact: it holds the phases, the count, the profile and the holders of the recording so far, so that it refuses what the
+-- The control table is exact: it holds the phases, the count, the profile, the holders and the last givers of the recording so far, so that it refuses what the
 -- recording refuses.
 -- Assumes nothing.
 use mathlib.Core.Path.{_≡_, refl, sym, _∙_, ap, ap₂}
@@ -17,16 +17,19 @@ use Rattle.theory.specs.tables.Turns.{turns}
 use Rattle.theory.specs.order.Recording.{Op, Event, act, lost, kind, kinds, lossMark, kindSeries}
 use Rattle.theory.specs.fillings.Completion.{names}
 use Rattle.theory.specs.acceptance.Table.{Phase, isLive, isUnseen, nextPhase, laterPhase, phase, Fitting, hasKind, anyBelow, Standing, _when_, firstRow, standingRefusal, standing, refusal}
-use Rattle.theory.specs.acceptance.Owning.{isOwned, under, Who, nobody, by, isSomebody, isBy, nextHolder, holder}
-use Rattle.theory.specs.acceptance.Control.{liveIn, unseenIn, countIn, profileAt, underIn, holderAt, acceptanceCells, heldIn, holdsIn, controlStanding, controlRefusal, counted, withHolder, controlAfter}
+use Rattle.theory.specs.acceptance.Owning.{isOwned, under, Who, nobody, by, isSomebody, isBy, nextHolder, whoSince, holder}
+use Rattle.theory.specs.skipping.Skipping.{nextGiver, giver}
+use Rattle.theory.specs.tables.Counters.{raise}
+use Rattle.theory.specs.acceptance.Control.{liveIn, unseenIn, countIn, profileAt, underIn, holderAt, giverAt, gaveIn, skippedAt, acceptanceCells, heldIn, holdsIn, controlStanding, controlRefusal, counted, takenBy, givenBy, controlAfter}
 use Rattle.theory.specs.totals.Totals.{controlCells}
 use Rattle.theory.specs.feeding.Step.{freshControl}
 use Rattle.theory.proofs.basics.Reflects.{Reflects, right, wrong, equal, at-most}
 use Rattle.theory.proofs.acceptance.Rows.{OfAct, actRows, markRows, act-rows, mark-rows}
 use Rattle.theory.proofs.order.Ops.{Role, a-take, a-give, a-look, a-set, a-start, a-join, plain, role, keeps-phases, same-op, is-not}
 use Rattle.theory.proofs.order.Numbered.{or-true}
-use Rattle.theory.proofs.acceptance.Updated.{Rewritten, as-before, and-set, rewritten-length, rewritten-count}
-use Rattle.theory.proofs.acceptance.Owning.{under-snoc, under-kept, holder-snoc, holder-left, none-held}
+use Rattle.theory.proofs.acceptance.Updated.{Rewritten, as-before, and-set, rewritten-length, rewritten-count, taken-rewrites, given-rewrites}
+use Rattle.theory.proofs.acceptance.Owning.{under-snoc, under-kept, who-snoc, who-none, who-left}
+use Rattle.theory.proofs.tables.Counters.{raise-length, raise-other}
 
 -- Definition
 
@@ -35,13 +38,23 @@ abbrev pub whoNumber : Who → ℕ
 whoNumber nobody = 0
 whoNumber (by t) = t + 1
 
+-- at these places the table has who it is for each semaphore
+pub record Written (place : ℕ → ℕ) (next : Event → ℕ → Who → Who) (es : List Event) (control : List ℕ) : Type 0 where
+  pub at : (s : ℕ) → s < semaphores → getD control (place s) 0 ≡ whoNumber (whoSince next es s)
+
+-- in another table, too, that is the same there
+written-in : {place : ℕ → ℕ} {next : Event → ℕ → Who → Who} {es : List Event} {control : List ℕ} → Written place next es control → (after : List ℕ) →
+    ((s : ℕ) → s < semaphores → getD after (place s) 0 ≡ getD control (place s) 0) → Written place next es after
+written-in x after same = record { at = λ s l. same s l ∙ x .at s l }
+
 pub record ExactControl (es : List Event) (control : List ℕ) : Type 0 where
   pub size : length control ≡ controlCells
   pub count : countIn control ≡ length es
   pub live : (t : ℕ) → t < tasks → liveIn control t ≡ isLive (phase es t)
   pub unseen : (t : ℕ) → t < tasks → unseenIn control t ≡ isUnseen (phase es t)
   pub profile : underIn control ≡ under es
-  pub holders : (s : ℕ) → s < semaphores → getD control (holderAt s) 0 ≡ whoNumber (holder es s)
+  pub holders : Written holderAt nextHolder es control
+  pub givers : Written giverAt nextGiver es control
 
 -- The fresh table
 
@@ -61,8 +74,12 @@ fresh-control =
       live = fresh-live;
       unseen = fresh-unseen;
       profile = refl;
-      holders = λ s h. getD-set-other (replicate controlCells 0) 0 (holderAt s) 1 0 (λ q. omega arith) ∙ getD-replicate {A = ℕ} controlCells (holderAt s) 0 0 (omega arith);
+      holders = record { at = λ s h. empty (holderAt s) (omega arith) (omega arith) };
+      givers = record { at = λ s h. empty (giverAt s) (omega arith) (omega arith) };
     }
+  where
+    empty : (i : ℕ) → 0 < i → i < controlCells → getD freshControl i 0 ≡ 0
+    empty i h l = getD-set-other (replicate controlCells 0) 0 i 1 0 (λ q. omega arith) ∙ getD-replicate {A = ℕ} controlCells i 0 0 l
 
 -- Acceptance does not look at what lies after its own cells
 
@@ -74,7 +91,8 @@ exact-elsewhere {es} {control} x i v h =
       live = λ t l. ap (λ (n : ℕ). eqb n 1) (other t (omega arith)) ∙ x .live t l;
       unseen = λ t l. ap (λ (n : ℕ). eqb n 0) (other t (omega arith)) ∙ x .unseen t l;
       profile = ap (λ (n : ℕ). eqb n 1) (other profileAt (omega arith)) ∙ x .profile;
-      holders = λ s l. other (holderAt s) (omega arith) ∙ x .holders s l;
+      holders = written-in (x .holders) (set control i v) (λ s l. other (holderAt s) (omega arith));
+      givers = written-in (x .givers) (set control i v) (λ s l. other (giverAt s) (omega arith));
     }
   where
     other : (j : ℕ) → j < acceptanceCells → getD (set control i v) j 0 ≡ getD control j 0
@@ -95,22 +113,48 @@ record Holds (control : List ℕ) (t : ℕ) (p : Phase) : Type 0 where
   live : liveIn control t ≡ isLive p
   unseen : unseenIn control t ≡ isUnseen p
 
+-- who it is for each semaphore, holder or last giver, in a table with one more event
+module _ {place : ℕ → ℕ} {next : Event → ℕ → Who → Who} {es : List Event} {control : List ℕ} (x : Written place next es control) (e : Event) where
+  -- an event that changes it for none, if it begins the profile or not
+  who-same : ((s : ℕ) (h : Who) → next e s h ≡ h) → Written place next (es ++ (e ∷ [])) control
+  who-same k = record { at = λ s l. x .at s l ∙ ap whoNumber (sym (who-left next es e s (k s (whoSince next es s)))) }
+
+  -- it is nobody outside the profile
+  who-outside : under es ≡ false → Written place next (es ++ (e ∷ [])) control
+  who-outside q = record { at = λ s l. x .at s l ∙ ap whoNumber (who-none next es s q ∙ sym (now s)) }
+    where
+      now : (s : ℕ) → whoSince next (es ++ (e ∷ [])) s ≡ nobody
+      now s = rw (who-snoc next es e s, q)
+
+  -- an event after which, under the profile, it is w for semaphore n
+  who-new : (after : List ℕ) (n : ℕ) (w : Who) → under es ≡ true → ((s : ℕ) (h : Who) → next e s h ≡ cond (eqb n s) w h) → getD after (place n) 0 ≡ whoNumber w →
+      ((s : ℕ) → s < semaphores → s ≢ n → getD after (place s) 0 ≡ getD control (place s) 0) → Written place next (es ++ (e ∷ [])) after
+  who-new after n w q k same other = record { at = λ s l. decided s l (equal n s) ∙ ap whoNumber (sym (now s)) }
+    where
+      now : (s : ℕ) → whoSince next (es ++ (e ∷ [])) s ≡ cond (eqb n s) w (whoSince next es s)
+      now s = rw (who-snoc next es e s, q) (k s (whoSince next es s))
+
+      decided : (s : ℕ) → s < semaphores → {b : Bool} → Reflects (n ≡ s) b → getD after (place s) 0 ≡ whoNumber (cond b w (whoSince next es s))
+      decided s l (right v) = rw (← v) same
+      decided s l (wrong d) = other s l (λ v. d (sym v)) ∙ x .at s l
+
 module _ {es : List Event} {control : List ℕ} (x : ExactControl es control) where
   held : (t : ℕ) → t < tasks → Holds control t (phase es t)
   held t h = record { live = x .live t h; unseen = x .unseen t h }
 
   -- the event is counted in a table that holds all else as it is after it
   counted-in : (e : Event) (after : List ℕ) → Rewritten control after → ((t : ℕ) → t < tasks → Holds after t (nextPhase e t (phase es t))) →
-      underIn after ≡ under (es ++ (e ∷ [])) → ((s : ℕ) → s < semaphores → getD after (holderAt s) 0 ≡ whoNumber (holder (es ++ (e ∷ [])) s)) →
+      underIn after ≡ under (es ++ (e ∷ [])) → Written holderAt nextHolder (es ++ (e ∷ [])) after → Written giverAt nextGiver (es ++ (e ∷ [])) after →
       ExactControl (es ++ (e ∷ [])) (counted after)
-  counted-in e after w h p y =
+  counted-in e after w h p y z =
       record {
         size = length-set after tasks (countIn after + 1) ∙ (rewritten-length w ∙ x .size);
         count = getD-set-same after tasks (countIn after + 1) 0 (omega (arith, x .size, rewritten-length w)) ∙ one-more;
         live = λ t l. rw (other t (λ q. omega arith), phase-snoc (cond (eqb t 0) Phase.live Phase.unseen) es e t) (h t l .live);
         unseen = λ t l. rw (other t (λ q. omega arith), phase-snoc (cond (eqb t 0) Phase.live Phase.unseen) es e t) (h t l .unseen);
         profile = rw (other profileAt (λ q. omega arith)) p;
-        holders = λ s l. other (holderAt s) (λ q. omega arith) ∙ y s l;
+        holders = written-in y (counted after) (λ s l. other (holderAt s) (λ q. omega arith));
+        givers = written-in z (counted after) (λ s l. other (giverAt s) (λ q. omega arith));
       }
     where
       one-more : countIn after + 1 ≡ length (es ++ (e ∷ []))
@@ -119,28 +163,25 @@ module _ {es : List Event} {control : List ℕ} (x : ExactControl es control) wh
       other : (i : ℕ) → i ≢ tasks → getD (set after tasks (countIn after + 1)) i 0 ≡ getD after i 0
       other i n = getD-set-other after tasks i (countIn after + 1) 0 n
 
-  -- an event that changes no holder, if it begins the profile or not
-  same-holders : (e : Event) → ((s : ℕ) (h : Who) → nextHolder e s h ≡ h) → (s : ℕ) → s < semaphores →
-      getD control (holderAt s) 0 ≡ whoNumber (holder (es ++ (e ∷ [])) s)
-  same-holders e k s l = x .holders s l ∙ ap whoNumber (sym (holder-left es e s (k s (holder es s))))
-
   same-profile : (e : Event) → isOwned e ≡ false → underIn control ≡ under (es ++ (e ∷ []))
   same-profile e q = x .profile ∙ sym (under-kept es e q)
 
   -- an event that changes nothing here
-  unchanged : (e : Event) → ((t : ℕ) (p : Phase) → nextPhase e t p ≡ p) → isOwned e ≡ false → ((s : ℕ) (h : Who) → nextHolder e s h ≡ h) →
+  unchanged : (e : Event) → ((t : ℕ) (p : Phase) → nextPhase e t p ≡ p) → isOwned e ≡ false → ((s : ℕ) (h : Who) → nextHolder e s h ≡ h) → ((s : ℕ) (h : Who) → nextGiver e s h ≡ h) →
       ExactControl (es ++ (e ∷ [])) (counted control)
-  unchanged e k q h = counted-in e control as-before (λ t l. rw (k t (phase es t)) (held t l)) (same-profile e q) (same-holders e h)
+  unchanged e k q h g =
+      counted-in e control as-before (λ t l. rw (k t (phase es t)) (held t l)) (same-profile e q) (who-same (x .holders) e h) (who-same (x .givers) e g)
 
   -- an event after which task n is in phase q, which the table has as v
   new-phase : (e : Event) (n v : ℕ) (q : Phase) → n < tasks → eqb v 1 ≡ isLive q → eqb v 0 ≡ isUnseen q →
-      ((t : ℕ) (p : Phase) → nextPhase e t p ≡ cond (eqb n t) q p) → isOwned e ≡ false → ((s : ℕ) (h : Who) → nextHolder e s h ≡ h) →
+      ((t : ℕ) (p : Phase) → nextPhase e t p ≡ cond (eqb n t) q p) → isOwned e ≡ false → ((s : ℕ) (h : Who) → nextHolder e s h ≡ h) → ((s : ℕ) (h : Who) → nextGiver e s h ≡ h) →
       ExactControl (es ++ (e ∷ [])) (counted (set control n v))
-  new-phase e n v q fits l u k o h =
+  new-phase e n v q fits l u k o h g =
       counted-in e (set control n v) (and-set as-before n v (omega arith) (λ w. omega arith))
       (λ t h. rw (k t (phase es t)) (decided t h (equal n t)))
       (rw (other profileAt (omega arith)) (same-profile e o))
-      (λ s l. other (holderAt s) (omega arith) ∙ same-holders e h s l)
+      (written-in (who-same (x .holders) e h) (set control n v) (λ s l. other (holderAt s) (omega arith)))
+      (written-in (who-same (x .givers) e g) (set control n v) (λ s l. other (giverAt s) (omega arith)))
     where
       same : getD (set control n v) n 0 ≡ v
       same = getD-set-same control n v 0 (omega (arith, x .size))
@@ -154,48 +195,89 @@ module _ {es : List Event} {control : List ℕ} (x : ExactControl es control) wh
           let o = getD-set-other control n t v 0 (λ w. d (sym w)) in
           record { live = rw o (x .live t h); unseen = rw o (x .unseen t h) }
 
-  -- an event after which, under the profile, semaphore n is w's
-  new-holder : (e : Event) (n : ℕ) (w : Who) → n < semaphores → ((t : ℕ) (p : Phase) → nextPhase e t p ≡ p) → isOwned e ≡ false →
-      ((s : ℕ) (h : Who) → nextHolder e s h ≡ cond (eqb n s) w h) → ExactControl (es ++ (e ∷ [])) (counted (withHolder n (whoNumber w) control))
-  new-holder e n w fits k q h = decided (underIn control) refl
+  -- an event that under the profile writes holders and last givers alone, and outside it nothing
+  owning : (e : Event) (after : List ℕ) → ((t : ℕ) (p : Phase) → nextPhase e t p ≡ p) → isOwned e ≡ false → Rewritten control after →
+      ((i : ℕ) → i < holderAt 0 → getD after i 0 ≡ getD control i 0) →
+      (under es ≡ true → Written holderAt nextHolder (es ++ (e ∷ [])) after × Written giverAt nextGiver (es ++ (e ∷ [])) after) →
+      ExactControl (es ++ (e ∷ [])) (counted (cond (underIn control) after control))
+  owning e after k q w front writes = decided (underIn control) refl
     where
       phases : (t : ℕ) → t < tasks → Holds control t (nextPhase e t (phase es t))
       phases t l = rw (k t (phase es t)) (held t l)
 
-      cells : List ℕ
-      cells = set control (holderAt n) (whoNumber w)
-
-      other : (i : ℕ) → i ≢ holderAt n → getD cells i 0 ≡ getD control i 0
-      other i d = getD-set-other control (holderAt n) i (whoNumber w) 0 d
-
-      own : underIn control ≡ true → (s : ℕ) → s < semaphores → {b : Bool} → Reflects (n ≡ s) b → getD cells (holderAt s) 0 ≡ whoNumber (cond b w (holder es s))
-      own z s l (right v) = rw (← v) (getD-set-same control (holderAt n) (whoNumber w) 0 (omega (arith, x .size)))
-      own z s l (wrong d) = other (holderAt s) (λ v. d (omega arith)) ∙ x .holders s l
-
-      now-held : underIn control ≡ true → (s : ℕ) → holder (es ++ (e ∷ [])) s ≡ cond (eqb n s) w (holder es s)
-      now-held z s = rw (holder-snoc es e s, sym (x .profile) ∙ z) (h s (holder es s))
-
-      none-yet : underIn control ≡ false → (s : ℕ) → holder (es ++ (e ∷ [])) s ≡ nobody
-      none-yet z s = rw (holder-snoc es e s, sym (x .profile) ∙ z)
-
-      decided : (b : Bool) → underIn control ≡ b → ExactControl (es ++ (e ∷ [])) (counted (cond b cells control))
+      decided : (b : Bool) → underIn control ≡ b → ExactControl (es ++ (e ∷ [])) (counted (cond b after control))
       decided true z =
-          counted-in e cells (and-set as-before (holderAt n) (whoNumber w) (omega arith) (λ v. omega arith))
-          (λ t l. let o = other t (λ v. omega arith) in let p = phases t l in record { live = rw o (p .live); unseen = rw o (p .unseen) })
-          (rw (other profileAt (λ v. omega arith)) (same-profile e q))
-          (λ s l. own z s l (equal n s) ∙ ap whoNumber (sym (now-held z s)))
+          let (h, g) = writes (sym (x .profile) ∙ z) in
+          counted-in e after w (λ t l. let o = front t (omega arith) in let p = phases t l in record { live = rw o (p .live); unseen = rw o (p .unseen) })
+          (rw (front profileAt (omega arith)) (same-profile e q)) h g
       decided false z =
-          counted-in e control as-before phases (same-profile e q)
-          (λ s l. x .holders s l ∙ ap whoNumber (none-held es s (sym (x .profile) ∙ z) ∙ sym (none-yet z s)))
+          let none = sym (x .profile) ∙ z in
+          counted-in e control as-before phases (same-profile e q) (who-outside (x .holders) e none) (who-outside (x .givers) e none)
+
+  -- a take
+  new-holder : (t n : ℕ) → n < semaphores → ExactControl (es ++ (act Op.take t n ∷ [])) (counted (takenBy t n control))
+  new-holder t n fits =
+      owning (act Op.take t n) after (λ u p. cond-same (eqb n u) p) refl (taken-rewrites t n control fits (gaveIn control n t))
+      (λ i l. other i (λ v. omega arith) (λ v. omega arith))
+      (λ q. (
+        who-new (x .holders) (act Op.take t n) after n (by t) q (λ s h. refl) same (λ s l d. other (holderAt s) (λ v. d (omega arith)) (λ v. omega arith)),
+        written-in (who-same (x .givers) (act Op.take t n) (λ s h. cond-same (eqb n s) h)) after (λ s l. other (giverAt s) (λ v. omega arith) (λ v. omega arith)),
+      ))
+    where
+      skipped : Bool → List ℕ
+      skipped b = cond b (raise skippedAt control) control
+
+      after : List ℕ
+      after = set (skipped (gaveIn control n t)) (holderAt n) (t + 1)
+
+      same-length : (b : Bool) → length (skipped b) ≡ length control
+      same-length true = raise-length skippedAt control
+      same-length false = refl
+
+      same : getD after (holderAt n) 0 ≡ t + 1
+      same = getD-set-same (skipped (gaveIn control n t)) (holderAt n) (t + 1) 0 (omega (arith, x .size, same-length (gaveIn control n t)))
+
+      but-count : (b : Bool) (i : ℕ) → i ≢ skippedAt → getD (skipped b) i 0 ≡ getD control i 0
+      but-count true i d = raise-other skippedAt i control d
+      but-count false i d = refl
+
+      other : (i : ℕ) → i ≢ holderAt n → i ≢ skippedAt → getD after i 0 ≡ getD control i 0
+      other i d f = getD-set-other (skipped (gaveIn control n t)) (holderAt n) i (t + 1) 0 d ∙ but-count (gaveIn control n t) i f
+
+  -- a give
+  new-giver : (t n : ℕ) → n < semaphores → ExactControl (es ++ (act Op.give t n ∷ [])) (counted (givenBy t n control))
+  new-giver t n fits =
+      owning (act Op.give t n) after (λ u p. cond-same (eqb n u) p) refl (given-rewrites t n control fits)
+      (λ i l. other i (λ v. omega arith) (λ v. omega arith))
+      (λ q. (
+        who-new (x .holders) (act Op.give t n) after n nobody q (λ s h. refl) free (λ s l d. other (holderAt s) (λ v. d (omega arith)) (λ v. omega arith)),
+        who-new (x .givers) (act Op.give t n) after n (by t) q (λ s h. refl) gave (λ s l d. other (giverAt s) (λ v. omega arith) (λ v. d (omega arith))),
+      ))
+    where
+      freed : List ℕ
+      freed = set control (holderAt n) 0
+
+      after : List ℕ
+      after = set freed (giverAt n) (t + 1)
+
+      free : getD after (holderAt n) 0 ≡ 0
+      free = getD-set-other freed (giverAt n) (holderAt n) (t + 1) 0 (λ v. omega arith) ∙ getD-set-same control (holderAt n) 0 0 (omega (arith, x .size))
+
+      gave : getD after (giverAt n) 0 ≡ t + 1
+      gave = getD-set-same freed (giverAt n) (t + 1) 0 (omega (arith, x .size, length-set control (holderAt n) 0))
+
+      other : (i : ℕ) → i ≢ holderAt n → i ≢ giverAt n → getD after i 0 ≡ getD control i 0
+      other i d f = getD-set-other freed (giverAt n) i (t + 1) 0 f ∙ getD-set-other control (holderAt n) i 0 0 d
 
   -- the event that begins the profile
-  new-profile : (e : Event) → ((t : ℕ) (p : Phase) → nextPhase e t p ≡ p) → isOwned e ≡ true → ((s : ℕ) (h : Who) → nextHolder e s h ≡ h) →
+  new-profile : (e : Event) → ((t : ℕ) (p : Phase) → nextPhase e t p ≡ p) → isOwned e ≡ true → ((s : ℕ) (h : Who) → nextHolder e s h ≡ h) → ((s : ℕ) (h : Who) → nextGiver e s h ≡ h) →
       ExactControl (es ++ (e ∷ [])) (counted (set control profileAt 1))
-  new-profile e k q h =
+  new-profile e k q h g =
       counted-in e (set control profileAt 1) (and-set as-before profileAt 1 (omega arith) (λ v. omega arith))
       (λ t l. rw (k t (phase es t)) (let o = other t (λ v. omega arith) in let p = held t l in record { live = rw o (p .live); unseen = rw o (p .unseen) }))
       (rw (getD-set-same control profileAt 1 0 (omega (arith, x .size)), under-snoc es e, q, or-true (under es)))
-      (λ s l. other (holderAt s) (λ v. omega arith) ∙ same-holders e h s l)
+      (written-in (who-same (x .holders) e h) (set control profileAt 1) (λ s l. other (holderAt s) (λ v. omega arith)))
+      (written-in (who-same (x .givers) e g) (set control profileAt 1) (λ s l. other (giverAt s) (λ v. omega arith)))
     where
       other : (i : ℕ) → i ≢ profileAt → getD (set control profileAt 1) i 0 ≡ getD control i 0
       other i d = getD-set-other control profileAt i 1 0 d
@@ -204,12 +286,12 @@ module _ {es : List Event} {control : List ℕ} (x : ExactControl es control) wh
   control-act o {t} {n} f = by-role (role o) f
     where
       by-role : {o : Op} → Role o → Fitting (kind o) t n → ExactControl (es ++ (act o t n ∷ [])) (controlAfter (kind o) t n control)
-      by-role a-take f = new-holder (act Op.take t n) n (by t) (f .on-fits) (λ u p. cond-same (eqb n u) p) refl (λ s h. refl)
-      by-role a-give f = new-holder (act Op.give t n) n nobody (f .on-fits) (λ u p. cond-same (eqb n u) p) refl (λ s h. refl)
-      by-role a-look f = unchanged (act Op.look t n) (λ u p. cond-same (eqb n u) p) refl (λ s h. cond-same (eqb n s) h)
-      by-role a-set f = unchanged (act Op.set t n) (λ u p. cond-same (eqb n u) p) refl (λ s h. cond-same (eqb n s) h)
-      by-role a-start f = new-phase (act Op.start t n) n 1 Phase.live (f .on-fits) refl refl (λ u p. refl) refl (λ s h. cond-same (eqb n s) h)
-      by-role a-join f = new-phase (act Op.join t n) n 2 Phase.ended (f .on-fits) refl refl (λ u p. refl) refl (λ s h. cond-same (eqb n s) h)
+      by-role a-take f = new-holder t n (f .on-fits)
+      by-role a-give f = new-giver t n (f .on-fits)
+      by-role a-look f = unchanged (act Op.look t n) (λ u p. cond-same (eqb n u) p) refl (λ s h. cond-same (eqb n s) h) (λ s h. cond-same (eqb n s) h)
+      by-role a-set f = unchanged (act Op.set t n) (λ u p. cond-same (eqb n u) p) refl (λ s h. cond-same (eqb n s) h) (λ s h. cond-same (eqb n s) h)
+      by-role a-start f = new-phase (act Op.start t n) n 1 Phase.live (f .on-fits) refl refl (λ u p. refl) refl (λ s h. cond-same (eqb n s) h) (λ s h. cond-same (eqb n s) h)
+      by-role a-join f = new-phase (act Op.join t n) n 2 Phase.ended (f .on-fits) refl refl (λ u p. refl) refl (λ s h. cond-same (eqb n s) h) (λ s h. cond-same (eqb n s) h)
       by-role {o} (plain x) f = decided (same-op o Op.owned)
         where
           phases : (u : ℕ) (p : Phase) → nextPhase (act o t n) u p ≡ p
@@ -218,12 +300,15 @@ module _ {es : List Event} {control : List ℕ} (x : ExactControl es control) wh
           holders : (s : ℕ) (h : Who) → nextHolder (act o t n) s h ≡ h
           holders s h = rw (x .not-take, x .not-give) (cond-same (eqb n s) h)
 
+          givers : (s : ℕ) (h : Who) → nextGiver (act o t n) s h ≡ h
+          givers s h = rw (x .not-give) (cond-same (eqb n s) h)
+
           decided : {b : Bool} → Reflects (o ≡ Op.owned) b → ExactControl (es ++ (act o t n ∷ [])) (controlAfter (kind o) t n control)
-          decided (right e) = rw e (new-profile (act Op.owned t n) (λ u p. cond-same (eqb n u) p) refl (λ s h. cond-same (eqb n s) h))
-          decided (wrong d) = rw (x .not-start, x .not-join, x .not-take, x .not-give, is-not d) (unchanged (act o t n) phases (is-not d) holders)
+          decided (right e) = rw e (new-profile (act Op.owned t n) (λ u p. cond-same (eqb n u) p) refl (λ s h. cond-same (eqb n s) h) (λ s h. cond-same (eqb n s) h))
+          decided (wrong d) = rw (x .not-start, x .not-join, x .not-take, x .not-give, is-not d) (unchanged (act o t n) phases (is-not d) holders givers)
 
   pub control-mark : (mask task on : ℕ) → ExactControl (es ++ (lost mask ∷ [])) (controlAfter lossMark task on control)
-  control-mark mask task on = unchanged (lost mask) (λ t p. refl) refl (λ s h. refl)
+  control-mark mask task on = unchanged (lost mask) (λ t p. refl) refl (λ s h. refl) (λ s h. refl)
 
 -- The refusals
 
@@ -316,9 +401,13 @@ agrees {es} x =
       live = x .live;
       unseen = x .unseen;
       profile = x .profile;
-      held = λ n h. ap (ltb 0) (x .holders n h) ∙ held-number (holder es n);
-      holds = λ n t h. ap (λ (k : ℕ). eqb k (t + 1)) (x .holders n h) ∙ by-number (holder es n) t;
+      held = λ n h. ap (ltb 0) (x .holders .at n h) ∙ held-number (holder es n);
+      holds = λ n t h. ap (λ (k : ℕ). eqb k (t + 1)) (x .holders .at n h) ∙ by-number (holder es n) t;
     }
+
+-- so the table tells who gave a semaphore last
+pub gave-same : {es : List Event} {control : List ℕ} → ExactControl es control → (n t : ℕ) → n < semaphores → gaveIn control n t ≡ isBy (giver es n) t
+gave-same {es} x n t h = ap (λ (k : ℕ). eqb k (t + 1)) (x .givers .at n h) ∙ by-number (giver es n) t
 
 pub same-refusal : {es : List Event} {control : List ℕ} → ExactControl es control → (r : Record) → controlRefusal control r ≡ refusal es r
 same-refusal {es} {control} x r = refusal-same (controlStanding control) (standing es) r (agrees x)

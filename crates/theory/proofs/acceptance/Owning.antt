@@ -1,10 +1,10 @@
--- The profile and the holders of semaphores after one more record. Assumes nothing.
+-- The profile, and who holds a semaphore and who gave it last, after one more record. Assumes nothing.
 use mathlib.Core.Path.{_≡_, refl, sym, _∙_, ap}
 use mathlib.Core.Bool.{Bool, true, false, cond, _||_, or-false, or-assoc, true≢false}
 use mathlib.Core.List.{List, [], _∷_, _++_}
 use Prim.Native.Nat.{ℕ}
 use Rattle.theory.specs.order.Recording.{Event}
-use Rattle.theory.specs.acceptance.Owning.{isOwned, under, since, Who, nobody, nextHolder, laterHolder, holder}
+use Rattle.theory.specs.acceptance.Owning.{isOwned, under, since, Who, nobody, laterWho, whoSince}
 
 -- The profile
 
@@ -12,6 +12,9 @@ use Rattle.theory.specs.acceptance.Owning.{isOwned, under, since, Who, n
 pub under-snoc : (es : List Event) (e : Event) → under (es ++ (e ∷ [])) ≡ (under es || isOwned e)
 under-snoc [] e = or-false (isOwned e)
 under-snoc (d ∷ es) e = ap (λ (b : Bool). isOwned d || b) (under-snoc es e) ∙ sym (or-assoc (isOwned d) (under es) (isOwned e))
+
+pub under-kept : (es : List Event) (e : Event) → isOwned e ≡ false → under (es ++ (e ∷ [])) ≡ under es
+under-kept es e q = under-snoc es e ∙ rw (q, or-false (under es))
 
 -- What came since
 
@@ -37,30 +40,28 @@ none-since (d ∷ es) q = decided (isOwned d) (none-since es) q
     decided true k q = absurd (true≢false q)
     decided false k q = k q
 
--- The holders
+-- Holders and last givers
 
-pub later-holder-snoc : (h : Who) (es : List Event) (e : Event) (s : ℕ) → laterHolder h (es ++ (e ∷ [])) s ≡ nextHolder e s (laterHolder h es s)
-later-holder-snoc h [] e s = refl
-later-holder-snoc h (d ∷ es) e s = later-holder-snoc (nextHolder d s h) es e s
+module _ (next : Event → ℕ → Who → Who) where
+  later-snoc : (h : Who) (es : List Event) (e : Event) (s : ℕ) → laterWho next h (es ++ (e ∷ [])) s ≡ next e s (laterWho next h es s)
+  later-snoc h [] e s = refl
+  later-snoc h (d ∷ es) e s = later-snoc (next d s h) es e s
 
--- nobody holds a semaphore outside the profile, nor where it begins
-pub holder-snoc : (es : List Event) (e : Event) (s : ℕ) → holder (es ++ (e ∷ [])) s ≡ cond (under es) (nextHolder e s (holder es s)) nobody
-holder-snoc es e s = ap (λ (l : List Event). laterHolder nobody l s) (since-snoc es e) ∙ of (under es)
-  where
-    of : (b : Bool) → laterHolder nobody (cond b (since es ++ (e ∷ [])) []) s ≡ cond b (nextHolder e s (holder es s)) nobody
-    of true = later-holder-snoc nobody (since es) e s
-    of false = refl
+  -- it is nobody outside the profile, and where it begins
+  pub who-snoc : (es : List Event) (e : Event) (s : ℕ) → whoSince next (es ++ (e ∷ [])) s ≡ cond (under es) (next e s (whoSince next es s)) nobody
+  who-snoc es e s = ap (λ (l : List Event). laterWho next nobody l s) (since-snoc es e) ∙ of (under es)
+    where
+      of : (b : Bool) → laterWho next nobody (cond b (since es ++ (e ∷ [])) []) s ≡ cond b (next e s (whoSince next es s)) nobody
+      of true = later-snoc nobody (since es) e s
+      of false = refl
 
-pub none-held : (es : List Event) (s : ℕ) → under es ≡ false → holder es s ≡ nobody
-none-held es s q = ap (λ (l : List Event). laterHolder nobody l s) (none-since es q)
+  pub who-none : (es : List Event) (s : ℕ) → under es ≡ false → whoSince next es s ≡ nobody
+  who-none es s q = ap (λ (l : List Event). laterWho next nobody l s) (none-since es q)
 
-pub under-kept : (es : List Event) (e : Event) → isOwned e ≡ false → under (es ++ (e ∷ [])) ≡ under es
-under-kept es e q = under-snoc es e ∙ rw (q, or-false (under es))
-
--- a record that leaves the holder
-pub holder-left : (es : List Event) (e : Event) (s : ℕ) → nextHolder e s (holder es s) ≡ holder es s → holder (es ++ (e ∷ [])) s ≡ holder es s
-holder-left es e s k = holder-snoc es e s ∙ of (under es) refl
-  where
-    of : (b : Bool) → under es ≡ b → cond b (nextHolder e s (holder es s)) nobody ≡ holder es s
-    of true q = k
-    of false q = sym (none-held es s q)
+  -- a record that leaves it
+  pub who-left : (es : List Event) (e : Event) (s : ℕ) → next e s (whoSince next es s) ≡ whoSince next es s → whoSince next (es ++ (e ∷ [])) s ≡ whoSince next es s
+  who-left es e s k = who-snoc es e s ∙ of (under es) refl
+    where
+      of : (b : Bool) → under es ≡ b → cond b (next e s (whoSince next es s)) nobody ≡ whoSince next es s
+      of true q = k
+      of false q = sym (who-none es s q)

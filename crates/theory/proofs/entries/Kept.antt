@@ -19,7 +19,7 @@ use Rattle.theory.specs.entries.Table.{takenIn, pairedWith, excuseOf, ex
 use Rattle.theory.proofs.acceptance.Accepted.{accepts}
 use Rattle.theory.proofs.acceptance.Updated.{updated-elsewhere}
 use Rattle.theory.proofs.history.Accesses.{of-access}
-use Rattle.theory.proofs.totals.Raised.{raise-other}
+use Rattle.theory.proofs.tables.Counters.{raise-other}
 
 -- a verdict on a variable raises totals alone
 verdict-kept : (w : Verdict) (v i : ℕ) (control : List ℕ) → v < variables → entriesAt ≤ i → getD (withVerdict w v control) i 0 ≡ getD control i 0

@@ -11,6 +11,7 @@ use lib.ListN.{length, getD, set}
 use lib.Seq.{getD-set-other}
 use Rattle.theory.specs.declared.record.Record.{Record}
 use Rattle.theory.specs.declared.state.State.{State}
+use Rattle.theory.specs.declared.state.Stepped.{Stepped}
 use Rattle.theory.specs.order.Limits.{tasks, variables, entries}
 use Rattle.theory.specs.order.Recording.{Op, Event, act, ActsIn, acts, isAccess, kind, eventOf, accesses}
 use Rattle.theory.specs.order.Path.{Conflict, conflict, Empties, empties}
@@ -19,7 +20,8 @@ use Rattle.theory.specs.history.History.{latestNumber}
 use Rattle.theory.specs.tables.Rows.{cell, actedRow}
 use Rattle.theory.specs.tables.Reckonings.{clockOwn, nextClocks, clockApart, maskOf, lowestTask}
 use Rattle.theory.specs.acceptance.Table.{refusal, appendUnless, recording, standing}
-use Rattle.theory.specs.feeding.Step.{nextNumber, freshControl, freshState, stepUnless, stepOf}
+use Rattle.theory.specs.feeding.Step.{nextNumber, freshControl, freshState, stepUnlessAs}
+use Rattle.theory.specs.skipping.Demands.{plainStepOf}
 use Rattle.theory.specs.feeding.Feeding.{byClocks, afterAll}
 use Rattle.theory.specs.totals.Totals.{entriesAt}
 use Rattle.theory.specs.entries.Table.{pairedAt, takenIn, pairedWith, openTasks, excuseOf, excuseBy, excuse}
@@ -43,7 +45,7 @@ use Rattle.theory.proofs.acceptance.Rows.{ActAllowed}
 use Rattle.theory.proofs.acceptance.ControlTable.{fresh-control, same-refusal}
 use Rattle.theory.proofs.totals.Kept.{fresh-cell}
 use Rattle.theory.proofs.tables.Bits.{mask-none, mask-lowest}
-use Rattle.theory.proofs.feeding.Simulation.{Shape, an-act, a-mark, shape-of, Represents, fresh-base, after-all, clocks-simulate}
+use Rattle.theory.proofs.feeding.Simulation.{Shape, an-act, a-mark, shape-of, Represents, base-control, fresh-base, after-all, clocks-simulate, same-step}
 use Rattle.theory.proofs.feeding.Asked.{access-op}
 use Rattle.theory.proofs.lazy.Columns.{none-of-zero}
 use Rattle.theory.proofs.entries.Kept.{cell-kept}
@@ -144,7 +146,7 @@ module _ (fs : List Fault) (fit : AllFit fs) (some : 0 < length fs) (few : lengt
 
   pub represents : Represents (recording rs) s
   unfolding freshState
-  represents = after-all clocks-simulate [] (startWith fs) rs (record { base = record { control-exact = start .exact fresh-control; history = fresh-base .history; ranged = fresh-base .ranged; seen = fresh-base .seen }; clocks = clocks-simulate .begins .clocks })
+  represents = after-all clocks-simulate [] (startWith fs) rs (record { base = base-control fresh-base (start .exact fresh-control); clocks = clocks-simulate .begins .clocks })
 
   -- entries are as they were after any records
   all-kept : (rs : List Record) (z : State) (i : ℕ) → entriesAt ≤ i → getD ((afterAll byClocks z rs) .control) i 0 ≡ getD (z .control) i 0
@@ -171,8 +173,10 @@ module _ (fs : List Fault) (fit : AllFit fs) (some : 0 < length fs) (few : lengt
 
     -- the fullest clocks and the history after it
     same-clocks : after .fullclocks ≡ nextClocks full (kind o) t v (nextNumber (s .control)) (s .fullclocks)
-    unfolding stepOf
-    same-clocks = ap (λ (n : ℕ). (stepUnless n s r) .state .fullclocks) (same-refusal (represents .base .control-exact) r ∙ e)
+    unfolding plainStepOf
+    same-clocks =
+        ap (λ (y : Stepped). y .state .fullclocks) (same-step r represents)
+        ∙ ap (λ (n : ℕ). (stepUnlessAs n (kind o) s r) .state .fullclocks) (same-refusal (represents .base .control-exact) r ∙ e)
 
     abbrev Paired : ℕ → Bool
     Paired = paired fs v t

@@ -6,65 +6,20 @@ use mathlib.Core.Logic.{_↔_, _≢_}
 use mathlib.Core.List.{List, [], _∷_, _++_, append-assoc, append-nil}
 use Prim.Native.Nat.{ℕ, zero, suc}
 use native.Mathlib.Omega.{arith}
-use borrow.Author.Tests.{eqb-true, eqb-false}
-use lib.ListN.{length}
 use Rattle.theory.specs.declared.record.Record.{Record}
 use Rattle.theory.specs.declared.answer.Answer.{Answer}
-use Rattle.theory.specs.order.Recording.{Op, Event, act, lost, kind, lossMark, eventOf, Unmarked, no-events, an-act as and-act}
-use Rattle.theory.specs.acceptance.Owning.{isOwned, under, Who, nobody, by, isSomebody, isBy, holder, OwnedFirst, owned-first, KeepsProfile}
-use Rattle.theory.specs.acceptance.Table.{standing, refusal, appendUnless, extended}
+use Rattle.theory.specs.order.Recording.{Event, act, lost, eventOf, Unmarked, no-events, an-act as and-act}
+use Rattle.theory.specs.acceptance.Owning.{isOwned, under, OwnedFirst, owned-first, KeepsProfile}
+use Rattle.theory.specs.acceptance.Table.{refusal, appendUnless, extended}
 use Rattle.theory.specs.verdicts.Verdict.{Verdict, Race, Clear, Doubt}
 use Rattle.theory.specs.totals.Totals.{verdictPlace}
-use Rattle.theory.specs.feeding.Feeding.{eventRecord, recordedBy, FedDemand2, FedAcceptance, FedProfile, FedOwned}
-use Rattle.theory.proofs.order.Ops.{no-mark, event-act}
-use Rattle.theory.proofs.acceptance.Rows.{ActAllowed, MarkAllowed}
+use Rattle.theory.specs.feeding.Feeding.{recordedBy, FedDemand2, FedAcceptance, FedProfile, FedOwned}
+use Rattle.theory.proofs.order.Ops.{event-act}
+use Rattle.theory.proofs.acceptance.Keeping.{act-keeps, mark-keeps}
 use Rattle.theory.proofs.acceptance.Owning.{under-snoc}
 use Rattle.theory.proofs.feeding.Simulation.{Shape, an-act, a-mark, shape-of}
 
 -- One accepted record
-
-is-nobody : (h : Who) → isSomebody h ≡ false → h ≡ nobody
-is-nobody nobody q = refl
-is-nobody (by t) q = absurd (true≢false q)
-
-is-by : (h : Who) (t : ℕ) → isBy h t ≡ true → h ≡ by t
-is-by nobody t q = absurd (true≢false (sym q))
-is-by (by u) t q = ap by (eqb-true u t q)
-
-none-yet : (es : List Event) → length es ≡ 0 → es ≡ []
-none-yet [] q = refl
-none-yet (e ∷ es) q = absurd (omega arith)
-
--- what two events that are the same have in common
-same-kind : {e f : Event} → e ≡ f → (eventRecord e) .kind ≡ (eventRecord f) .kind
-same-kind q = ap (λ (e : Event). (eventRecord e) .kind) q
-
-same-task : {e f : Event} → e ≡ f → (eventRecord e) .task ≡ (eventRecord f) .task
-same-task q = ap (λ (e : Event). (eventRecord e) .task) q
-
-same-on : {e f : Event} → e ≡ f → (eventRecord e) .on ≡ (eventRecord f) .on
-same-on q = ap (λ (e : Event). (eventRecord e) .on) q
-
-act-keeps : (es : List Event) (o : Op) (t n : ℕ) → ActAllowed (standing es) (kind o) t n → KeepsProfile es (act o t n)
-act-keeps es o t n a =
-    record {
-      owned-first = λ q. none-yet es (a .owned-first (eqb-true (kind o) (kind Op.owned) q));
-      no-mark = λ mask q. absurd (eqb-false (kind o) lossMark (no-mark o) (same-kind q));
-      takes-free = λ u s q p. is-nobody (holder es s) (subst (λ (i : ℕ). isSomebody (holder es i) ≡ false) (same-on q) (a .takes-free p (same-kind q)));
-      gives-own = λ u s q p.
-          is-by (holder es s) u
-          (subst (λ (i : ℕ). isBy (holder es s) i ≡ true) (same-task q)
-          (subst (λ (i : ℕ). isBy (holder es i) t ≡ true) (same-on q) (a .gives-own p (same-kind q))));
-    }
-
-mark-keeps : (es : List Event) (n : ℕ) → MarkAllowed (standing es) n → KeepsProfile es (lost n)
-mark-keeps es n m =
-    record {
-      owned-first = λ q. absurd (true≢false (sym q));
-      no-mark = λ mask q. m .no-profile;
-      takes-free = λ u s q p. absurd (let k = same-kind q in omega arith);
-      gives-own = λ u s q p. absurd (let k = same-kind q in omega arith);
-    }
 
 keeps : {es : List Event} {r : Record} → Shape es r → KeepsProfile es (eventOf r)
 keeps {es} (an-act o t n a) = subst (KeepsProfile es) (sym (event-act o t n)) (act-keeps es o t n a)

@@ -1,5 +1,5 @@
 -- Feeding answers what the recording so far says: of the clocks and of the sets. Assumes nothing.
-use mathlib.Core.Path.{_≡_, refl, sym, _∙_, ap, subst}
+use mathlib.Core.Path.{_≡_, refl, sym, _∙_, ap, ap₂, subst}
 use mathlib.Core.Bool.{Bool, true, false}
 use mathlib.Core.List.{List, [], _∷_, _++_, map}
 use Prim.Native.Nat.{ℕ, zero, suc, _+_, _/_, _%_, _^_, _<_}
@@ -11,17 +11,19 @@ use lib.Pow.{shr-shr}
 use lib.ListN.{length, replicate}
 use Rattle.theory.specs.declared.record.Record.{Record}
 use Rattle.theory.specs.declared.state.State.{State}
+use Rattle.theory.specs.declared.state.Stepped.{Stepped}
 use Rattle.theory.specs.declared.state.SetState.{SetState}
 use Rattle.theory.specs.order.Recording.{Op, Event, act, lost, kind, lossMark, eventOf, isAccess}
 use Rattle.theory.specs.fillings.Completion.{names, Named, arrived, full, Filling}
 use Rattle.theory.specs.acceptance.Table.{isLive, phase, Standing, standing, refusal, appendUnless, extended}
-use Rattle.theory.specs.acceptance.Control.{controlAfter}
+use Rattle.theory.specs.acceptance.Control.{controlRefusal, controlAfter}
 use Rattle.theory.specs.history.History.{slots, lastAfter}
 use Rattle.theory.specs.tables.Reckonings.{nextClocks, nextSets, clockMask, setMask, clockMasks, setMasks}
 use Rattle.theory.specs.feeding.Meaning.{Meaning, meaning}
 use Rattle.theory.specs.totals.Totals.{totalled}
-use Rattle.theory.specs.feeding.Step.{nextNumber, answeredBy, clockAnswer, setAnswer, stepOf, stepUnless, setStepOf, setStepUnless, freshControl, freshState, freshSets}
+use Rattle.theory.specs.feeding.Step.{nextNumber, answeredBy, clockAnswer, setAnswer, clockKind, stepOf, stepUnlessAs, stepUnless, setStepOf, setStepUnless, freshControl, freshState, freshSets}
 use Rattle.theory.specs.verdicts.Search.{partner}
+use Rattle.theory.specs.skipping.Demands.{plainStepOf, byPlainClocks}
 use Rattle.theory.specs.feeding.Feeding.{Checker, replies, afterAll, byClocks, bySets, acceptedAnswer, answerUnless, answerTo, answersFrom}
 use Rattle.theory.proofs.basics.Reflects.{Reflects, right, wrong, by-test, equal, is-true}
 use Rattle.theory.proofs.acceptance.Rows.{ActAllowed, MarkAllowed, Allowed, allowed}
@@ -36,6 +38,9 @@ use Rattle.theory.proofs.tables.SetTables.{ExactSets, sets-act, sets-ma
 use Rattle.theory.proofs.history.Slots.{ExactHistory, history-act, history-mark, fresh-history}
 use Rattle.theory.proofs.history.Numbers.{Ranged, ranged-act, ranged-mark, fresh-ranged}
 use Rattle.theory.proofs.fillings.HasActed.{Restricts, arrived-restricts, full-restricts, Seen, seen-event, fresh-seen, starts-unseen}
+use Rattle.theory.proofs.acceptance.Keeping.{act-keeps, mark-keeps}
+use Rattle.theory.proofs.skipping.Learnt.{Learnt, learnt-next, fresh-learnt}
+use Rattle.theory.proofs.skipping.Clocks.{skip-same}
 use Rattle.theory.proofs.tables.Finds.{clock-finds, set-finds, judged-found}
 
 -- What an accepted record is
@@ -89,6 +94,7 @@ pub record Base (es : List Event) (control last : List ℕ) : Type 0 where
   pub history : ExactHistory es last
   pub ranged : Ranged es
   pub seen : Seen es
+  pub learnt : Learnt es
 
 pub record Clocks (es : List Event) (clocks fullclocks : List ℕ) : Type 0 where
   pub as-arrived : ExactClocks arrived es clocks
@@ -114,13 +120,15 @@ base-next {es} {control} {last} b (an-act o t n a) =
       history = history-act o (b .history) (a .fits .task-fits) (on-series o (a .fits)) (next-number (b .control-exact));
       ranged = ranged-act o (a .fits .task-fits) (on-series o (a .fits)) (b .ranged);
       seen = seen-event (act o t n) (λ u e. subst (λ (k : ℕ). isLive (phase es k) ≡ true) (sym e) (a .live)) (b .seen);
+      learnt = learnt-next (act o t n) (act-keeps es o t n a) (b .learnt);
     })
-base-next {control = control} b (a-mark t n m) =
+base-next {es} {control} b (a-mark t n m) =
     record {
       control-exact = control-mark (b .control-exact) n t n;
       history = history-mark n t n (nextNumber control) (b .history);
       ranged = ranged-mark n (b .ranged);
       seen = seen-event (lost n) (mark-live m) (b .seen);
+      learnt = learnt-next (lost n) (mark-keeps es n m) (b .learnt);
     }
 
 -- the clocks of any filling
@@ -134,6 +142,12 @@ clocks-by w b x (a-mark t n m) = clocks-mark n (w .asked n (m .fits)) (mark-fill
 clocks-next : {es : List Event} {control last clocks fullclocks : List ℕ} {r : Record} → Base es control last → Clocks es clocks fullclocks → Shape es r →
     Clocks (Then es r) (nextClocks arrived (r .kind) (r .task) (r .on) (nextNumber control) clocks) (nextClocks full (r .kind) (r .task) (r .on) (nextNumber control) fullclocks)
 clocks-next b x h = record { as-arrived = clocks-by arrived-restricts b (x .as-arrived) h; in-full = clocks-by full-restricts b (x .in-full) h }
+
+-- the same if a take that is skipped moves them as a miss does
+skipped-clocks : {w : Filling} {es : List Event} {control last b : List ℕ} {r : Record} → Base es control last → ExactClocks w es b → Shape es r →
+    nextClocks w (clockKind control (r .kind) (r .task) (r .on)) (r .task) (r .on) (nextNumber control) b ≡ nextClocks w (r .kind) (r .task) (r .on) (nextNumber control) b
+skipped-clocks b x (an-act o t n a) = skip-same (b .control-exact) (b .learnt) x (kind o) t n (a .fits)
+skipped-clocks b x (a-mark t n m) = refl
 
 sets-next : {es : List Event} {sets fullsets : List ℕ} {r : Record} → Seen es → Sets es sets fullsets → Shape es r →
     Sets (Then es r) (nextSets arrived (r .kind) (r .task) (r .on) sets) (nextSets full (r .kind) (r .task) (r .on) fullsets)
@@ -189,9 +203,13 @@ set-answer {es} {control} {last} {sets} {fullsets} b x (an-act o t n a) = rw (ev
     decided (wrong l) = rw (other-tests o l, is-false {b = isAccess o} l, number)
 set-answer b x (a-mark t n m) = rw (next-number (b .control-exact))
 
+-- the same with another control table that is exact
+pub base-control : {es : List Event} {control after last : List ℕ} → Base es control last → ExactControl es after → Base es after last
+base-control b x = record { control-exact = x; history = b .history; ranged = b .ranged; seen = b .seen; learnt = b .learnt }
+
 -- a total that is raised changes nothing that the state holds of the recording
 base-totalled : {es : List Event} {control last : List ℕ} (m : Meaning) (v : ℕ) → Base es control last → Base es (totalled m v control) last
-base-totalled m v b = record { control-exact = exact-totalled m v (b .control-exact); history = b .history; ranged = b .ranged; seen = b .seen }
+base-totalled m v b = base-control b (exact-totalled m v (b .control-exact))
 
 -- One record
 
@@ -222,20 +240,54 @@ after-all {c = c} x es s (r ∷ rs) h = after-all x (appendUnless es r (refusal 
 -- Clocks and sets are such
 
 pub fresh-base : Base [] freshControl (replicate slots 0)
-fresh-base = record { control-exact = fresh-control; history = fresh-history; ranged = fresh-ranged; seen = fresh-seen }
+fresh-base = record { control-exact = fresh-control; history = fresh-history; ranged = fresh-ranged; seen = fresh-seen; learnt = fresh-learnt }
 
-pub clocks-simulate : Simulates byClocks Represents
-unfolding stepOf freshState
-clocks-simulate = record { begins = record { base = fresh-base; clocks = record { as-arrived = fresh-clocks; in-full = fresh-clocks } }; steps = steps }
+-- the clocks without skipping
+pub plain-simulate : Simulates byPlainClocks Represents
+unfolding plainStepOf freshState
+plain-simulate = record { begins = record { base = fresh-base; clocks = record { as-arrived = fresh-clocks; in-full = fresh-clocks } }; steps = steps }
   where
-    steps : (es : List Event) (s : State) (r : Record) → Represents es s → (meaning (byClocks .answer s r) ≡ answerTo es r) × Represents (appendUnless es r (refusal es r)) (byClocks .next s r)
+    steps : (es : List Event) (s : State) (r : Record) → Represents es s → (meaning (byPlainClocks .answer s r) ≡ answerTo es r) × Represents (appendUnless es r (refusal es r)) (byPlainClocks .next s r)
     steps es s r x = rw (same-refusal (x .base .control-exact) r) (decided (refusal es r) refl)
       where
-        decided : (n : ℕ) → refusal es r ≡ n → (meaning ((stepUnless n s r) .answer) ≡ answerUnless es r n) × Represents (appendUnless es r n) ((stepUnless n s r) .state)
+        decided : (n : ℕ) → refusal es r ≡ n → (meaning ((stepUnlessAs n (r .kind) s r) .answer) ≡ answerUnless es r n) × Represents (appendUnless es r n) ((stepUnlessAs n (r .kind) s r) .state)
         decided zero e =
             let h = shape-of es r e in
             (clock-answer (x .base) (x .clocks) h, record { base = base-totalled (meaning (clockAnswer s r)) (r .on) (base-next (x .base) h); clocks = clocks-next (x .base) (x .clocks) h })
         decided (suc n) e = (refl, x)
+
+-- where the state is a recording's, a step that skips a take leaves what the step without skipping leaves
+pub same-step : {es : List Event} {s : State} (r : Record) → Represents es s → stepOf s r ≡ plainStepOf s r
+unfolding stepOf plainStepOf
+same-step {es} {s} r x = decided (controlRefusal (s .control) r) (sym (same-refusal (x .base .control-exact) r))
+  where
+    -- an accepted record, by the clocks after it
+    left : List ℕ → List ℕ → Stepped
+    left clocks fullclocks =
+        record {
+          state =
+              record {
+                control = totalled (meaning (clockAnswer s r)) (r .on) (controlAfter (r .kind) (r .task) (r .on) (s .control));
+                last = lastAfter (r .kind) (r .task) (r .on) (nextNumber (s .control)) (s .last);
+                clocks = clocks;
+                fullclocks = fullclocks;
+              };
+          answer = clockAnswer s r;
+        }
+
+    decided : (n : ℕ) → refusal es r ≡ n → stepUnless n s r ≡ stepUnlessAs n (r .kind) s r
+    decided zero e =
+        let h = shape-of es r e in
+        ap₂ left (skipped-clocks (x .base) (x .clocks .as-arrived) h) (skipped-clocks (x .base) (x .clocks .in-full) h)
+    decided (suc n) e = refl
+
+-- so the clocks are such
+pub clocks-simulate : Simulates byClocks Represents
+clocks-simulate =
+    record {
+      begins = plain-simulate .begins;
+      steps = λ es s r x. subst (λ (y : Stepped). (meaning (y .answer) ≡ answerTo es r) × Represents (appendUnless es r (refusal es r)) (y .state)) (sym (same-step r x)) (plain-simulate .steps es s r x);
+    }
 
 pub sets-simulate : Simulates bySets RepresentsSets
 unfolding setStepOf freshSets

@@ -20,7 +20,7 @@ use Rattle.theory.specs.swapping.Swaps.{Swapped, these, later}
 use Rattle.theory.proofs.basics.Reflects.{Reflects, right, wrong}
 use Rattle.theory.proofs.order.Ops.{same-op, no-mark, event-act}
 use Rattle.theory.proofs.acceptance.Rows.{OfAct, actRows, act-rows, allowed}
-use Rattle.theory.proofs.acceptance.Owning.{under-snoc, under-kept, holder-snoc, holder-left}
+use Rattle.theory.proofs.acceptance.Owning.{under-snoc, under-kept, who-snoc, who-left}
 use Rattle.theory.proofs.acceptance.ControlTable.{phase-snoc}
 use Rattle.theory.proofs.feeding.Simulation.{Shape, an-act, a-mark, shape-of}
 use Rattle.theory.proofs.swapping.Independent.{Separates, Independent, TwoActs, two, ChangesHolder, by-take, by-give, either-way, phase-kept, phases-commute, holder-kept, holders-commute}
@@ -65,7 +65,7 @@ standing-next {es} {es′} e s =
       phases = λ t. phase-next es e t ∙ (ap (nextPhase e t) (s .phases t) ∙ sym (phase-next es′ e t));
       count = longer es e ∙ (ap suc (s .count) ∙ sym (longer es′ e));
       profile = under-snoc es e ∙ (ap (λ (b : Bool). b || isOwned e) (s .profile) ∙ sym (under-snoc es′ e));
-      holders = λ k. holder-snoc es e k ∙ (ap₂ (λ (b : Bool) (h : Who). cond b (nextHolder e k h) nobody) (s .profile) (s .holders k) ∙ sym (holder-snoc es′ e k));
+      holders = λ k. who-snoc nextHolder es e k ∙ (ap₂ (λ (b : Bool) (h : Who). cond b (nextHolder e k h) nobody) (s .profile) (s .holders k) ∙ sym (who-snoc nextHolder es′ e k));
     }
 
 pub taken-same : {es es′ : List Event} {rs : List Record} → SameStanding es es′ → Taken es rs → Taken es′ rs
@@ -120,7 +120,7 @@ module _ {o p : Op} {t u n m : ℕ} (x : Independent (act o t n) (act p u m)) (e
   named-kept e = phase-next es (act o t n) m ∙ phase-kept o t n m (phase es m) (λ y. x .no-task m y (names e))
 
   held-kept : ChangesHolder m (act p u m) → holder (es ++ (act o t n ∷ [])) m ≡ holder es m
-  held-kept c = holder-left es (act o t n) m (holder-kept o t n m (holder es m) (λ y. x .holders m y c))
+  held-kept c = who-left nextHolder es (act o t n) m (holder-kept o t n m (holder es m) (λ y. x .holders m y c))
 
   -- the other one, after it and without it
   refused-alike : length (es ++ (act o t n ∷ [])) < records → length es < records →
@@ -132,8 +132,8 @@ module _ {o p : Op} {t u n m : ℕ} (x : Independent (act o t n) (act p u m)) (e
 holder-after : (es : List Event) (e f : Event) (s : ℕ) → isOwned e ≡ false →
     holder ((es ++ (e ∷ [])) ++ (f ∷ [])) s ≡ cond (under es) (nextHolder f s (nextHolder e s (holder es s))) nobody
 holder-after es e f s d =
-    holder-snoc (es ++ (e ∷ [])) f s
-    ∙ (ap₂ (λ (b : Bool) (h : Who). cond b (nextHolder f s h) nobody) (under-kept es e d) (holder-snoc es e s) ∙ of (under es))
+    who-snoc nextHolder (es ++ (e ∷ [])) f s
+    ∙ (ap₂ (λ (b : Bool) (h : Who). cond b (nextHolder f s h) nobody) (under-kept es e d) (who-snoc nextHolder es e s) ∙ of (under es))
   where
     of : (b : Bool) → cond b (nextHolder f s (cond b (nextHolder e s (holder es s)) nobody)) nobody ≡ cond b (nextHolder f s (nextHolder e s (holder es s))) nobody
     of true = refl

@@ -28,7 +28,8 @@ use Rattle.theory.proofs.order.Ops.{event-act}
 use Rattle.theory.proofs.acceptance.Rows.{allowed}
 use Rattle.theory.proofs.acceptance.ControlTable.{ExactControl, same-refusal}
 use Rattle.theory.proofs.feeding.Simulation.{Shape, an-act, a-mark, shape-of, Simulates, Represents, RepresentsSets, clocks-simulate, sets-simulate}
-use Rattle.theory.proofs.totals.Moved.{Room, place-below, Moved, bool-false, moved-by}
+use Rattle.theory.proofs.tables.Counters.{Room}
+use Rattle.theory.proofs.totals.Moved.{place-below, Moved, bool-false, moved-by}
 
 -- Lists of records
 
@@ -82,11 +83,11 @@ raceCount [] = 0
 raceCount (m ∷ answers) = indicator (isRace m) + raceCount answers
 
 -- of a checker that keeps its totals so
-record Keeps {S : Type 0} (c : Checker S) (R : List Event → S → Type 0) : Type 0 where
-  simulates : Simulates c R
-  exact : (es : List Event) (s : S) → R es s → ExactControl es (c .control s)
-  taken : (s : S) (r : Record) → checkerRefusal c s r ≡ 0 → c .control (c .next s r) ≡ totalled (meaning (c .answer s r)) (r .on) (controlAfter (r .kind) (r .task) (r .on) (c .control s))
-  refused : (s : S) (r : Record) (n : ℕ) → checkerRefusal c s r ≡ suc n → c .next s r ≡ s
+pub record Keeps {S : Type 0} (c : Checker S) (R : List Event → S → Type 0) : Type 0 where
+  pub simulates : Simulates c R
+  pub exact : (es : List Event) (s : S) → R es s → ExactControl es (c .control s)
+  pub taken : (s : S) (r : Record) → checkerRefusal c s r ≡ 0 → c .control (c .next s r) ≡ totalled (meaning (c .answer s r)) (r .on) (controlAfter (r .kind) (r .task) (r .on) (c .control s))
+  pub refused : (s : S) (r : Record) (n : ℕ) → checkerRefusal c s r ≡ suc n → c .next s r ≡ s
 
 module _ {S : Type 0} {c : Checker S} {R : List Event → S → Type 0} (k : Keeps c R) where
   went : (es : List Event) (s : S) (r : Record) → R es s → Below es (c .control s) →
@@ -235,7 +236,7 @@ module _ {S : Type 0} {c : Checker S} {R : List Event → S → Type 0} (k : Kee
         λ x. lt-ltb 0 (races after) (let l = some-race answers .1 x in omega (arith, l, counted-races)),
       )
 
-clocks-keep : Keeps byClocks Represents
+pub clocks-keep : Keeps byClocks Represents
 unfolding stepOf
 clocks-keep =
     record {
@@ -245,7 +246,7 @@ clocks-keep =
       refused = λ s r n e. rw e;
     }
 
-sets-keep : Keeps bySets RepresentsSets
+pub sets-keep : Keeps bySets RepresentsSets
 unfolding setStepOf
 sets-keep =
     record {

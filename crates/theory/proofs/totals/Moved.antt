@@ -3,9 +3,9 @@ use mathlib.Core.Path.{_≡_, refl, sym, _∙_, ap, subst}
 use mathlib.Core.Bool.{Bool, true, false, cond, _&&_}
 use mathlib.Core.Logic.{_≢_}
 use mathlib.Core.List.{List}
-use Prim.Native.Nat.{ℕ, suc, _+_, _-_, _^_, _≤_, _<_}
+use Prim.Native.Nat.{ℕ, suc, _+_, _≤_, _<_}
 use native.Mathlib.Omega.{arith}
-use borrow.Author.Tests.{lt-ltb, eqb-false}
+use borrow.Author.Tests.{eqb-false}
 use lib.Dec.{T, eqb}
 use lib.ListN.{length, getD, length-set}
 use lib.Seq.{getD-set-other}
@@ -19,23 +19,17 @@ use Rattle.theory.specs.verdicts.Search.{judge}
 use Rattle.theory.specs.tables.Reckonings.{indicator}
 use Rattle.theory.specs.feeding.Meaning.{Meaning, takes, judges}
 use Rattle.theory.specs.feeding.Feeding.{acceptedAnswer}
-use Rattle.theory.specs.totals.Totals.{racesAt, totalAt, verdictPlace, total, races, oneMore, raise, withVerdict, totalled, controlCells}
+use Rattle.theory.specs.tables.Counters.{oneMore, raise}
+use Rattle.theory.specs.totals.Totals.{racesAt, totalAt, verdictPlace, total, races, withVerdict, totalled, controlCells}
 use Rattle.theory.specs.totals.Counting.{counts, isRace}
 use Rattle.theory.proofs.basics.Reflects.{Reflects, right, wrong, equal, by-test, both, is-true}
 use Rattle.theory.proofs.order.Ops.{no-mark, event-act, access-on, on-series}
 use Rattle.theory.proofs.acceptance.Updated.{after-length, updated-elsewhere}
 use Rattle.theory.proofs.acceptance.ControlTable.{ExactControl}
-use Rattle.theory.proofs.totals.Raised.{raise-length, raise-same, raise-other}
+use Rattle.theory.proofs.tables.Counters.{Room, one-more, raise-length, raise-same, raise-other}
 use Rattle.theory.proofs.feeding.Simulation.{Shape, an-act, a-mark}
 
 -- One cell
-
--- no counter is at its end
-abbrev pub Room : ℕ → Type 0
-Room n = n < 2 ^ 32 - 1
-
-one-more : (n : ℕ) → Room n → oneMore n ≡ n + 1
-one-more n h = rw (lt-ltb n (2 ^ 32 - 1) h)
 
 pub place-below : (w : Verdict) → verdictPlace w < 3
 place-below Clear = omega arith

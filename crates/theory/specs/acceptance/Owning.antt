@@ -41,13 +41,18 @@ abbrev pub nextHolder : Event → ℕ → Who → Who
 nextHolder (act o t n) s h = cond (eqb n s) (cond (o is take) (by t) (cond (o is give) nobody h)) h
 nextHolder (lost mask) s h = h
 
-abbrev pub laterHolder : Who → List Event → ℕ → Who
-laterHolder h [] s = h
-laterHolder h (e ∷ es) s = laterHolder (nextHolder e s h) es s
+-- who it is after a list of events, one after the other
+abbrev pub laterWho : (Event → ℕ → Who → Who) → Who → List Event → ℕ → Who
+laterWho next h [] s = h
+laterWho next h (e ∷ es) s = laterWho next (next e s h) es s
+
+-- who it is after a recording: what came since the profile began counts, and there it is nobody
+abbrev pub whoSince : (Event → ℕ → Who → Who) → List Event → ℕ → Who
+whoSince next es s = laterWho next nobody (since es) s
 
 -- "holder" of semaphore s after a recording: "all are free" where the profile begins
 abbrev pub holder : List Event → ℕ → Who
-holder es s = laterHolder nobody (since es) s
+holder es s = whoSince nextHolder es s
 
 -- "A recording whose first record is `op=owned`"
 pub data OwnedFirst : List Event → Type 0 where

@@ -15,10 +15,10 @@ use Rattle.theory.specs.declared.state.SetState.{SetState}
 use Rattle.theory.specs.declared.state.SetStepped.{SetStepped}
 use Rattle.theory.specs.declared.masks.Masks.{Masks}
 use Rattle.theory.specs.fillings.Completion.{arrived, full}
-use Rattle.theory.specs.acceptance.Control.{countIn, controlRefusal, controlAfter}
+use Rattle.theory.specs.acceptance.Control.{countIn, skipsIn, controlRefusal, controlAfter}
 use Rattle.theory.specs.order.Limits.{tasks}
 use Rattle.theory.specs.totals.Totals.{controlCells, totalled}
-use Rattle.theory.specs.order.Recording.{accesses}
+use Rattle.theory.specs.order.Recording.{Op, kind, accesses}
 use Rattle.theory.specs.tables.Rows.{cellCount}
 use Rattle.theory.specs.history.History.{slots, latestNumber, lastAfter}
 use Rattle.theory.specs.verdicts.Verdict.{Verdict}
@@ -67,23 +67,31 @@ abbrev pub clockAnswer : State → Record → Answer
 clockAnswer s r =
     answeredBy (s .last) (r .kind) (r .on) (nextNumber (s .control)) (clockMasks (s .clocks) (s .fullclocks) (s .last) (r .kind) (r .task) (r .on))
 
-abbrev pub accepted : State → Record → Stepped
-accepted s r =
+-- which kind moves the clocks: a take that is skipped does no more than its own entry, as a miss does, which makes no step (F-13)
+abbrev pub clockKind : List ℕ → ℕ → ℕ → ℕ → ℕ
+clockKind control k task on = cond (skipsIn control k task on) (kind Op.miss) k
+
+-- an accepted record, of which the kind m moves the clocks
+abbrev pub acceptedAs : ℕ → State → Record → Stepped
+acceptedAs m s r =
     record {
       state =
           record {
             control = totalled (meaning (clockAnswer s r)) (r .on) (controlAfter (r .kind) (r .task) (r .on) (s .control));
             last = lastAfter (r .kind) (r .task) (r .on) (nextNumber (s .control)) (s .last);
-            clocks = nextClocks arrived (r .kind) (r .task) (r .on) (nextNumber (s .control)) (s .clocks);
-            fullclocks = nextClocks full (r .kind) (r .task) (r .on) (nextNumber (s .control)) (s .fullclocks);
+            clocks = nextClocks arrived m (r .task) (r .on) (nextNumber (s .control)) (s .clocks);
+            fullclocks = nextClocks full m (r .task) (r .on) (nextNumber (s .control)) (s .fullclocks);
           };
       answer = clockAnswer s r;
     }
 
 -- a refused record leaves the state as it was
+abbrev pub stepUnlessAs : ℕ → ℕ → State → Record → Stepped
+stepUnlessAs zero m s r = acceptedAs m s r
+stepUnlessAs (suc n) m s r = record { state = s; answer = Refused (suc n) }
+
 abbrev pub stepUnless : ℕ → State → Record → Stepped
-stepUnless zero s r = accepted s r
-stepUnless (suc n) s r = record { state = s; answer = Refused (suc n) }
+stepUnless n s r = stepUnlessAs n (clockKind (s .control) (r .kind) (r .task) (r .on)) s r
 
 unfoldable pub stepOf : State → Record → Stepped
 stepOf s r = stepUnless (controlRefusal (s .control) r) s r

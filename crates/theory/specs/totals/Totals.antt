@@ -1,12 +1,13 @@
 -- The totals: for each variable how many accesses were Clear, Race and Doubt, and how many Races there were anywhere. They lie in the control table,
 -- after what acceptance looks at.
-use Prim.Native.Nat.{ℕ, _+_, _*_, _-_, _^_}
-use mathlib.Core.Bool.{Bool, true, false, cond}
+use Prim.Native.Nat.{ℕ, _+_, _*_}
+use mathlib.Core.Bool.{Bool, true, false}
 use mathlib.Core.List.{List}
 use lib.Dec.{ltb}
-use lib.ListN.{getD, set}
+use lib.ListN.{getD}
 use Rattle.theory.specs.declared.verdict_totals.Totals.{Totals}
 use Rattle.theory.specs.order.Limits.{tasks, variables}
+use Rattle.theory.specs.tables.Counters.{raise}
 use Rattle.theory.specs.acceptance.Control.{acceptanceCells}
 use Rattle.theory.specs.verdicts.Verdict.{Verdict, Race, Clear, Doubt}
 use Rattle.theory.specs.feeding.Meaning.{Meaning, refuses, takes, judges}
@@ -56,13 +57,6 @@ abbrev pub totalsOf : List ℕ → ℕ → Totals
 totalsOf control v = totalsIf (ltb v variables) v control
 
 -- How they are kept
-
--- one more; a counter at the end of its 32 bits, which no list of records leads to, stays there
-abbrev pub oneMore : ℕ → ℕ
-oneMore n = cond (ltb n (2 ^ 32 - 1)) (n + 1) n
-
-unfoldable pub raise : ℕ → List ℕ → List ℕ
-raise i control = set control i (oneMore (getD control i 0))
 
 -- a verdict on an access of variable v
 abbrev pub withVerdict : Verdict → ℕ → List ℕ → List ℕ

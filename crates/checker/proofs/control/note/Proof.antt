@@ -19,14 +19,17 @@ enter-requires-2 c κs =
     let f = fits-of (p .0) Op.join (c .before .match .keys2) .on-fits in
     (omega arith, λ q. omega arith, p .1)
 
-add-hand-over : tie.Need-add-hand-over
-add-hand-over c = let f = fits-of (c .before .before .pre .0) Op.take (c .before .match .keys3) .task-fits in omega arith
+note-take-requires : tie.Need-note-take-requires
+note-take-requires c κs =
+    let p = c .before .before .pre in
+    let f = fits-of (p .0) Op.take (c .before .match .keys3) in
+    (f .on-fits, f .task-fits, p .1)
 
-hand-over-requires : tie.Need-hand-over-requires
-hand-over-requires c κs = let p = c .before .before .pre in (fits-of (p .0) Op.take (c .before .match .keys3) .on-fits, p .1)
-
-hand-over-requires-2 : tie.Need-hand-over-requires-2
-hand-over-requires-2 c κs = let p = c .before .before .pre in (fits-of (p .0) Op.give (c .before .match .keys4) .on-fits, p .1)
+note-give-requires : tie.Need-note-give-requires
+note-give-requires c κs =
+    let p = c .before .before .pre in
+    let f = fits-of (p .0) Op.give (c .before .match .keys4) in
+    (f .on-fits, f .task-fits, p .1)
 
 returns : tie.Need-returns
 returns c = rw (c .before .before .match .keys1) (c .enter .ensures)
@@ -35,10 +38,10 @@ returns-2 : tie.Need-returns-2
 returns-2 c = rw (c .before .before .match .keys2) (c .enter2 .ensures)
 
 returns-3 : tie.Need-returns-3
-returns-3 c = rw (c .before .before .match .keys3) (c .hand-over .ensures)
+returns-3 c = rw (c .before .before .match .keys3) (c .note-take .ensures)
 
 returns-4 : tie.Need-returns-4
-returns-4 c = rw (c .before .before .match .keys4) (c .hand-over2 .ensures)
+returns-4 c = rw (c .before .before .match .keys4) (c .note-give .ensures)
 
 returns-5 : tie.Need-returns-5
 returns-5 c = rw (c .before .before .match .keys5) (c .enter3 .ensures)
@@ -50,5 +53,5 @@ returns-6 c =
 
 pub note-spec : {M : Type 1} → statement M
 note-spec = tie.close (tie.spec
-    enter-requires enter-requires-2 add-hand-over hand-over-requires hand-over-requires-2 (λ c κs. search needs) (λ c κs. search needs)
+    enter-requires enter-requires-2 note-take-requires note-give-requires (λ c κs. search needs) (λ c κs. search needs)
     returns returns-2 returns-3 returns-4 returns-5 returns-6)

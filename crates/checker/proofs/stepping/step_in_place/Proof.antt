@@ -1,5 +1,5 @@
 -- A refused record leaves all as it was; of an accepted one the calls' equations are put together.
-use mathlib.Core.Path.{refl}
+use mathlib.Core.Path.{refl, _∙_}
 use Prim.Native.Nat.{_+_}
 use native.Mathlib.Omega.{arith}
 use lib.ListN.{set}
@@ -9,29 +9,38 @@ use Rattle.theory.specs.acceptance.Control.{countIn}
 use Rattle.theory.specs.feeding.Step.{stepOf}
 use Rattle.theory.proofs.acceptance.Accepted.{Accepts, accepts, refused}
 use Rattle.theory.proofs.history.Accesses.{kept-nowhere}
+use Rattle.theory.proofs.skipping.Code.{moved-fits, moved-act, moved-answer, moved-last}
 use borrow.Author.Needs.{needs}
 use Rattle.checker.proofs.stepping.step_in_place.Statement.{statement}
 use Rattle.checker.proofs.stepping.step_in_place.Tie as tie
 
 returns : tie.Need-returns
 unfolding stepOf
-returns c = rw (← c .before .refusal .ensures) (refused _ _ _ (c .if1 .taken))
+returns c = rw (← c .before .refusal .ensures) (refused _ _ (c .before .before .before .args .r) (c .if1 .taken))
 
 -- once no row applies
 accepted : (c : tie.Else1) → let a = c .before .before .before .args in Accepts (a .control .now) (a .r)
 accepted c = let a = c .before .before .before .args in accepts (a .control .now) (a .r) _ (c .before .refusal .ensures) (c .if1 .left)
 
-add-t14 : tie.Need-add-t14
-add-t14 c = omega (arith, accepted (c .before) .room)
+add-t15 : tie.Need-add-t15
+add-t15 c = omega (arith, accepted (c .before) .room)
+
+clock-kind-requires : tie.Need-clock-kind-requires
+clock-kind-requires c κs = accepted (c .before .before) .proper
 
 note-requires : tie.Need-note-requires
-note-requires c κs = let a = accepted (c .before .before) in (a .proper, a .room)
+note-requires c κs = let a = accepted (c .before .before .before .before) in (a .proper, a .room)
 
+-- a take that is skipped is an act of its task, as a miss is
 act-by-clocks-requires : tie.Need-act-by-clocks-requires
 act-by-clocks-requires c κs =
     let at-match = c .before .before .before .before in
+    let at-kind = at-match .before .before .before in
+    let at-if1 = at-kind .before .before .before in
+    let a = at-if1 .before .before .before .args in
     let n = at-match .match .rest .1 in
-    (accepted (at-match .before .before .before .before) .proper .act-fits n, n)
+    rw (at-kind .clock-kind .ensures)
+    (moved-fits (a .control .now) (a .r .kind) (a .r .task) (a .r .on) (accepted at-if1 .proper .act-fits n), moved-act (a .control .now) (a .r .kind) (a .r .task) (a .r .on) n)
 
 -- a mark fills in nothing as it arrived, and is kept nowhere
 returns-2 : tie.Need-returns-2
@@ -39,7 +48,7 @@ unfolding stepOf
 returns-2 c =
     let at-match = c .before .before in
     let at-note = at-match .before in
-    let at-if1 = at-note .before .before .before in
+    let at-if1 = at-note .before .before .before .before .before in
     let a = at-if1 .before .before .before .args in
     let e = at-match .match .keys1 in
     let h = accepted at-if1 .proper .mark-names e in
@@ -51,10 +60,15 @@ returns-3 : tie.Need-returns-3
 unfolding stepOf
 returns-3 c =
     let at-note = c .before .before .before .before .before .before in
-    let at-if1 = at-note .before .before .before in
-    let t = c .act-by-clocks .ensures in
-    rw (← at-if1 .before .refusal .ensures, at-if1 .if1 .left, t .1, t .0, at-note .note .ensures, t .2, t .3, t .4)
+    let at-kind = at-note .before .before in
+    let at-if1 = at-kind .before .before .before in
+    let a = at-if1 .before .before .before .args in
+    let k = at-kind .clock-kind .ensures in
+    let t = rw k at (c .act-by-clocks .ensures) in
+    let answer = t .0 ∙ moved-answer (a .control .now) (a .r .kind) (a .r .task) (a .r .on) (a .clocks .now) (a .fullclocks .now) (a .last .now) (countIn (a .control .now) + 1) in
+    let last = t .2 ∙ moved-last (a .control .now) (a .r .kind) (a .r .task) (a .r .on) (a .last .now) (countIn (a .control .now) + 1) in
+    rw (← at-if1 .before .refusal .ensures, at-if1 .if1 .left, t .1, answer, at-note .note .ensures, last, t .3, t .4)
 
 pub step-in-place-spec : {M : Type 1} → statement M
 step-in-place-spec = tie.close (tie.spec
-    (λ c κs. search needs) returns (λ c. search needs) add-t14 note-requires (λ c κs. search needs) act-by-clocks-requires returns-2 returns-3)
+    (λ c κs. search needs) returns (λ c. search needs) add-t15 clock-kind-requires note-requires (λ c κs. search needs) act-by-clocks-requires returns-2 returns-3)

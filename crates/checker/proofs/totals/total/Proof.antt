@@ -1,6 +1,7 @@
 -- Each verdict raises its own total.
 use mathlib.Core.Path.{_∙_, ap}
-use Rattle.theory.specs.totals.Totals.{racesAt, raise}
+use Rattle.theory.specs.tables.Counters.{raise}
+use Rattle.theory.specs.totals.Totals.{racesAt}
 use borrow.Author.Needs.{needs}
 use Rattle.checker.proofs.totals.total.Statement.{statement}
 use Rattle.checker.proofs.totals.total.Tie as tie

@@ -1,9 +1,9 @@
 -- The cell and its counter.
 use mathlib.Core.Path.{refl}
-use Rattle.theory.specs.totals.Totals.{raise}
+use Rattle.theory.specs.tables.Counters.{raise}
 use borrow.Author.Needs.{needs}
-use Rattle.checker.proofs.totals.raise.Statement.{statement}
-use Rattle.checker.proofs.totals.raise.Tie as tie
+use Rattle.checker.proofs.counters.raise.Statement.{statement}
+use Rattle.checker.proofs.counters.raise.Tie as tie
 
 returns : tie.Need-returns
 unfolding raise

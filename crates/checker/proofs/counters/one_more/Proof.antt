@@ -2,8 +2,8 @@
 use Prim.Native.Nat.{_-_, _^_}
 use borrow.Author.Tests.{lt-ltb, le-ltb}
 use borrow.Author.Needs.{needs}
-use Rattle.checker.proofs.totals.one_more.Statement.{statement}
-use Rattle.checker.proofs.totals.one_more.Tie as tie
+use Rattle.checker.proofs.counters.one_more.Statement.{statement}
+use Rattle.checker.proofs.counters.one_more.Tie as tie
 
 returns : tie.Need-returns
 returns c = rw (lt-ltb _ (2 ^ 32 - 1) (c .if1 .taken)) (search needs)

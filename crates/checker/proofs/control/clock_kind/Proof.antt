@@ -1,0 +1,22 @@
+-- A take by its last giver, a take by another, and any other kind.
+use borrow.Author.Tests.{ne-eqb}
+use Rattle.theory.specs.order.Recording.{Op}
+use Rattle.theory.proofs.acceptance.Accepted.{fits-of}
+use borrow.Author.Needs.{needs}
+use Rattle.checker.proofs.control.clock_kind.Statement.{statement}
+use Rattle.checker.proofs.control.clock_kind.Tie as tie
+
+gave-requires : tie.Need-gave-requires
+gave-requires c κs = let f = fits-of (c .before .pre) Op.take (c .match .keys1) in (f .on-fits, f .task-fits)
+
+returns : tie.Need-returns
+returns c = rw (c .before .before .match .keys1, ← c .before .gave .ensures, c .if1 .taken)
+
+returns-2 : tie.Need-returns-2
+returns-2 c = rw (c .before .before .match .keys1, ← c .before .gave .ensures, c .if1 .left)
+
+returns-3 : tie.Need-returns-3
+returns-3 c = rw (ne-eqb _ _ (c .match .rest .1))
+
+pub clock-kind-spec : {M : Type 1} → statement M
+clock-kind-spec = tie.close (tie.spec gave-requires returns returns-2 returns-3)

@@ -1,0 +1,9 @@
+-- The short lists of F-13 have as many skipped takes as stand with them: the table is computed. Assumes nothing.
+use mathlib.Core.Path.{refl}
+use Rattle.theory.specs.tables.Turns.{turns}
+use Rattle.theory.specs.acceptance.Table.{standingRefusal}
+use Rattle.theory.specs.skipping.Examples.{AllSkip, lists}
+
+pub all-skip : AllSkip lists
+unfolding turns standingRefusal
+all-skip = refl
