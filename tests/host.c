@@ -158,6 +158,36 @@ static const struct fed late[] = {
     {ORDER_LOST, 0, 3, {ORDER_ACCEPTED, 6, 0}},   {ORDER_READ, 1, 5, {ORDER_DOUBT, 7, 5}},     {ORDER_OWNED, 1, 0, {ORDER_REFUSED, 14, 0}},
 };
 
+/* Takes that are skipped: by both tasks, with another semaphore held, after what is refused and after a miss; and takes after the other's give. */
+static const struct fed again[] = {
+    {ORDER_OWNED, 0, 0, {ORDER_ACCEPTED, 1, 0}},
+    {ORDER_START, 0, 1, {ORDER_ACCEPTED, 2, 0}},
+    {ORDER_TAKE, 0, 0, {ORDER_ACCEPTED, 3, 0}},
+    {ORDER_TAKE, 0, 3, {ORDER_ACCEPTED, 4, 0}},
+    {ORDER_WRITE, 0, 5, {ORDER_CLEAR, 5, 0}},
+    {ORDER_GIVE, 0, 3, {ORDER_ACCEPTED, 6, 0}},
+    {ORDER_GIVE, 1, 3, {ORDER_REFUSED, 16, 0}},
+    {ORDER_TAKE, 0, 3, {ORDER_ACCEPTED, 7, 0}},
+    {ORDER_TAKE, 0, 3, {ORDER_REFUSED, 16, 0}},
+    {ORDER_GIVE, 0, 3, {ORDER_ACCEPTED, 8, 0}},
+    {ORDER_MISS, 1, 3, {ORDER_ACCEPTED, 9, 0}},
+    {ORDER_TAKE, 0, 3, {ORDER_ACCEPTED, 10, 0}},
+    {ORDER_WRITE, 0, 6, {ORDER_CLEAR, 11, 0}},
+    {ORDER_GIVE, 0, 3, {ORDER_ACCEPTED, 12, 0}},
+    {ORDER_TAKE, 1, 3, {ORDER_ACCEPTED, 13, 0}},
+    {ORDER_READ, 1, 6, {ORDER_CLEAR, 14, 0}},
+    {ORDER_GIVE, 1, 3, {ORDER_ACCEPTED, 15, 0}},
+    {ORDER_TAKE, 1, 3, {ORDER_ACCEPTED, 16, 0}},
+    {ORDER_WRITE, 1, 6, {ORDER_CLEAR, 17, 0}},
+    {ORDER_GIVE, 1, 3, {ORDER_ACCEPTED, 18, 0}},
+    {ORDER_WRITE, 1, 7, {ORDER_CLEAR, 19, 0}},
+    {ORDER_TAKE, 0, 3, {ORDER_ACCEPTED, 20, 0}},
+    {ORDER_READ, 0, 6, {ORDER_CLEAR, 21, 0}},
+    {ORDER_READ, 0, 7, {ORDER_RACE, 22, 19}},
+    {ORDER_GIVE, 0, 0, {ORDER_ACCEPTED, 23, 0}},
+    {ORDER_TAKE, 0, 0, {ORDER_ACCEPTED, 24, 0}},
+};
+
 /* The clocks or the sets: their calls, and memory for two states and for a copy. */
 struct way {
     const char *name;
@@ -265,6 +295,7 @@ static void run(const struct way *way) {
         count(way, way->two, i < BEHIND ? 0 : i + 1 - BEHIND);
     }
     same(way, "the same records leave the same state", way->one, way->two);
+    check("nothing is skipped without owned semaphores", order_skipped(way->one) == 0);
     for (size_t i = 0; i < TOTALS; i++) {
         check("document 01's totals", totals_are(way, way->one, totals[i].variable, totals[i].totals, 1));
     }
@@ -283,20 +314,60 @@ static void run(const struct way *way) {
     same(way, "and the other is left alone", way->one, way->two);
 }
 
-/* Feeds such a list to a fresh state. What is refused leaves it as it was. */
-static void garage_is(const struct way *way, const struct fed *records, size_t count) {
+/* Takes by the task that gave the semaphore last, since the ORDER_OWNED, among so many records; what is refused counts for nothing. */
+static uint32_t taken_again(const struct fed *records, size_t count) {
+    uint32_t givers[32] = {0}, again = 0;
+    int under = 0;
+    for (size_t i = 0; i < count; i++) {
+        const struct fed *r = &records[i];
+        if (r->answer[0] == ORDER_REFUSED) continue;
+        under = under || r->kind == ORDER_OWNED;
+        if (under && r->kind == ORDER_TAKE) again += givers[r->on] == r->task + 1;
+        if (under && r->kind == ORDER_GIVE) givers[r->on] = r->task + 1;
+    }
+    return again;
+}
+
+/* Feeds such a list to a fresh state. What is refused leaves it as it was, and the takes that are skipped are counted. */
+static void garage_is(const struct way *way, const struct fed *records, size_t count, uint32_t skipped) {
+    const uint32_t *control = way->one;
     way->begin(way->one);
+    check("nothing is skipped in a fresh state", order_skipped(control) == 0);
     for (size_t i = 0; i < count; i++) {
         memcpy(way->copy, way->one, way->size);
         feed(way, way->one, &records[i]);
         if (records[i].answer[0] == ORDER_REFUSED) same(way, "a refused record of a garage changes nothing", way->one, way->copy);
+        char name[80];
+        snprintf(name, sizeof name, "%s: %u takes skipped after %zu records", way->name, (unsigned)order_skipped(control), i + 1);
+        check(name, order_skipped(control) == taken_again(records, i + 1));
     }
+    check("and at the end", order_skipped(control) == skipped);
 }
 
 static void garages(const struct way *way) {
-    garage_is(way, garage, sizeof garage / sizeof garage[0]);
+    garage_is(way, garage, sizeof garage / sizeof garage[0], 1);
     check("a Race in the garage, and its two Clears after it", totals_are(way, way->one, 5, (const uint32_t[]){3, 1, 0}, 1));
-    garage_is(way, late, sizeof late / sizeof late[0]);
+    garage_is(way, late, sizeof late / sizeof late[0], 0);
+    garage_is(way, again, sizeof again / sizeof again[0], 4);
+}
+
+/* The count of skipped takes at the end of its range stays there. The control table has the profile after the count of records, then the holder
+ * and then the last giver of each semaphore, and that count. */
+static void skipped_end(const struct way *way) {
+    enum { COUNT = 16, PROFILE = 17, HOLDERS = 18, GIVERS = 50, SKIPPED = 82 };
+    uint32_t *control = way->one, got[3];
+    way->begin(way->one);
+    way->feed(way->one, ORDER_OWNED, 0, 0, got);
+    control[SKIPPED] = UINT32_MAX - 1;
+    uint32_t counts[3];
+    for (int i = 0; i < 3; i++) {
+        control[HOLDERS + i] = 0;
+        control[GIVERS + i] = 1;
+        way->feed(way->one, ORDER_TAKE, 0, (uint32_t)i, got);
+        counts[i] = got[0] == ORDER_ACCEPTED ? order_skipped(control) : 0;
+    }
+    check("skipped takes at the end of their range stay there", counts[0] == UINT32_MAX && counts[1] == UINT32_MAX && counts[2] == UINT32_MAX);
+    check("and are counted where the table has them", control[PROFILE] == 1 && control[COUNT] == 4 && control[SKIPPED] == UINT32_MAX);
 }
 
 /* Totals at the end of their range stay there, also where a record is taken: the control table is the first of a state, and has the phase of
@@ -365,6 +436,7 @@ static void states(void) {
     for (size_t i = 0; i < sizeof ways / sizeof ways[0]; i++) {
         run(&ways[i]);
         garages(&ways[i]);
+        skipped_end(&ways[i]);
         range_end(&ways[i]);
         one_bits(&ways[i]);
     }
@@ -470,6 +542,24 @@ static void text_totals(void) {
     }
     unknown(&way, &cut.kept);
     cut_end(&cut, "with its totals, in pieces of", 1);
+}
+
+/* The takes skipped of a text, between two pieces. */
+static void text_skipped(void) {
+    static const char lines[] = "op=owned task=0 on=0\nop=take task=0 on=3\nop=give task=0 on=3\nop=take task=0 on=3\nop=take task=0 on=3\n"
+                                "op=give task=0 on=3\nop=take task=0 on=3\n";
+    static const uint32_t skipped[] = {0, 0, 0, 0, 1, 1, 1, 2};
+    int right = 1;
+    size_t ended = 0;
+    cut_begin(&cut);
+    for (size_t at = 0; at < sizeof lines - 1; at++) {
+        cut_feed(&cut, lines + at, 1);
+        ended += lines[at] == '\n';
+        right = right && order_skipped(cut.kept.state.control) == skipped[ended];
+    }
+    check("takes skipped of a text, between its pieces", right && ended == 7);
+    order_text_begin(&cut.kept);
+    check("and none of a text that is begun", order_skipped(cut.kept.state.control) == 0);
 }
 
 /* The running state of a text is that of its records, and may be fed records too. */
@@ -929,6 +1019,7 @@ int main(void) {
     pieces(TEXT);
     pieces(TEXT - 1);
     text_totals();
+    text_skipped();
     text_and_records();
     too_little();
     any_text();

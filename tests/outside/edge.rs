@@ -407,6 +407,33 @@ fn run_owned(tally: &mut Tally, order: Option<&str>) {
     }
 }
 
+/// As many takes as may be that are skipped: one task takes and gives without end, so that all of its takes but the first are. Past the limit
+/// nothing counts.
+fn run_skipped(tally: &mut Tally, program: Option<&str>) {
+    let whole = [text("owned 0 0"), text("take 0 31, give 0 31").repeat(LIMIT / 2), text("take 0 31, take 0 0")].concat();
+    // The last of the takes is the last record that is accepted.
+    let most = LIMIT as u32 / 2 - 1;
+    let records = feeding::records(&whole);
+    for by in &BOTH {
+        let fed = Lent::fresh(by).and_then(|mut lent| {
+            let mut counts = Vec::new();
+            for (at, record) in records.iter().enumerate() {
+                lent.feed(*record, false)?;
+                counts.extend((at < 6 || at + 6 >= records.len()).then(|| lent.skipped()));
+            }
+            Ok(counts)
+        });
+        let expected = [0, 0, 0, 1, 1, 2, most - 1, most - 1, most, most, most, most];
+        tally
+            .check(fed == Ok(expected.to_vec()), || format!("{}, as many skipped takes as may be: {fed:?}, and not {expected:?}", by.name));
+    }
+    if let Some(program) = program {
+        let table = format!("var   clear    race   doubt     all\nall       0       0       0       0\nskipped {most}\n");
+        let right = program::run(program, &[], &whole, Cuts::Nowhere).and_then(|got| same(&got, table.as_bytes()));
+        tally.check(right.is_ok(), || format!("totals, as many skipped takes as may be: {}", right.unwrap_err()));
+    }
+}
+
 pub fn run(tally: &mut Tally, order: Option<&str>, totals: Option<&str>) {
     run_long(tally, order, totals);
     tally.part("as many records as may be");
@@ -414,5 +441,6 @@ pub fn run(tally: &mut Tally, order: Option<&str>, totals: Option<&str>) {
     tally.part("recordings that meet the limit");
     run_met(tally, order, true);
     run_owned(tally, order);
+    run_skipped(tally, totals);
     tally.part("recordings under the profile that meet the limit");
 }

@@ -40,6 +40,7 @@ extern "C" {
     fn order_step(state: *mut u32, kind: u8, task: u32, on: u32, answer: *mut u32);
     fn order_totals(control: *const u32, variable: u32, totals: *mut u32) -> u32;
     fn order_any_race(control: *const u32) -> u32;
+    fn order_skipped(control: *const u32) -> u32;
 }
 
 /// The whole state is lent by its first cell, and its tables follow each other.
@@ -65,7 +66,7 @@ pub struct Reckoning {
     feed: Feed,
 }
 
-const CONTROL: usize = 1268;
+const CONTROL: usize = 1301;
 pub const CLOCKS: Reckoning =
     Reckoning { name: "clocks", sizes: [CONTROL, 3072, 1312, 1312], guards: [GUARD; 5], begin: order_begin, feed: order_feed };
 pub const SETS: Reckoning =
@@ -147,9 +148,16 @@ impl Lent<'_> {
         (known, memory)
     }
 
-    /// The totals of all variables, and whether there was a Race anywhere, are just these; there are none of other numbers.
+    /// How many takes were skipped.
+    pub fn skipped(&mut self) -> u32 {
+        let [control, ..] = self.tables();
+        // SAFETY: the control table is valid.
+        unsafe { order_skipped(control) }
+    }
+
+    /// The totals of all variables, whether there was a Race anywhere, and the takes skipped are just these; there are none of other numbers.
     pub fn expect_totals(&mut self, expected: &Totals) -> Result<(), String> {
-        for (variable, &[clear, race, doubt]) in expected.0.iter().enumerate() {
+        for (variable, &[clear, race, doubt]) in expected.accesses.iter().enumerate() {
             let totals = self.totals(variable as u32);
             if totals != (1, [FILL, clear, race, doubt, FILL]) {
                 return Err(format!("totals of variable {variable}: {totals:?}, and not {:?}", [clear, race, doubt]));
@@ -160,6 +168,10 @@ impl Lent<'_> {
             if totals != (0, [FILL; 5]) {
                 return Err(format!("totals of variable {other}, which is none: {totals:?}"));
             }
+        }
+        let skipped = self.skipped();
+        if skipped != expected.skipped.unwrap_or(0) {
+            return Err(format!("takes skipped: {skipped}, and not {:?}", expected.skipped));
         }
         let [control, ..] = self.tables();
         // SAFETY: the control table is valid.

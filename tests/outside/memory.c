@@ -87,7 +87,8 @@ static void fed(const char *name, begin_call *begin, feed_call *feed, size_t siz
         right = right && known == (numbers[i] < 64) && (!known || sum(totals, 3) < KINDS * NUMBERS * NUMBERS);
         free(totals);
     }
-    right = right && order_any_race(control) <= 1;
+    /* Task 0 gave the six semaphores among these numbers last, and takes them again. */
+    right = right && order_any_race(control) <= 1 && order_skipped(control) == (owned ? 6 : 0);
     right = right && sum(control, ORDER_CONTROL_CELLS) > 0 && sum(last, ORDER_HISTORY_CELLS) > 0 && sum(arrived, size) > 0 && sum(full, size) > 0;
     if (right) {
         passed++;

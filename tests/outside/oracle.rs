@@ -233,6 +233,8 @@ pub struct Reading {
     /// So many records were accepted before, each the line of a text: they were acts of task 0 and nothing more, so that they make no pair
     /// and no path, and all that they do is to be counted. The first of them may have been an `owned`.
     pub before: usize,
+    /// It was.
+    pub owned_before: bool,
     pub recording: Vec<Record>,
     pub fates: Vec<Fate>,
 }
@@ -253,7 +255,7 @@ pub fn feed(records: impl Iterator<Item = Option<Record>>) -> Reading {
 }
 
 fn feed_after(mut so_far: Accepted, records: impl Iterator<Item = Option<Record>>) -> Reading {
-    let before = so_far.before;
+    let (before, owned_before) = (so_far.before, so_far.profile);
     let mut fates = Vec::new();
     for record in records {
         fates.push(match (refusal(&so_far, record), record) {
@@ -264,7 +266,7 @@ fn feed_after(mut so_far: Accepted, records: impl Iterator<Item = Option<Record>
             (row, _) => Fate::Refused(row.unwrap_or(1)),
         });
     }
-    Reading { before, recording: so_far.records, fates }
+    Reading { before, owned_before, recording: so_far.records, fates }
 }
 
 // ---- Order
@@ -460,14 +462,44 @@ pub fn judge(recording: &[Record]) -> Vec<Judged> {
     list
 }
 
+// ---- Takes without clock work
+
+/// The task that gave a semaphore last, going back no further than where the profile began.
+fn last_giver(records: &[Record], semaphore: u32) -> Option<u32> {
+    for record in records.iter().rev() {
+        match *record {
+            Record::Act(Act { op: Give, task, on }) if on == semaphore => return Some(task),
+            Record::Act(Act { op: Owned, .. }) => return None,
+            _ => {}
+        }
+    }
+    None
+}
+
+/// Under the profile, and after these records: a take whose semaphore was last given by the same task.
+fn is_skipped(before: &[Record], record: &Record) -> bool {
+    matches!(*record, Record::Act(Act { op: Take, task, on }) if last_giver(before, on) == Some(task))
+}
+
 // ---- Totals
 
-/// How many accesses of each variable were Clear, Race and Doubt.
+/// How many accesses of each variable were Clear, Race and Doubt; and how many takes were skipped, where the recording is under the profile.
 #[derive(Clone, Copy)]
-pub struct Totals(pub [[u32; 3]; VARIABLES]);
+pub struct Totals {
+    pub accesses: [[u32; 3]; VARIABLES],
+    pub skipped: Option<u32>,
+}
 
 impl Totals {
-    pub const NONE: Totals = Totals([[0; 3]; VARIABLES]);
+    pub const NONE: Totals = Totals { accesses: [[0; 3]; VARIABLES], skipped: None };
+
+    /// One more accepted record, after these.
+    pub fn follow(&mut self, before: &[Record], record: &Record) {
+        if let Record::Act(Act { op: Owned, .. }) = record {
+            self.skipped = Some(0);
+        }
+        self.skipped = self.skipped.map(|skipped| skipped + is_skipped(before, record) as u32);
+    }
 
     pub fn count(&mut self, var: u32, verdict: Verdict) {
         let of_verdict = match verdict {
@@ -475,35 +507,36 @@ impl Totals {
             Verdict::Race => 1,
             Verdict::Doubt => 2,
         };
-        self.0[var as usize][of_verdict] += 1;
+        self.accesses[var as usize][of_verdict] += 1;
     }
 
     pub fn any_race(&self) -> bool {
-        self.0.iter().any(|of_variable| of_variable[1] > 0)
+        self.accesses.iter().any(|of_variable| of_variable[1] > 0)
     }
 
-    /// The table: a head, a line for each variable that was accessed, and the sums, in five right-aligned columns.
+    /// The table: a head, a line for each variable that was accessed, and the sums, in five right-aligned columns; under the profile a line more.
     pub fn table(&self) -> String {
         let mut out = format!("{:>3} {:>7} {:>7} {:>7} {:>7}\n", "var", "clear", "race", "doubt", "all");
         let mut line = |name: &str, [clear, race, doubt]: [u32; 3]| {
             writeln!(out, "{name:>3} {clear:>7} {race:>7} {doubt:>7} {:>7}", clear + race + doubt).unwrap();
         };
         let mut sums = [0; 3];
-        for (variable, of_variable) in self.0.iter().enumerate().filter(|(_, of_variable)| **of_variable != [0; 3]) {
+        for (variable, of_variable) in self.accesses.iter().enumerate().filter(|(_, of_variable)| **of_variable != [0; 3]) {
             line(&variable.to_string(), *of_variable);
             sums.iter_mut().zip(of_variable).for_each(|(sum, count)| *sum += count);
         }
         line("all", sums);
-        out
+        out + &self.skipped.map_or(String::new(), |skipped| format!("skipped {skipped}\n"))
     }
 }
 
 /// The totals after each line or record.
 pub fn totals<'a>(reading: &'a Reading, judged: &'a [Judged]) -> impl Iterator<Item = Totals> + 'a {
-    let mut so_far = Totals::NONE;
+    let mut so_far = Totals { skipped: reading.owned_before.then_some(0), ..Totals::NONE };
     let mut judged = judged.iter().peekable();
     reading.fates.iter().map(move |fate| {
         if let Fate::Accepted(rec) = *fate {
+            so_far.follow(&reading.recording[..rec - 1], &reading.recording[rec - 1]);
             judged.next_if(|one| one.access.rec == rec).into_iter().for_each(|one| so_far.count(one.access.var, one.verdict));
         }
         so_far

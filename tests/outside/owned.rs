@@ -1,7 +1,10 @@
-//! Garages with owned semaphores: document 02, F-12. Recordings under that profile, by every call and by the programs, against the path search; and the
-//! search's own rows 14 to 16 against a second reading of the request, which goes forward and keeps who holds what.
+//! Garages with owned semaphores: document 02, F-12, and takes without clock work, F-13. Recordings under that profile, by every call and by the programs,
+//! against the path search, which knows no skipping; and the search's own rows 14 to 16 and its count of skipped takes against a second reading of
+//! the requests, which goes forward and keeps who holds what and who gave it last.
 
 use crate::cuts::{Cuts, WAYS};
+use crate::examples::text;
+use crate::feeding::Lent;
 use crate::generate::{owned_shape, recording, Random, Shape};
 use crate::known::{self, Deck, Folder};
 use crate::oracle::{self, Act, Fate, Judged, Op, Reading, Record, Verdict, TASKS};
@@ -15,7 +18,7 @@ const SHARE: u64 = 25;
 const SEMAPHORES: usize = 32;
 
 /// What must have been met, each often.
-const SEEN: [&str; 20] = [
+const SEEN: [&str; 24] = [
     "owned, first",
     "owned, first after refused lines",
     "owned, late",
@@ -36,6 +39,10 @@ const SEEN: [&str; 20] = [
     "owned, a miss of a held semaphore",
     "owned, a miss of a free semaphore",
     "owned, a task joined that holds one",
+    "owned, taken again with another semaphore held",
+    "owned, taken again after a refused take or give of it",
+    "owned, taken again after a miss of it",
+    "owned, accesses in order with others after takes that are skipped",
 ];
 
 /// What a recording shows of the profile, line by line: who holds each semaphore is kept going forward. Says where the search is wrong.
@@ -45,6 +52,9 @@ fn read_again(tally: &mut Tally, text: &[u8], reading: &Reading) -> Result<(), S
     let mut holders: [Option<u32>; SEMAPHORES] = [None; SEMAPHORES];
     let mut givers: [Option<u32>; SEMAPHORES] = [None; SEMAPHORES];
     let mut ended = [false; TASKS as usize];
+    // Takes by the task that gave the semaphore last; and what else was tried of each since that give.
+    let mut again = 0;
+    let mut since: [Vec<Op>; SEMAPHORES] = Default::default();
     for (at, (line, fate)) in oracle::lines(text).into_iter().zip(&reading.fates).enumerate() {
         let Some(record) = oracle::read_line(line) else { continue };
         let wrong = |why: &str| Err(format!("line {}: {why}\n{}", at + 1, text.escape_ascii()));
@@ -73,7 +83,19 @@ fn read_again(tally: &mut Tally, text: &[u8], reading: &Reading) -> Result<(), S
             (_, 15) => return wrong("row 15 for another op, or outside the profile"),
             (Record::Act(Act { op: Op::Take, task, on }), 0) if under => match (holders[on as usize].replace(task), givers[on as usize]) {
                 (Some(_), _) => return wrong("a held semaphore is taken"),
-                (None, Some(giver)) if giver == task => see("taken again by the task that gave it"),
+                (None, Some(giver)) if giver == task => {
+                    again += 1;
+                    see("taken again by the task that gave it");
+                    if holders.iter().enumerate().any(|(other, holder)| other != on as usize && *holder == Some(task)) {
+                        see("taken again with another semaphore held");
+                    }
+                    if since[on as usize].contains(&Op::Miss) {
+                        see("taken again after a miss of it");
+                    }
+                    if since[on as usize].iter().any(|op| *op != Op::Miss) {
+                        see("taken again after a refused take or give of it");
+                    }
+                }
                 (None, Some(_)) => see("taken after another task's give"),
                 (None, None) => see("a free semaphore taken"),
             },
@@ -88,6 +110,7 @@ fn read_again(tally: &mut Tally, text: &[u8], reading: &Reading) -> Result<(), S
                     return wrong("a semaphore is given by a task that does not hold it");
                 }
                 givers[on as usize] = Some(task);
+                since[on as usize].clear();
                 see("given by its holder");
             }
             (Record::Act(Act { op: Op::Give, task, on }), 16) if under => match holders[on as usize] {
@@ -103,6 +126,11 @@ fn read_again(tally: &mut Tally, text: &[u8], reading: &Reading) -> Result<(), S
             (Record::Act(Act { op: Op::Join, on, .. }), 0) if under && holders.contains(&Some(on)) => see("a task joined that holds one"),
             _ => {}
         }
+        match record {
+            Record::Act(Act { op: op @ (Op::Take | Op::Give), on, .. }) if row == 16 => since[on as usize].push(op),
+            Record::Act(Act { op: Op::Miss, on, .. }) if row == 0 => since[on as usize].push(Op::Miss),
+            _ => {}
+        }
         if row == 0 {
             accepted += 1;
             match record {
@@ -112,7 +140,26 @@ fn read_again(tally: &mut Tally, text: &[u8], reading: &Reading) -> Result<(), S
             }
         }
     }
+    let skipped = skipped(reading);
+    if skipped != under.then_some(again) {
+        return Err(format!("{skipped:?} takes are skipped, and not {again}\n{}", text.escape_ascii()));
+    }
     Ok(())
+}
+
+/// How many takes are skipped, by the search; none outside the profile.
+fn skipped(reading: &Reading) -> Option<u32> {
+    oracle::totals(reading, &[]).last().and_then(|totals| totals.skipped)
+}
+
+/// Notes accesses that are in order with another task's, in a recording with takes that are skipped.
+fn see_skipped(tally: &mut Tally, reading: &Reading, judged: &[Judged]) {
+    let accesses = oracle::accesses(&reading.recording);
+    let in_order = |this: &usize| judged[*this].verdict == Verdict::Clear && oracle::pairs(&accesses, *this).next().is_some();
+    if skipped(reading).is_some_and(|skipped| skipped > 0) {
+        let times = (0..judged.len()).filter(in_order).count();
+        tally.see("owned, accesses in order with others after takes that are skipped", times);
+    }
 }
 
 /// Under the profile nothing is in Doubt.
@@ -128,6 +175,7 @@ fn compare(tally: &mut Tally, name: &str, text: &[u8]) -> Reading {
     let report = oracle::report(&reading, &judged);
     let read = read_again(tally, text, &reading);
     tally.check(read.is_ok(), || format!("oracle, {name}: {}", read.unwrap_err()));
+    see_skipped(tally, &reading, &judged);
     tally.check(no_doubt(&reading, &judged), || format!("oracle, {name}: a Doubt under the profile\n{}", text.escape_ascii()));
     tally.expect(&format!("entry, {name}"), text, &report, entry::report(text, 0));
     let cuts = streaming::way(text);
@@ -141,6 +189,72 @@ fn sound(text: &[u8], reading: &Reading) -> Vec<u8> {
     let lines = oracle::lines(text).into_iter().zip(&reading.fates);
     let accepted = lines.filter(|(_, fate)| matches!(fate, Fate::Accepted(_)));
     accepted.flat_map(|(line, _)| [line, b"\n"].concat()).collect()
+}
+
+// ---- Takes without clock work, by hand
+
+/// The records, and how many takes are skipped; none outside the profile.
+const SKIPPED: &[(&str, Option<u32>)] = &[
+    ("", None),
+    ("take 0 3, give 0 3, take 0 3", None),
+    ("miss 0 0, owned 0 0, take 0 3, give 0 3, take 0 3, give 0 3, take 0 3", None),
+    ("owned 0 0", Some(0)),
+    ("owned 0 0, take 0 3", Some(0)),
+    ("owned 0 0, take 0 3, give 0 3", Some(0)),
+    ("owned 0 0, take 0 3, give 0 3, take 0 3", Some(1)),
+    ("owned 0 0, take 0 3, give 0 3, take 0 3, give 0 3, take 0 3, give 0 3", Some(2)),
+    ("owned 0 0, take 0 0, give 0 0, take 0 0, take 0 31, give 0 31, take 0 31", Some(2)),
+    // By semaphore and by task.
+    ("owned 0 0, take 0 3, give 0 3, take 0 4, give 0 4, take 0 2", Some(0)),
+    ("owned 0 0, start 0 1, take 0 3, give 0 3, take 1 3, give 1 3, take 0 3, give 0 3, take 1 3", Some(0)),
+    ("owned 0 0, start 0 1, take 0 3, give 0 3, take 1 3, give 1 3, take 1 3, give 1 3, take 0 3", Some(1)),
+    ("owned 0 0, start 0 15, take 15 3, give 15 3, take 15 3, give 15 3, take 0 3, give 0 3, take 15 3", Some(1)),
+    ("owned 0 0, start 0 1, take 0 3, give 0 3, take 1 4, give 1 4, take 0 3, take 1 4", Some(2)),
+    // With other semaphores held, by the same task and by others.
+    ("owned 0 0, take 0 1, take 0 3, give 0 3, take 0 3", Some(1)),
+    ("owned 0 0, take 0 3, give 0 3, take 0 1, take 0 3, give 0 1, give 0 3, take 0 1, take 0 3", Some(3)),
+    ("owned 0 0, start 0 1, take 0 3, give 0 3, take 1 1, take 1 2, take 0 3", Some(1)),
+    // A refused take or give counts for nothing, nor does one that is refused for another reason.
+    ("owned 0 0, take 0 3, give 0 3, take 0 3, take 0 3, take 0 3", Some(1)),
+    ("owned 0 0, give 0 3, take 0 3", Some(0)),
+    ("owned 0 0, start 0 1, give 1 3, take 1 3", Some(0)),
+    ("owned 0 0, start 0 1, take 0 3, give 0 3, give 1 3, take 0 3", Some(1)),
+    ("owned 0 0, start 0 1, take 0 3, give 1 3, give 0 3, give 1 3, take 1 3", Some(0)),
+    ("owned 0 0, start 0 1, take 0 3, take 1 3, give 0 3, take 0 3, take 1 3, give 1 3", Some(1)),
+    ("owned 0 0, take 0 3, give 0 3, take 16 3, take 0 32, take 1 3, give 1 3, lost 1, owned 0 0, take 0 3", Some(1)),
+    ("owned 0 0, take 0 3, give 0 3, owned 0 0, take 0 3, give 0 3, take 0 3", Some(2)),
+    // A miss is no take, and forgets nothing; nor does a join, a start or an access.
+    ("owned 0 0, take 0 3, give 0 3, miss 0 3, miss 0 3, take 0 3", Some(1)),
+    ("owned 0 0, start 0 1, take 0 3, give 0 3, miss 1 3, take 0 3", Some(1)),
+    ("owned 0 0, take 0 3, give 0 3, start 0 1, write 1 5, set 1 3, look 0 3, join 0 1, read 0 5, fresh 0 3, take 0 3", Some(1)),
+    // An ended task gave it last.
+    ("owned 0 0, start 0 1, take 1 3, give 1 3, join 0 1, take 0 3, give 0 3, take 0 3", Some(1)),
+];
+
+fn run_skipped(tally: &mut Tally, program: Option<&str>) {
+    for (records, expected) in SKIPPED {
+        let (text, name) = (text(records), format!("skipped takes, {records}"));
+        let counted = skipped(&compare(tally, &name, &text));
+        tally.check(counted == *expected, || format!("oracle, {name}: {counted:?}, and not {expected:?}"));
+        for by in &feeding::ALL {
+            let fed = Lent::fresh(by).and_then(|mut lent| {
+                feeding::records(&text).into_iter().try_for_each(|record| lent.feed(record, true).map(drop))?;
+                Ok(lent.skipped())
+            });
+            tally.check(fed == Ok(expected.unwrap_or(0)), || format!("{}, {name}: {fed:?}, and not {expected:?}", by.name));
+        }
+        if let Some(program) = program {
+            // The form of the table, by hand, where it has no variable.
+            if !records.contains("write") {
+                let line = expected.map_or(String::new(), |skipped| format!("skipped {skipped}\n"));
+                let table = format!("var   clear    race   doubt     all\nall       0       0       0       0\n{line}");
+                tally.expect(&format!("totals, {name}"), &text, &table, program::run(program, &[], &text, Cuts::Nowhere));
+            }
+            for every in [0, 1, 2] {
+                totals::compare(tally, program, &name, &text, every, WAYS[text.len() % WAYS.len()]);
+            }
+        }
+    }
 }
 
 // ---- Every short recording
@@ -247,6 +361,8 @@ fn run_generated(first: u64, programs: Option<&Programs>) -> Tally {
 }
 
 pub fn run(tally: &mut Tally, order: Option<&str>, totals: Option<&str>, settle: Option<&str>) {
+    run_skipped(tally, totals);
+    tally.part("owned, takes that are skipped, by hand");
     on_threads(tally, run_short);
     tally.part("owned, every short recording");
     let programs = order.zip(totals).zip(settle).map(|((order, totals), settle)| Programs { order, totals, settle });

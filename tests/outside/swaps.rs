@@ -192,10 +192,12 @@ fn by_search(run: &Run) -> Result<Said, String> {
 /// A count over what was said.
 fn totals(run: &Run, said: &Said) -> Totals {
     let mut totals = Totals::NONE;
-    for (name, record) in run {
+    let records: Vec<Record> = run.iter().map(|(_, record)| *record).collect();
+    for (at, (name, record)) in run.iter().enumerate() {
+        totals.follow(&records[..at], record);
         if let Some((verdict, _)) = said.get(name) {
             let of_verdict = ["clear", "race", "doubt"].iter().position(|word| word == verdict).unwrap();
-            totals.0[act(record).unwrap().on as usize][of_verdict] += 1;
+            totals.accesses[act(record).unwrap().on as usize][of_verdict] += 1;
         }
     }
     totals
