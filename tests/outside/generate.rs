@@ -393,6 +393,11 @@ impl Maker<'_> {
         self.access_by(from);
         self.act("start", from, courier as usize);
         match self.random.below(3) {
+            // The profile begins by the courier's only act.
+            _ if !self.under && self.shape.owned.is_some() && self.random.percent(20) => {
+                self.act("owned", courier, 0);
+                self.under = true;
+            }
             0 => self.mark_of(1 << courier),
             1 if self.random.percent(30) => self.act("miss", courier, 0),
             1 => self.access_by(courier),

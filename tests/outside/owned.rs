@@ -19,12 +19,13 @@ const SHARE: u64 = 25;
 const SEMAPHORES: usize = 32;
 
 /// What must have been met, each often.
-const SEEN: [&str; 34] = [
+const SEEN: [&str; 35] = [
     "owned, the first record",
     "owned, the first record after refused lines",
     "owned, after other records",
     "owned, by another task than 0",
     "owned, after a mark",
+    "owned, the only act of a task that is joined",
     "owned, a second time",
     "owned, out of its series",
     "owned, by a task that does not live",
@@ -60,6 +61,7 @@ const SEEN: [&str; 34] = [
 fn read_again(tally: &mut Tally, text: &[u8], reading: &Reading) -> Result<(), String> {
     let mut under = false;
     let (mut accepted, mut marks) = (0, 0);
+    let mut acts: [Vec<Op>; TASKS as usize] = Default::default();
     let mut holders: [Option<u32>; SEMAPHORES] = [None; SEMAPHORES];
     let mut givers: [Option<u32>; SEMAPHORES] = [None; SEMAPHORES];
     let mut ended = [false; TASKS as usize];
@@ -156,6 +158,9 @@ fn read_again(tally: &mut Tally, text: &[u8], reading: &Reading) -> Result<(), S
                 None => see("a miss of a free semaphore"),
                 Some(_) => see("a miss of a held semaphore"),
             },
+            (Record::Act(Act { op: Op::Join, on, .. }), 0) if acts[on as usize] == [Op::Owned] => {
+                see("the only act of a task that is joined")
+            }
             (Record::Act(Act { op: Op::Join, on, .. }), 0) if under && holders.contains(&Some(on)) => see("a task joined that holds one"),
             _ => {}
         }
@@ -166,6 +171,9 @@ fn read_again(tally: &mut Tally, text: &[u8], reading: &Reading) -> Result<(), S
         }
         if row == 0 {
             accepted += 1;
+            if let Record::Act(Act { op, task, .. }) = record {
+                acts[task as usize].push(op);
+            }
             match record {
                 Record::Lost(_) => marks += 1,
                 Record::Act(Act { op: Op::Take, task, on }) if !under => taken_before[on as usize] = Some(task),
@@ -350,7 +358,7 @@ fn run_skipped(tally: &mut Tally, program: Option<&str>) {
 // ---- Every short recording
 
 /// What may stand before a write by task 1, where task 2 may come and go, and task 0 has written.
-const LINES: [&str; 24] = [
+const LINES: [&str; 25] = [
     "op=take task=0 on=1",
     "op=take task=1 on=1",
     "op=take task=2 on=1",
@@ -374,6 +382,7 @@ const LINES: [&str; 24] = [
     "op=lost tasks=4",
     "op=owned task=0 on=0",
     "op=owned task=1 on=0",
+    "op=owned task=2 on=0",
     "op=owned task=0 on=1",
 ];
 
@@ -393,7 +402,9 @@ const BEFORE: [&str; 8] = [
 fn run_short(first: u64) -> Tally {
     let mut tally = Tally::new();
     for before in BEFORE.iter().skip(first as usize).step_by(THREADS as usize) {
-        for middle in short_texts(&LINES) {
+        // With a mark the search is slow, so that two lines must do.
+        let most = if before.contains("lost") { 2 } else { 3 };
+        for middle in short_texts(&LINES).iter().filter(|middle| middle.lines().count() <= most) {
             let text = format!("{before}{middle}op=write task=1 on=5\n").into_bytes();
             let reading = compare(&mut tally, "owned, short", &text);
             let accepted = sound(&text, &reading);
