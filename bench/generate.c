@@ -1,12 +1,13 @@
-/* Writes a recording to standard output: generate SEED RECORDS TASKS [NOISE [PLAIN [SAME]]]
+/* Writes a recording to standard output: generate SEED RECORDS TASKS [NOISE [PLAIN [SAME [AT]]]]
  *
  * The same words give the same bytes. Half of the records are accesses, one in fifty is a loss mark, the rest are hand-overs; tasks are
  * started early and some are joined late. NOISE lines in 1,000 (none if not given) are bent: wrong numbers, words, bytes or length; PLAIN
  * records in 1,000 (none if not given) are a fresh, a miss or a bump.
  *
- * With SAME it is a garage with owned semaphores: `owned` comes first and there are no marks. A task takes a semaphore, accesses variables and
- * gives it back, one section in seven has a second within it; nearly half of the records are accesses. SAME in 1,000 takes are of a
- * semaphore that the same task gave last. Without its first line it is as good a recording, with the same takes. */
+ * With SAME it is a garage with owned semaphores: `owned` comes first, or after AT records of the usual kind, and there are no marks after
+ * it. A task takes a semaphore, accesses variables and gives it back, one section in seven has a second within it; nearly half of the
+ * records are accesses. SAME in 1,000 takes are of a semaphore that the same task gave last. Without the `owned` it is as good a recording,
+ * with the same takes. */
 #include <stdint.h>
 #include <stdio.h>
 #include <stdlib.h>
@@ -128,14 +129,18 @@ static void stray(void) {
 }
 
 int main(int argc, char **argv) {
-    if (argc < 4) return fprintf(stderr, "usage: generate SEED RECORDS TASKS [NOISE [PLAIN [SAME]]]\n"), 2;
+    if (argc < 4) return fprintf(stderr, "usage: generate SEED RECORDS TASKS [NOISE [PLAIN [SAME [AT]]]]\n"), 2;
     seed = strtoull(argv[1], 0, 10);
     unsigned records = (unsigned)atoi(argv[2]), tasks = (unsigned)atoi(argv[3]), noise = argc > 4 ? (unsigned)atoi(argv[4]) : 0;
     unsigned plain = argc > 5 ? (unsigned)atoi(argv[5]) : 0, same = argc > 6 ? (unsigned)atoi(argv[6]) : 0;
-    int owned = argc > 6;
+    unsigned at = argc > 7 ? (unsigned)atoi(argv[7]) : argc > 6 ? 0 : UINT32_MAX;
     if (tasks < 1 || tasks > 16) return fprintf(stderr, "generate: 1 to 16 tasks\n"), 2;
-    if (owned) act("owned", 0, 0);
-    for (unsigned i = owned; i < records; i++) {
+    for (unsigned i = 0; i < records; i++) {
+        int owned = i >= at;
+        if (i == at) {
+            act("owned", at ? any_live() : 0, 0);
+            continue;
+        }
         if (noise && below(1000) < noise) bent();
         if (owned && noise && below(1000) < noise) stray();
         if (started < tasks && below(8) == 0) start();

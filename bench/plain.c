@@ -58,7 +58,7 @@ static int refusal(const State *s, int kind, uint32_t task, uint32_t on) {
     if (kind == START && s->phase[on] != 0) return 7;
     if (kind == JOIN && on == task) return 8;
     if (kind == JOIN && s->phase[on] != 1) return 9;
-    if (kind == OWNED && s->count) return 14;
+    if (kind == OWNED && s->owned) return 14;
     if (s->owned && kind == TAKE && s->holder[on]) return 16;
     if (s->owned && kind == GIVE && s->holder[on] != task + 1) return 16;
     return 0;

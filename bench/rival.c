@@ -11,7 +11,7 @@
  * - A mark makes all objects know the same: one row stands for all that no give or set has told since.
  * - A line is read on the guess that it is of the text form; only where it is not is its end looked for.
  * - With owned semaphores a take of one that the same task gave last joins nothing, a give is a copy, since its task knows all that the
- *   semaphore knows, and one filling is enough, since there are no marks.
+ *   semaphore knows, and one filling is enough where there was no mark before the change, since none comes after it.
  *
  * Built alone it is a program, standard input to standard output; with -DENTRY it is a second `order_report`. */
 #define _GNU_SOURCE
@@ -56,7 +56,7 @@ typedef struct {
 typedef struct {
     Filling arrived, fullest;
     Clock latest[3][64]; /* by the kind that asks (read, write, bump): the latest access of each variable by each task that conflicts with it */
-    uint32_t live, unseen, count, owned, skipped;
+    uint32_t live, unseen, count, marked, owned, single, skipped; /* single: one filling is enough */
     uint64_t line;
     uint8_t holder[32], giver[32]; /* with owned semaphores: a task and one more, 0 for nobody */
 } State;
@@ -212,7 +212,7 @@ static uint32_t refusal(const State *s, uint32_t kind, uint32_t task, uint32_t o
     if (!(s->live >> task & 1)) return 6;
     if (kind == START) return s->unseen >> on & 1 ? 0 : 7;
     if (kind == JOIN) return on == task ? 8 : s->live >> on & 1 ? 0 : 9;
-    if (kind == OWNED) return s->count ? 14 : 0;
+    if (kind == OWNED) return s->owned ? 14 : 0;
     if (s->owned && kind == TAKE) return s->holder[on] ? 16 : 0;
     if (s->owned && kind == GIVE) return s->holder[on] == task + 1 ? 0 : 16;
     return 0;
@@ -222,8 +222,8 @@ static uint8_t *judge(State *s, uint8_t *o, uint32_t kind, uint32_t task, uint32
     uint32_t asks = kind == BUMP ? 2 : kind;
     Clock *latest = &s->latest[asks][on];
     uint32_t verdict = 1, with = 0;
-    uint32_t mask = apart(latest, &(s->owned ? &s->arrived : &s->fullest)->task[task]);
-    if (!mask && !s->owned) {
+    uint32_t mask = apart(latest, &(s->single ? &s->arrived : &s->fullest)->task[task]);
+    if (!mask && !s->single) {
         mask = apart(latest, &s->arrived.task[task]);
         verdict = 2;
     }
@@ -251,6 +251,7 @@ static void own(State *s, uint32_t kind, uint32_t task, uint32_t on, uint32_t nu
         kind = BACK;
     }
     act(&s->arrived, kind, task, on, number);
+    if (!s->single) act(&s->fullest, kind, task, on, number);
 }
 
 static uint8_t *feed(State *s, uint8_t *o, uint32_t kind, uint32_t task, uint32_t on) {
@@ -258,13 +259,13 @@ static uint8_t *feed(State *s, uint8_t *o, uint32_t kind, uint32_t task, uint32_
     if (refused) return put_refused(o, s->line, refused);
     uint32_t number = ++s->count;
     if (kind <= WRITE || kind == BUMP) return judge(s, o, kind, task, on, number);
-    if (kind == LOST) return fill(&s->fullest, on), o;
+    if (kind == LOST) return s->marked = 1, fill(&s->fullest, on), o;
     if (kind == FRESH)
         for (int a = 0; a < 3; a++) memset(&s->latest[a][on], 0, sizeof s->latest[a][on]);
     if (kind == START) s->live |= 1u << on, s->unseen &= ~(1u << on);
     if (kind == JOIN) s->live &= ~(1u << on);
     if (s->owned) return own(s, kind, task, on, number), o;
-    if (kind == OWNED) s->owned = 1;
+    if (kind == OWNED) s->owned = 1, s->single = !s->marked;
     act(&s->arrived, kind, task, on, number);
     act(&s->fullest, kind, task, on, number);
     return o;

@@ -33,11 +33,12 @@ uint64_t order_report(const uint8_t *text, size_t text_len, uint8_t *report, siz
 /* The kinds of records, for a host that feeds them one by one, without text. A record has a kind, an acting task and a number: of a
  * variable, a semaphore, a flag or a task; 0 for ORDER_OWNED. A loss mark has its mask there, and its task is not looked at.
  *
- * ORDER_OWNED as the first accepted record says that the garage has owned semaphores. All are free then; a take makes its task the holder,
- * and a give frees the semaphore. Refused in such a recording:
- *   15  a loss mark, so that no access is a Doubt
- *   16  a take of a semaphore that is held, or a give by a task that does not hold it
- * ORDER_OWNED once any record has been accepted is refused with 14. */
+ * ORDER_OWNED, by any live task, says that semaphores are owned from there on: as the first record, or where a controller was updated. All are
+ * free at that point; a take makes its task the holder, and a give frees the semaphore. Order from before remains, and so do loss marks.
+ * Refused after it:
+ *   14  a second ORDER_OWNED
+ *   15  a loss mark, so that no access is a Doubt but for marks before it
+ *   16  a take of a semaphore that is held, or a give by a task that does not hold it */
 #define ORDER_READ 0
 #define ORDER_WRITE 1
 #define ORDER_TAKE 2
@@ -104,8 +105,8 @@ uint32_t order_totals(const uint32_t control[ORDER_CONTROL_CELLS], uint32_t vari
 /* Whether any access of any variable was a Race so far: 1 or 0. It looks at one cell. */
 uint32_t order_any_race(const uint32_t control[ORDER_CONTROL_CELLS]);
 
-/* How many takes were skipped so far: with owned semaphores, takes of a semaphore that the same task gave last, for which no clocks are
- * compared. Refused records count nowhere; without ORDER_OWNED it is 0. No verdict depends on it.
+/* How many takes were skipped so far: after ORDER_OWNED, takes of a semaphore whose last give since then was the same task's, for which no
+ * clocks are compared. Refused records count nowhere; without ORDER_OWNED it is 0. No verdict depends on it.
  *
  * control: as in order_any_race. By the sets, which compare no clocks, it is the same count. */
 uint32_t order_skipped(const uint32_t control[ORDER_CONTROL_CELLS]);

@@ -151,8 +151,8 @@ fn judged(recording: &[Record], report: &[u8]) -> Vec<Judged> {
 /// Recordings with all kinds of records, marks and damage, and more records than 16 bits can count. They are too long for the search, so the
 /// running state and the sets are held against the entry.
 fn long_texts(tally: &mut Tally, order: Option<&str>) {
-    let profile = Some(Profile { wrong: 10 });
-    let kinds = [(5, 0, 0, None), (5, 10, 10, None), (5, 30, 40, None), (0, 0, 0, profile), (1, 10, 10, profile)];
+    let profile = |after| Some(Profile { after, wrong: 10 });
+    let kinds = [(5, 0, 0, None), (5, 10, 10, None), (5, 30, 40, None), (0, 0, 0, profile(0)), (5, 1, 10, profile(60_000))];
     for (seed, (marks, stray, damage, owned)) in kinds.into_iter().enumerate() {
         let (length, tasks, variables, objects, named) = (120_000, 16, 64, 32, usize::MAX);
         let shape = Shape { length, tasks, variables, objects, marks, named, idle: 30, stay: 0, stray, damage, owned };

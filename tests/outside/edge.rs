@@ -335,8 +335,8 @@ const RECORDINGS: u64 = 200;
 /// So many of them are given to the entry and to the program.
 const WHOLE: u64 = 2;
 
-/// Recordings of all kinds of records, marks and damage, after so many acts of task 0 that the limit comes while they are under way. Where the
-/// first of them is an `owned`, the recordings are under the profile, and rows 14 to 16 are behind row 5.
+/// Recordings of all kinds of records, marks and damage, after so many acts of task 0 that the limit comes while they are under way. Where one
+/// of them is an `owned`, the recordings are under the profile, and rows 14 to 16 are behind row 5.
 fn run_met(tally: &mut Tally, order: Option<&str>, owned: bool) {
     let before = LIMIT - LEFT;
     let (pad, first) = (text(PAD), text(if owned { "owned 0 0" } else { PAD }));

@@ -52,19 +52,21 @@ pub struct Shape {
     pub stray: usize,
     /// A line is damaged.
     pub damage: usize,
-    /// It follows the profile of owned semaphores.
+    /// It follows the profile of owned semaphores, from some line on.
     pub owned: Option<Profile>,
 }
 
 #[derive(Clone, Copy)]
 pub struct Profile {
-    /// A line is one that the profile refuses, in percent.
+    /// It begins after so many lines.
+    pub after: usize,
+    /// From then on a line is one that the profile refuses, in percent.
     pub wrong: usize,
 }
 
-/// One shape in five is under the profile.
+/// One shape in five comes under the profile.
 fn profile(random: &mut Random) -> Option<Profile> {
-    random.percent(20).then(|| Profile { wrong: random.pick(&[0, 0, 5, 20]) })
+    random.percent(20).then(|| Profile { after: random.pick(&[0, 0, 2, 5, 10, 20, 60]), wrong: random.pick(&[0, 0, 5, 20]) })
 }
 
 /// Most shapes have few of everything, so that records meet; some have the full range.
@@ -79,6 +81,13 @@ pub fn owned_shape(random: &mut Random) -> Shape {
     shape_of(random, owned)
 }
 
+/// A busy recording with marks that comes under the profile in its midst.
+pub fn changing_shape(random: &mut Random) -> Shape {
+    let owned = Some(Profile { after: 4 + random.below(20), wrong: random.pick(&[0, 5]) });
+    let (length, tasks, variables, objects) = (30 + random.below(40), 2 + random.below(3), 1 + random.below(2), 1 + random.below(3));
+    Shape { length, tasks, variables, objects, marks: random.pick(&[10, 25]), named: random.pick(&[4, 8, 12]), ..shape_of(random, owned) }
+}
+
 fn shape_of(random: &mut Random, owned: Option<Profile>) -> Shape {
     let short = random.percent(70);
     let many = random.percent(25);
@@ -87,8 +96,7 @@ fn shape_of(random: &mut Random, owned: Option<Profile>) -> Shape {
         tasks: if many { 16 } else { 2 + random.below(4) },
         variables: random.pick(&[1, 1, 2, 3, 64]),
         objects: random.pick(&[1, 1, 2, 3, 32]),
-        // Under the profile marks are refused.
-        marks: if owned.is_some() { random.pick(&[0, 0, 3]) } else { random.pick(&[0, 3, 10, 25]) },
+        marks: random.pick(&[0, 3, 10, 25]),
         named: random.pick(&[2, 6, 12, 20]),
         idle: random.pick(&[0, 25, 60]),
         stay: 0,
@@ -136,7 +144,7 @@ pub fn recording(random: &mut Random, shape: &Shape) -> Vec<u8> {
         named: shape.named,
         text: vec![],
     };
-    if shape.owned.is_some() {
+    if shape.owned.is_some_and(|owned| owned.after == 0) {
         maker.owned();
     }
     if maker.random.percent(70) {
@@ -144,7 +152,10 @@ pub fn recording(random: &mut Random, shape: &Shape) -> Vec<u8> {
             maker.start();
         }
     }
-    for _ in 0..shape.length {
+    for line in 0..shape.length {
+        if !maker.under && shape.owned.is_some_and(|owned| owned.after == line) {
+            maker.owned();
+        }
         maker.line();
     }
     if maker.random.percent(30) && maker.text.last() == Some(&b'\n') {
@@ -161,7 +172,7 @@ impl Maker<'_> {
             self.put(line);
         } else if self.under && shape.owned.is_some_and(|owned| self.random.percent(owned.wrong)) {
             self.wrong();
-        } else if self.random.percent(shape.marks) {
+        } else if !self.under && self.random.percent(shape.marks) {
             self.mark();
         } else if shape.stay > 0 && self.random.percent(shape.stay) {
             self.stay();
@@ -191,7 +202,7 @@ impl Maker<'_> {
         self.put(format!("op={word} task={task} on={on}"));
     }
 
-    /// The profile begins. Lines that are refused before it do not make it late.
+    /// The profile begins. Lines that are refused before it are not the first.
     fn owned(&mut self) {
         for _ in 0..self.random.pick(&[0, 0, 0, 1, 3]) {
             let (word, task, on) = self.random.pick(&[
@@ -206,11 +217,8 @@ impl Maker<'_> {
             ]);
             self.act(word, task, on);
         }
-        // At times it is late all the same.
-        if self.random.percent(4) {
-            self.act("miss", 0, 0);
-        }
-        self.act("owned", 0, 0);
+        let task = self.actor();
+        self.act("owned", task, 0);
         self.under = true;
     }
 
@@ -385,6 +393,11 @@ impl Maker<'_> {
         self.access_by(from);
         self.act("start", from, courier as usize);
         match self.random.below(3) {
+            // The profile begins by the courier's only act.
+            _ if !self.under && self.shape.owned.is_some() && self.random.percent(20) => {
+                self.act("owned", courier, 0);
+                self.under = true;
+            }
             0 => self.mark_of(1 << courier),
             1 if self.random.percent(30) => self.act("miss", courier, 0),
             1 => self.access_by(courier),
@@ -408,7 +421,8 @@ impl Maker<'_> {
 
     fn mark_of(&mut self, mask: u32) {
         let cost = mask.count_ones() as usize;
-        if self.shape.marks > 0 && cost <= self.named {
+        // Under the profile they are refused, which is tried elsewhere.
+        if !self.under && self.shape.marks > 0 && cost <= self.named {
             self.named -= cost;
             self.put(format!("op=lost tasks={mask}"));
         }

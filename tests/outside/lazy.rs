@@ -231,7 +231,7 @@ fn as_it_is(list: &[Lend], answers: &[(usize, Answer)]) -> Result<(), String> {
 
 /// The same for each task by itself. The sets name the lowest task apart alone, so the list is fed to them with that task renamed to 1 and the
 /// others to higher numbers; a new task 0 starts what was task 0, and does nothing else, for which a number must be free. Without the marks, as
-/// a Race is then one as it arrived. An `owned` is the first record, to which no access has a path; so the new task 0 may do it.
+/// a Race is then one as it arrived.
 fn task_by_task(list: &[Lend], answers: &[(usize, Answer)]) -> Result<(), String> {
     let acts: Vec<Option<Act>> =
         read(list).recording.iter().map(|record| if let Record::Act(act) = record { Some(*act) } else { None }).collect();
@@ -247,13 +247,12 @@ fn task_by_task(list: &[Lend], answers: &[(usize, Answer)]) -> Result<(), String
         let mut order = tasks.clone();
         order.sort_by_key(|&task| (task != first, task));
         let renamed = |task: u32| 1 + order.iter().position(|&one| one == task).unwrap() as u32;
-        let owned = acts.iter().flatten().filter(|act| act.op == Op::Owned).map(|_| (kind(Op::Owned), 0, 0));
-        let mut records: Vec<Numbers> = owned.chain([(kind(Op::Start), 0, renamed(0))]).collect();
+        let mut records = vec![(kind(Op::Start), 0, renamed(0))];
         // The record, among those, of each of the list.
         let mut places = Vec::new();
-        for act in acts.iter().map(|act| act.filter(|act| act.op != Op::Owned)) {
+        for act in &acts {
             places.push(act.map(|_| records.len()));
-            if let Some(act) = &act {
+            if let Some(act) = act {
                 let on = if names_task(act) { renamed(act.on) } else { act.on };
                 records.push((kind(act.op), renamed(act.task), on));
             }
@@ -460,8 +459,21 @@ const SHORT: &[(&str, &str, Answer)] = &[
         [0, 1, 1, 4],
     ),
     ("owned, joined while it holds", "owned 0 0, start 0 1, take 1 2, write 1 5, join 0 1, write 0 5", [0, 2, 2, 1]),
-    ("row 14", "write 0 5, owned 0 0, read 0 5", [14, 0, 0, 0]),
+    ("owned between", "start 0 1, write 0 5, owned 0 0, read 1 5", [0, 1, 0, 0]),
+    ("owned between, by the reader", "start 0 1, write 0 5, owned 1 0, take 1 4, read 1 5", [0, 1, 0, 1]),
+    ("a give before owned and a take after it", "start 0 1, write 0 5, give 0 2, owned 1 0, take 1 2, read 1 5", [0, 1, 1, 2]),
+    ("taken before owned", "start 0 1, take 1 2, write 0 5, owned 0 0, take 0 2, give 0 2, take 1 2, read 1 5", [0, 1, 1, 3]),
+    ("a mark before owned", "start 0 1, write 0 5, lost 3, owned 0 0, take 1 2, write 1 5", [0, 1, 0, 1]),
+    ("a joined task acts by an owned", "start 0 2, write 0 5, start 0 1, owned 1 0, join 2 1, read 2 5", [0, 1, 1, 2]),
+    (
+        "owned between, an own write in order before it",
+        "start 0 1, write 0 5, give 0 2, take 1 2, write 1 5, owned 0 0, take 0 2, read 1 5",
+        [0, 1, 1, 0],
+    ),
+    ("row 14", "write 0 5, owned 0 0, read 0 5, owned 0 0, read 0 5", [14, 0, 0, 0]),
     ("row 14, twice", "owned 0 0, owned 0 0, read 0 5", [14, 0, 0, 0]),
+    ("row 15 after a later owned", "start 0 1, lost 3, write 0 5, owned 1 0, lost 3, write 1 5", [15, 0, 0, 0]),
+    ("row 16 after a later owned", "start 0 1, take 0 2, write 0 5, owned 1 0, give 0 2, read 0 5", [16, 0, 0, 0]),
     ("row 14 at the end", "owned 0 0, start 0 1, write 0 5, owned 1 0", [14, 0, 0, 0]),
     ("row 15", "owned 0 0, start 0 1, write 0 5, lost 3, write 1 5", [15, 0, 0, 0]),
     ("row 15 at the end", "owned 0 0, lost 1", [15, 0, 0, 0]),
@@ -539,10 +551,10 @@ fn run_short(tally: &mut Tally) {
 /// Every kind of ending.
 fn run_endings(tally: &mut Tally) {
     let before = "start 0 1, start 0 2, write 0 5, give 0 2, take 1 2, ";
-    // An `owned` is the first record or none.
-    expect(tally, "ends in an owned", &short("owned 0 0"), [0; 4]);
-    for (word, _, op, _) in OPS.iter().filter(|known| known.2 != Op::Owned) {
+    expect(tally, "ends in an owned, the first record", &short("owned 0 0"), [0; 4]);
+    for (word, _, op, _) in OPS {
         let on = match op {
+            Op::Owned => 0,
             Op::Start => 3,
             Op::Join => 2,
             _ => 5,
@@ -681,7 +693,7 @@ fn run_long(first: u64) -> Tally {
         damage: 0,
         owned: None,
     };
-    let owned = |stay, tasks| Shape { marks: 0, owned: Some(Profile { wrong: 0 }), ..base(stay, tasks) };
+    let owned = |after, stay, tasks| Shape { marks: 1, owned: Some(Profile { after, wrong: 0 }), ..base(stay, tasks) };
     let shapes = [
         base(0, 4),
         base(95, 4),
@@ -689,8 +701,10 @@ fn run_long(first: u64) -> Tally {
         base(95, 16),
         Shape { variables: 64, objects: 32, ..base(80, 16) },
         base(80, 2),
-        owned(0, 4),
-        Shape { objects: 32, ..owned(80, 16) },
+        owned(0, 0, 4),
+        Shape { objects: 32, ..owned(0, 80, 16) },
+        owned(1_000, 0, 4),
+        Shape { objects: 32, ..owned(300, 80, 16) },
     ];
     for (at, shape) in shapes.iter().enumerate().skip(first as usize).step_by(THREADS as usize) {
         let list = lend(&feeding::records(&recording(&mut Random::new(8_000_000 + at as u64), shape)));

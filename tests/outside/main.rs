@@ -207,7 +207,7 @@ fn run_long(first: u64) -> Tally {
         damage: 2,
         owned: None,
     };
-    let owned = |wrong| Some(Profile { wrong });
+    let owned = |after, wrong| Some(Profile { after, wrong });
     let shapes = [
         base(3_000, 4),
         base(3_000, 16),
@@ -215,8 +215,10 @@ fn run_long(first: u64) -> Tally {
         Shape { marks: 1, named: 20, ..base(2_000, 16) },
         Shape { marks: 30, named: 60, ..base(200, 3) },
         Shape { marks: 10, named: 64, ..base(100, 16) },
-        Shape { owned: owned(5), ..base(2_000, 4) },
-        Shape { owned: owned(10), objects: 32, ..base(3_000, 16) },
+        Shape { owned: owned(0, 5), ..base(2_000, 4) },
+        Shape { owned: owned(0, 10), objects: 32, ..base(3_000, 16) },
+        Shape { owned: owned(500, 5), marks: 2, named: 20, ..base(1_500, 4) },
+        Shape { owned: owned(100, 10), marks: 10, named: 30, objects: 32, ..base(1_000, 16) },
     ];
     for (at, shape) in shapes.iter().enumerate().skip(first as usize).step_by(THREADS as usize) {
         let mut random = Random::new(1_000_000 + at as u64);

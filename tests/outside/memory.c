@@ -61,7 +61,7 @@ typedef void begin_call(uint32_t *, uint32_t *, uint32_t *, uint32_t *);
 typedef void feed_call(uint32_t *, uint32_t *, uint32_t *, uint32_t *, uint8_t, uint32_t, uint32_t, uint32_t *);
 
 /* Tables, answers and totals are unset before their calls. Starts come first and joins last, so that there are tasks to act; an owned before
- * all of them or late. */
+ * all of them or in their midst. */
 static void fed(const char *name, begin_call *begin, feed_call *feed, size_t size, int owned) {
     static const uint8_t kinds[] = {ORDER_START, ORDER_WRITE, ORDER_GIVE, ORDER_SET, ORDER_OWNED, ORDER_LOST, ORDER_TAKE,
                                     ORDER_GIVE,  ORDER_LOOK,  ORDER_MISS, ORDER_READ, ORDER_JOIN, ORDER_TAKE, 255};
@@ -88,7 +88,7 @@ static void fed(const char *name, begin_call *begin, feed_call *feed, size_t siz
         free(totals);
     }
     /* Task 0 gave the six semaphores among these numbers last, and takes them again. */
-    right = right && order_any_race(control) <= 1 && order_skipped(control) == (owned ? 6 : 0);
+    right = right && order_any_race(control) <= 1 && order_skipped(control) == 6;
     right = right && sum(control, ORDER_CONTROL_CELLS) > 0 && sum(last, ORDER_HISTORY_CELLS) > 0 && sum(arrived, size) > 0 && sum(full, size) > 0;
     if (right) {
         passed++;

@@ -164,8 +164,7 @@ fn highest(op: Op) -> u32 {
 /// The first of rows 1 to 9 and 14 to 16 that applies.
 fn refusal(so_far: &Accepted, record: Option<Record>) -> Option<u32> {
     let live = |task: u32| so_far.life[task as usize] == Life::Live;
-    let accepted = so_far.before + so_far.records.len();
-    let full = accepted >= LIMIT;
+    let full = so_far.before + so_far.records.len() >= LIMIT;
     let holder = |semaphore: u32| holder(&so_far.records, semaphore);
     match record {
         None => Some(1),
@@ -184,7 +183,7 @@ fn refusal(so_far: &Accepted, record: Option<Record>) -> Option<u32> {
                 Some(8)
             } else if op == Join && !live(on) {
                 Some(9)
-            } else if op == Owned && accepted > 0 {
+            } else if op == Owned && so_far.profile {
                 Some(14)
             } else if so_far.profile && (op == Take && holder(on).is_some() || op == Give && holder(on) != Some(task)) {
                 Some(16)
@@ -231,7 +230,7 @@ pub enum Fate {
 
 pub struct Reading {
     /// So many records were accepted before, each the line of a text: they were acts of task 0 and nothing more, so that they make no pair
-    /// and no path, and all that they do is to be counted. The first of them may have been an `owned`.
+    /// and no path, and all that they do is to be counted. One of them may have been an `owned`.
     pub before: usize,
     /// It was.
     pub owned_before: bool,
@@ -244,7 +243,7 @@ pub fn read(text: &[u8]) -> Reading {
     read_after(0, false, text)
 }
 
-/// The same after so many acts of task 0, the first of them an `owned` or not.
+/// The same after so many acts of task 0, one of them an `owned` or not.
 pub fn read_after(before: usize, profile: bool, text: &[u8]) -> Reading {
     feed_after(fresh(before, profile), lines(text).into_iter().map(read_line))
 }

@@ -1,11 +1,12 @@
-//! Garages with owned semaphores: document 02, F-12, and takes without clock work, F-13. Recordings under that profile, by every call and by the programs,
-//! against the path search, which knows no skipping; and the search's own rows 14 to 16 and its count of skipped takes against a second reading of
-//! the requests, which goes forward and keeps who holds what and who gave it last.
+//! Garages with owned semaphores: document 02, F-12, takes without clock work, F-13, and a change to that profile at any record, F-14. Recordings with that
+//! change, by every call and by the programs, against the path search, which knows no skipping; random fillings of the marks before it against the
+//! verdicts on both sides; and the search's own rows 14 to 16 and its count of skipped takes against a second reading of the requests, which goes
+//! forward and keeps who holds what and who gave it last.
 
 use crate::cuts::{Cuts, WAYS};
 use crate::examples::text;
 use crate::feeding::Lent;
-use crate::generate::{owned_shape, recording, Random, Shape};
+use crate::generate::{changing_shape, filling, owned_shape, recording, Random, Shape};
 use crate::known::{self, Deck, Folder};
 use crate::oracle::{self, Act, Fate, Judged, Op, Reading, Record, Verdict, TASKS};
 use crate::settle::Program;
@@ -18,10 +19,13 @@ const SHARE: u64 = 25;
 const SEMAPHORES: usize = 32;
 
 /// What must have been met, each often.
-const SEEN: [&str; 24] = [
-    "owned, first",
-    "owned, first after refused lines",
-    "owned, late",
+const SEEN: [&str; 35] = [
+    "owned, the first record",
+    "owned, the first record after refused lines",
+    "owned, after other records",
+    "owned, by another task than 0",
+    "owned, after a mark",
+    "owned, the only act of a task that is joined",
     "owned, a second time",
     "owned, out of its series",
     "owned, by a task that does not live",
@@ -39,19 +43,31 @@ const SEEN: [&str; 24] = [
     "owned, a miss of a held semaphore",
     "owned, a miss of a free semaphore",
     "owned, a task joined that holds one",
+    "owned, given by the task that took it before the change",
+    "owned, taken after a give from before the change",
+    "owned, taken by the task that gave it last before the change",
     "owned, taken again with another semaphore held",
     "owned, taken again after a refused take or give of it",
     "owned, taken again after a miss of it",
     "owned, accesses in order with others after takes that are skipped",
+    "owned, race after the change, with a mark before it",
+    "owned, clear after the change, with a mark before it",
+    "owned, doubt before the change",
+    "owned, doubt after the change",
+    "owned, doubt after the change tipped by a random completion",
 ];
 
 /// What a recording shows of the profile, line by line: who holds each semaphore is kept going forward. Says where the search is wrong.
 fn read_again(tally: &mut Tally, text: &[u8], reading: &Reading) -> Result<(), String> {
     let mut under = false;
-    let mut accepted = 0;
+    let (mut accepted, mut marks) = (0, 0);
+    let mut acts: [Vec<Op>; TASKS as usize] = Default::default();
     let mut holders: [Option<u32>; SEMAPHORES] = [None; SEMAPHORES];
     let mut givers: [Option<u32>; SEMAPHORES] = [None; SEMAPHORES];
     let mut ended = [false; TASKS as usize];
+    // Before the change: who took each semaphore last and has not given it, and who gave it last.
+    let mut taken_before: [Option<u32>; SEMAPHORES] = [None; SEMAPHORES];
+    let mut given_before: [Option<u32>; SEMAPHORES] = [None; SEMAPHORES];
     // Takes by the task that gave the semaphore last; and what else was tried of each since that give.
     let mut again = 0;
     let mut since: [Vec<Op>; SEMAPHORES] = Default::default();
@@ -65,14 +81,23 @@ fn read_again(tally: &mut Tally, text: &[u8], reading: &Reading) -> Result<(), S
         let mut see = |what: &str| tally.see(&format!("owned, {what}"), 1);
         match (record, row) {
             (Record::Act(Act { op: Op::Owned, task, on }), _) => match row {
-                0 if accepted > 0 || task > 0 || on > 0 => return wrong("an owned is accepted that is not the first record"),
-                0 if at > 0 => see("first after refused lines"),
-                0 => see("first"),
+                0 if under || on > 0 => return wrong("an owned is accepted that is not the first of them"),
+                0 => {
+                    see(match (accepted, at) {
+                        (0, 0) => "the first record",
+                        (0, _) => "the first record after refused lines",
+                        _ => "after other records",
+                    });
+                    if task > 0 {
+                        see("by another task than 0");
+                    }
+                    if marks > 0 {
+                        see("after a mark");
+                    }
+                }
                 3 => see("out of its series"),
                 6 => see("by a task that does not live"),
-                14 if accepted == 0 => return wrong("the first record is late"),
                 14 if under => see("a second time"),
-                14 => see("late"),
                 2 | 5 => {}
                 _ => return wrong("an owned is refused for a reason that it has not"),
             },
@@ -97,7 +122,14 @@ fn read_again(tally: &mut Tally, text: &[u8], reading: &Reading) -> Result<(), S
                     }
                 }
                 (None, Some(_)) => see("taken after another task's give"),
-                (None, None) => see("a free semaphore taken"),
+                (None, None) => {
+                    see("a free semaphore taken");
+                    match given_before[on as usize] {
+                        Some(giver) if giver == task => see("taken by the task that gave it last before the change"),
+                        Some(_) => see("taken after a give from before the change"),
+                        None => {}
+                    }
+                }
             },
             (Record::Act(Act { op: Op::Take, task, on }), 16) if under => match holders[on as usize] {
                 None => return wrong("a take of a free semaphore is refused"),
@@ -114,6 +146,9 @@ fn read_again(tally: &mut Tally, text: &[u8], reading: &Reading) -> Result<(), S
                 see("given by its holder");
             }
             (Record::Act(Act { op: Op::Give, task, on }), 16) if under => match holders[on as usize] {
+                None if givers[on as usize].is_none() && taken_before[on as usize] == Some(task) => {
+                    see("given by the task that took it before the change")
+                }
                 None => see("a give of a free semaphore"),
                 Some(holder) if holder == task => return wrong("the holder's give is refused"),
                 Some(_) => see("a give by another task"),
@@ -123,6 +158,9 @@ fn read_again(tally: &mut Tally, text: &[u8], reading: &Reading) -> Result<(), S
                 None => see("a miss of a free semaphore"),
                 Some(_) => see("a miss of a held semaphore"),
             },
+            (Record::Act(Act { op: Op::Join, on, .. }), 0) if acts[on as usize] == [Op::Owned] => {
+                see("the only act of a task that is joined")
+            }
             (Record::Act(Act { op: Op::Join, on, .. }), 0) if under && holders.contains(&Some(on)) => see("a task joined that holds one"),
             _ => {}
         }
@@ -133,7 +171,16 @@ fn read_again(tally: &mut Tally, text: &[u8], reading: &Reading) -> Result<(), S
         }
         if row == 0 {
             accepted += 1;
+            if let Record::Act(Act { op, task, .. }) = record {
+                acts[task as usize].push(op);
+            }
             match record {
+                Record::Lost(_) => marks += 1,
+                Record::Act(Act { op: Op::Take, task, on }) if !under => taken_before[on as usize] = Some(task),
+                Record::Act(Act { op: Op::Give, task, on }) if !under => {
+                    taken_before[on as usize] = taken_before[on as usize].filter(|taker| *taker != task);
+                    given_before[on as usize] = Some(task);
+                }
                 Record::Act(Act { op: Op::Owned, .. }) => under = true,
                 Record::Act(Act { op: Op::Join, on, .. }) => ended[on as usize] = true,
                 _ => {}
@@ -162,10 +209,50 @@ fn see_skipped(tally: &mut Tally, reading: &Reading, judged: &[Judged]) {
     }
 }
 
-/// Under the profile nothing is in Doubt.
+/// The record number of the `owned`.
+fn changed(recording: &[Record]) -> Option<usize> {
+    recording.iter().position(|record| matches!(record, Record::Act(Act { op: Op::Owned, .. }))).map(|at| at + 1)
+}
+
+/// Under the profile nothing is in Doubt where it begins with the recording.
 fn no_doubt(reading: &Reading, judged: &[Judged]) -> bool {
-    let owned = matches!(reading.recording.first(), Some(Record::Act(Act { op: Op::Owned, .. })));
-    !owned || judged.iter().all(|one| one.verdict != Verdict::Doubt)
+    changed(&reading.recording) != Some(1) || judged.iter().all(|one| one.verdict != Verdict::Doubt)
+}
+
+const COMPLETIONS: usize = 4;
+
+/// Whoever fills in the marks before the change overturns no verdict on either side of it.
+fn run_fillings(tally: &mut Tally, random: &mut Random, name: &str, recording: &[Record]) {
+    let Some(changed) = changed(recording) else { return };
+    let (accesses, judged) = (oracle::accesses(recording), oracle::judge(recording));
+    let marked = recording[..changed].iter().any(|record| matches!(record, Record::Lost(_)));
+    if !marked {
+        return;
+    }
+    for one in &judged {
+        match (one.verdict, one.access.rec > changed) {
+            (Verdict::Doubt, false) => tally.see("owned, doubt before the change", 1),
+            (Verdict::Doubt, true) => tally.see("owned, doubt after the change", 1),
+            (Verdict::Race, true) => tally.see("owned, race after the change, with a mark before it", 1),
+            (Verdict::Clear, true) => tally.see("owned, clear after the change, with a mark before it", 1),
+            _ => {}
+        }
+    }
+    let mut tipped = vec![false; judged.len()];
+    for _ in 0..COMPLETIONS {
+        let objects = random.pick(&[1, 2, 3, 32]);
+        let paths = oracle::paths(&oracle::complete(recording, |mask| filling(random, mask, objects)));
+        let mut overturned = Vec::new();
+        for (this, one) in judged.iter().enumerate() {
+            let racy = oracle::racy(&accesses, &paths, this);
+            tipped[this] |= one.verdict == Verdict::Doubt && one.access.rec > changed && !racy;
+            if racy && one.verdict == Verdict::Clear || !racy && one.verdict == Verdict::Race {
+                overturned.push(one.access.rec);
+            }
+        }
+        tally.check(overturned.is_empty(), || format!("{name}: a completion overturns the verdicts of records {overturned:?}"));
+    }
+    tally.see("owned, doubt after the change tipped by a random completion", tipped.iter().filter(|yes| **yes).count());
 }
 
 /// A text by the entry, in pieces, by records, and as a list at its end, with what is refused and without.
@@ -197,7 +284,6 @@ fn sound(text: &[u8], reading: &Reading) -> Vec<u8> {
 const SKIPPED: &[(&str, Option<u32>)] = &[
     ("", None),
     ("take 0 3, give 0 3, take 0 3", None),
-    ("miss 0 0, owned 0 0, take 0 3, give 0 3, take 0 3, give 0 3, take 0 3", None),
     ("owned 0 0", Some(0)),
     ("owned 0 0, take 0 3", Some(0)),
     ("owned 0 0, take 0 3, give 0 3", Some(0)),
@@ -227,6 +313,18 @@ const SKIPPED: &[(&str, Option<u32>)] = &[
     ("owned 0 0, take 0 3, give 0 3, miss 0 3, miss 0 3, take 0 3", Some(1)),
     ("owned 0 0, start 0 1, take 0 3, give 0 3, miss 1 3, take 0 3", Some(1)),
     ("owned 0 0, take 0 3, give 0 3, start 0 1, write 1 5, set 1 3, look 0 3, join 0 1, read 0 5, fresh 0 3, take 0 3", Some(1)),
+    // Gives before the change are never the last give; nor is what is filled in there.
+    ("miss 0 0, owned 0 0, take 0 3, give 0 3, take 0 3, give 0 3, take 0 3", Some(2)),
+    ("take 0 3, give 0 3, owned 0 0", Some(0)),
+    ("take 0 3, give 0 3, owned 0 0, take 0 3", Some(0)),
+    ("take 0 3, give 0 3, take 0 3, give 0 3, owned 0 0, take 0 3, give 0 3, take 0 3", Some(1)),
+    ("give 0 3, owned 0 0, take 0 3, give 0 3, take 0 3, give 0 3, take 0 3", Some(2)),
+    ("take 0 3, owned 0 0, give 0 3, take 0 3", Some(0)),
+    ("start 0 1, take 0 3, give 0 3, owned 1 0, take 1 3, give 1 3, take 0 3, give 0 3, take 0 3", Some(1)),
+    ("start 0 1, give 1 3, give 0 3, owned 1 0, take 1 3, give 1 3, take 1 3", Some(1)),
+    ("start 0 1, take 0 3, give 0 3, lost 3, owned 1 0, take 0 3, take 1 4, give 1 4, take 1 4", Some(1)),
+    ("start 0 1, lost 3, owned 1 0, take 0 3, give 0 3, take 1 3, give 1 3, take 1 3", Some(1)),
+    ("take 0 3, give 0 3, owned 0 0, owned 0 0, take 0 3, give 0 3, owned 0 0, take 0 3", Some(1)),
     // An ended task gave it last.
     ("owned 0 0, start 0 1, take 1 3, give 1 3, join 0 1, take 0 3, give 0 3, take 0 3", Some(1)),
 ];
@@ -260,7 +358,7 @@ fn run_skipped(tally: &mut Tally, program: Option<&str>) {
 // ---- Every short recording
 
 /// What may stand before a write by task 1, where task 2 may come and go, and task 0 has written.
-const LINES: [&str; 24] = [
+const LINES: [&str; 25] = [
     "op=take task=0 on=1",
     "op=take task=1 on=1",
     "op=take task=2 on=1",
@@ -284,11 +382,18 @@ const LINES: [&str; 24] = [
     "op=lost tasks=4",
     "op=owned task=0 on=0",
     "op=owned task=1 on=0",
+    "op=owned task=2 on=0",
     "op=owned task=0 on=1",
 ];
 
-/// The semaphore is free before them, or held by task 0, or was given by it.
-const BEFORE: [&str; 3] = [
+/// Under the profile the semaphore is free before them, or held by task 0, or was given by it; then the change comes after some records, or is among
+/// the lines.
+const BEFORE: [&str; 8] = [
+    "op=start task=0 on=1\nop=take task=0 on=1\nop=write task=0 on=5\nop=give task=0 on=1\nop=owned task=1 on=0\n",
+    "op=start task=0 on=1\nop=take task=0 on=1\nop=write task=0 on=5\nop=owned task=0 on=0\n",
+    "op=start task=0 on=1\nop=write task=0 on=5\nop=lost tasks=1\nop=owned task=0 on=0\n",
+    "op=start task=0 on=1\nop=write task=0 on=5\nop=lost tasks=3\nop=owned task=1 on=0\nop=take task=1 on=1\nop=give task=1 on=1\n",
+    "op=start task=0 on=1\nop=take task=0 on=1\nop=write task=0 on=5\n",
     "op=owned task=0 on=0\nop=start task=0 on=1\nop=write task=0 on=5\n",
     "op=owned task=0 on=0\nop=start task=0 on=1\nop=take task=0 on=1\nop=write task=0 on=5\n",
     "op=owned task=0 on=0\nop=start task=0 on=1\nop=take task=0 on=1\nop=write task=0 on=5\nop=give task=0 on=1\n",
@@ -297,7 +402,9 @@ const BEFORE: [&str; 3] = [
 fn run_short(first: u64) -> Tally {
     let mut tally = Tally::new();
     for before in BEFORE.iter().skip(first as usize).step_by(THREADS as usize) {
-        for middle in short_texts(&LINES) {
+        // With a mark the search is slow, so that two lines must do.
+        let most = if before.contains("lost") { 2 } else { 3 };
+        for middle in short_texts(&LINES).iter().filter(|middle| middle.lines().count() <= most) {
             let text = format!("{before}{middle}op=write task=1 on=5\n").into_bytes();
             let reading = compare(&mut tally, "owned, short", &text);
             let accepted = sound(&text, &reading);
@@ -328,15 +435,16 @@ fn run_generated(first: u64, programs: Option<&Programs>) -> Tally {
     let folder = programs.map(|programs| Folder::new(programs.order));
     for seed in (first..RECORDINGS).step_by(THREADS as usize) {
         let mut random = Random::new(18_000_000 + seed);
-        let any = owned_shape(&mut random);
+        let any = if seed / THREADS % 2 == 0 { owned_shape(&mut random) } else { changing_shape(&mut random) };
         let text = recording(&mut random, &Shape { length: any.length.min(150), ..any });
         let name = format!("owned, recording {seed}");
         let reading = compare(&mut tally, &name, &text);
+        run_fillings(&mut tally, &mut random, &name, &reading.recording);
         let accepted = sound(&text, &reading);
         for text in [&text, &accepted] {
             let list = lazy::lend(&feeding::records(text));
             lazy::compare(&mut tally, &name, &list, 0..=list.len());
-            settle::compare(&mut tally, &mut random, &name, &list, 4);
+            settle::compare(&mut tally, &mut random, &name, &list, 2);
         }
         let deck = Deck::new(text.clone());
         let file = known::entry_file(&mut random, &deck);

@@ -34,7 +34,9 @@ const FILL: u32 = 0xa5a5_a5a5;
 const SHOWN: usize = 60;
 
 /// What must have been met, each often.
-const SEEN: [&str; 12] = [
+const SEEN: [&str; 14] = [
+    "settle, every filling: yes, and an owned",
+    "settle, every filling: no, and an owned",
     "settle, every filling: yes",
     "settle, every filling: yes, far could add records",
     "settle, every filling: yes, by two home tasks of one mark",
@@ -278,6 +280,7 @@ fn brief(random: &mut Random, family: Family, objects: &[(Op, u32)]) -> Vec<Reco
                 13 => (Op::Fresh, 0),
                 14 => (Op::Join, any(random)),
                 15 => (Op::Start, any(random)),
+                16 => (Op::Owned, 0),
                 _ => (random.pick(&[Op::Write, Op::Read, Op::Bump]), 0),
             };
             records.push(act(op, any(random), on));
@@ -346,6 +349,9 @@ fn see_filling(tally: &mut Tally, brief: &Brief, home: u32, yes: bool, can: &[u3
         return tally.see("settle, every filling: Clear", 1);
     }
     tally.see(if yes { "settle, every filling: yes" } else { "settle, every filling: no" }, 1);
+    if brief.recording.iter().any(|record| matches!(record, Record::Act(Act { op: Op::Owned, .. }))) {
+        tally.see(if yes { "settle, every filling: yes, and an owned" } else { "settle, every filling: no, and an owned" }, 1);
+    }
     tally.see("settle, every filling: no, home could write some", (!yes && home != 0) as usize);
     if yes && !can.iter().any(|smaller| smaller & !home == 0) {
         tally.see("settle, every filling: yes, far could add records", masks().any(|mask| mask & !home != 0) as usize);
@@ -463,6 +469,24 @@ const SHORT: &[(&str, &str, &[u32], &[u32])] = &[
     // Under the profile nothing is lost: a Clear or a Race, whatever home is.
     ("owned, Clear", "owned 0 0, start 0 1, take 0 2, write 0 5, give 0 2, take 1 2, read 1 5", &[0, 1, 2, 3, 0xffff], &[]),
     ("owned, a Race", "owned 0 0, start 0 1, take 0 2, write 0 5, give 0 2, miss 1 2, read 1 5", &[], &[0, 1, 2, 3, 0xffff]),
+    // Marks before the profile are filled in as ever, and what is filled in holds and frees nothing.
+    ("K9 and then owned", "start 0 1, write 0 5, lost 3, owned 0 0, write 1 5", &[3, 7, 0xffff], &[0, 1, 2, 0xfffd, 0xfffe]),
+    ("K12 and then owned", "start 0 1, write 0 5, lost 1, lost 2, owned 1 0, write 1 5", &[3, 0xffff], &[0, 1, 2]),
+    ("a lost give, taken after owned", "start 0 1, write 0 5, lost 1, owned 0 0, take 1 2, read 1 5", &[1, 3, 0xfffd], &[0, 2, 0xfffe]),
+    (
+        "a lost give, taken and passed on after owned",
+        "start 0 1, start 0 2, write 0 5, lost 1, owned 2 0, take 2 2, give 2 2, take 2 2, give 2 2, take 1 2, read 1 5",
+        &[1, 3, 0xfffd],
+        &[0, 2, 4, 0xfffe],
+    ),
+    ("a lost take before owned", "start 0 1, write 0 5, give 0 2, lost 2, owned 0 0, take 0 2, read 1 5", &[2, 3, 0xfffe], &[0, 1, 0xfffd]),
+    ("it acts by an owned", "start 0 2, write 0 5, start 0 1, lost 2, owned 1 0, join 2 1, read 2 5", &[0, 1, 2, 4], &[]),
+    (
+        "it may have acted before an owned",
+        "start 0 2, write 0 5, start 0 1, lost 2, owned 0 0, join 2 1, read 2 5",
+        &[2, 3, 6],
+        &[0, 1, 4, 5],
+    ),
     // The edges of the series.
     ("the last numbers", "start 0 15, write 0 63, give 0 31, lost 32768, read 15 63", &[0x8000, 0xffff], &[0, 1, 0x7fff]),
     ("the last flag", "start 0 15, write 15 63, set 15 31, lost 1, bump 0 63", &[1, 0x7fff], &[0, 0x8000, 0xfffe]),
@@ -488,8 +512,11 @@ const NO_ANSWER: &[(&str, &str, u32)] = &[
     ("a mark of nobody", "start 0 1, write 0 5, lost 0, write 1 5", 4),
     ("ends in an owned", "owned 0 0", 0),
     ("owned, ends in a take", "owned 0 0, start 0 1, write 0 5, write 1 5, take 1 3", 0),
-    ("row 14", "start 0 1, owned 0 0, write 0 5, lost 3, write 1 5", 14),
+    ("ends in a later owned", "start 0 1, write 0 5, lost 3, write 1 5, owned 1 0", 0),
+    ("row 14", "start 0 1, owned 0 0, write 0 5, owned 1 0, write 1 5", 14),
     ("row 14, twice", "owned 0 0, owned 0 0", 14),
+    ("row 15 after a later owned", "start 0 1, write 0 5, lost 3, owned 0 0, lost 3, write 1 5", 15),
+    ("row 16 after a later owned", "start 0 1, take 0 3, write 0 5, lost 3, owned 0 0, give 0 3, write 1 5", 16),
     ("row 15", "owned 0 0, start 0 1, write 0 5, lost 3, write 1 5", 15),
     ("row 15 at the end", "owned 0 0, start 0 1, lost 3", 15),
     ("row 16, a take", "owned 0 0, start 0 1, take 0 3, write 0 5, take 1 3, write 1 5", 16),
@@ -772,9 +799,7 @@ fn run_generated(first: u64) -> Tally {
     for seed in (first..LISTS).step_by(THREADS as usize) {
         let mut random = Random::new(14_000_000 + seed);
         let (any, stray) = (shape(&mut random), random.pick(&[0, 0, 0, 4]));
-        // Under the profile marks are refused.
-        let marks = if any.owned.is_some() { random.pick(&[0, 0, 1]) } else { random.pick(&[5, 10, 25]) };
-        let named = random.pick(&[2, 4, 6]);
+        let (marks, named) = (random.pick(&[5, 10, 25]), random.pick(&[2, 4, 6]));
         let shape = Shape { length: any.length.min(150), marks, named, stray, damage: stray / 4, ..any };
         let text = recording(&mut random, &shape);
         let list = lend(&feeding::records(&text));
@@ -819,7 +844,8 @@ fn run_long(first: u64) -> Tally {
         base(16, 1, 12),
         Shape { variables: 64, objects: 32, ..base(16, 2, 12) },
         Shape { length: 200, ..base(4, 8, 20) },
-        Shape { owned: Some(Profile { wrong: 0 }), ..base(4, 0, 0) },
+        Shape { owned: Some(Profile { after: 0, wrong: 0 }), ..base(4, 0, 0) },
+        Shape { owned: Some(Profile { after: 400, wrong: 0 }), ..base(4, 2, 8) },
     ];
     for (at, shape) in shapes.iter().enumerate().skip(first as usize).step_by(THREADS as usize) {
         let mut random = Random::new(15_000_000 + at as u64);

@@ -5,7 +5,7 @@ use crate::cuts::Cuts;
 use crate::entries;
 use crate::examples::text;
 use crate::feeding::{self, Lent, Reckoning};
-use crate::generate::{recording, shape, Random, Shape};
+use crate::generate::{changing_shape, recording, shape, Random, Shape};
 use crate::known::Folder;
 use crate::oracle::{self, Act, Op, Record, Totals, LOST, OPS, TASKS};
 use crate::tally::Tally;
@@ -353,6 +353,21 @@ const FORBIDDEN: &[(Premise, &str, usize, &str, &str)] = &[
         "4 0 clear 0, 7 1 clear 0",
         "4 0 clear 0, !5 16, 6 1 race 4",
     ),
+    (
+        Owned,
+        "start 0 1, take 1 2, owned 0 0, take 0 2, write 0 5, give 0 2, write 1 5",
+        2,
+        "5 0 clear 0, 7 1 race 5",
+        "!4 16, 4 0 clear 0, !6 16, 5 1 race 4",
+    ),
+    (Owned, "start 0 1, owned 0 0, take 1 2, give 1 2, write 1 5", 2, "5 1 clear 0", "!4 16, 4 1 clear 0"),
+    (
+        Owned,
+        "start 0 1, write 1 5, give 1 2, owned 0 0, take 0 2, write 0 5",
+        3,
+        "2 1 clear 0, 6 0 clear 0",
+        "2 1 clear 0, !4 16, 5 0 race 2",
+    ),
     (Flags, "start 0 1, write 0 5, set 0 2, look 1 2, read 1 5", 3, "2 0 clear 0, 5 1 clear 0", "2 0 clear 0, 5 1 race 2"),
     (Flags, "start 0 1, write 0 5, look 1 2, set 0 2, read 1 5", 3, "2 0 clear 0, 5 1 race 2", "2 0 clear 0, 5 1 clear 0"),
     (Variables, "start 0 1, write 0 5, write 1 5", 2, "2 0 clear 0, 3 1 race 2", "2 1 clear 0, 3 0 race 2"),
@@ -361,12 +376,6 @@ const FORBIDDEN: &[(Premise, &str, usize, &str, &str)] = &[
     (Variables, "start 0 1, bump 0 5, read 1 5", 2, "2 0 clear 0, 3 1 race 2", "2 1 clear 0, 3 0 race 2"),
     (Variables, "start 0 1, start 0 2, write 0 5, fresh 2 5, write 1 5", 3, "3 0 clear 0, 5 1 clear 0", "4 0 clear 0, 5 1 race 4"),
     (Variables, "start 0 1, start 0 2, write 0 5, fresh 2 5, write 1 5", 4, "3 0 clear 0, 5 1 clear 0", "3 0 clear 0, 4 1 race 3"),
-];
-
-/// An `owned` stands first and is by task 0, so that a swap that moves it has one task acting in both. What becomes of the list then.
-const OWNED_MOVED: &[(&str, &str, &str)] = &[
-    ("owned 0 0, write 0 5, lost 1", "2 0 clear 0, !3 15", "1 0 clear 0, !2 14"),
-    ("owned 0 0, start 0 1, take 0 3, take 1 3, write 1 5", "!4 16, 4 1 clear 0", "!2 14, 4 1 clear 0"),
 ];
 
 /// The same where no premise is broken.
@@ -443,6 +452,13 @@ const ALLOWED: &[(&str, &str, usize, &str, &str)] = &[
         "5 0 clear 0, 10 1 clear 0",
     ),
     (
+        "before the profile, two takes of what is free in it",
+        "start 0 1, take 0 2, take 1 3, owned 0 0, write 0 5, take 1 2, take 0 3, read 1 5",
+        2,
+        "5 0 clear 0, 8 1 race 5",
+        "5 0 clear 0, 8 1 race 5",
+    ),
+    (
         "under the profile, a take and a write",
         "owned 0 0, start 0 1, take 0 2, write 1 5, read 0 5",
         3,
@@ -483,16 +499,6 @@ fn run_by_hand(tally: &mut Tally, order: Option<&str>) {
         let alike = by_search(&run).is_ok_and(|said| by_search(&other) == Ok(said));
         tally.check(!alike, || format!("swaps, forbidden, {name}: nothing changes"));
     }
-    for (records, before, after) in OWNED_MOVED {
-        let lines = text(records);
-        let recording: Vec<Record> = oracle::lines(&lines).into_iter().map(|line| oracle::read_line(line).unwrap()).collect();
-        let (run, mut other) = (run_of(&recording), run_of(&recording));
-        other.swap(0, 1);
-        let found = broken(&run[0].1, &run[1].1);
-        tally.check(found == [Tasks, Owned], || format!("swaps, an owned moved, {records}: {found:?} are broken"));
-        expect(tally, records, &run, before, order);
-        expect(tally, records, &other, after, order);
-    }
     for (name, records, first, before, after) in ALLOWED {
         let (run, other) = swapped(records, *first);
         let found = broken(&run[first - 1].1, &run[*first].1);
@@ -513,9 +519,10 @@ fn swap_about(tally: &mut Tally, random: &mut Random, run: &mut Run, times: usiz
         let (a, b) = (run[at].1, run[at + 1].1);
         if broken(&a, &b).is_empty() {
             see(tally, act(&a).unwrap(), act(&b).unwrap());
-            let owned = run[..at].iter().any(|(_, record)| act(record).is_some_and(|act| act.op == Op::Owned));
+            let owned = |run: &[(usize, Record)]| run.iter().any(|(_, record)| act(record).is_some_and(|act| act.op == Op::Owned));
             let exchange = [a, b].iter().any(|record| matches!(act(record).unwrap().op, Op::Take | Op::Give));
-            tally.see("swaps, with a take or a give under the profile", (owned && exchange) as usize);
+            tally.see("swaps, with a take or a give under the profile", (owned(&run[..at]) && exchange) as usize);
+            tally.see("swaps, with a take or a give before the profile", (owned(&run[at..]) && exchange) as usize);
             run.swap(at, at + 1);
         }
     }
@@ -536,8 +543,9 @@ fn see(tally: &mut Tally, a: &Act, b: &Act) {
 }
 
 /// What the runs must have met, each often.
-const SEEN: [&str; 13] = [
+const SEEN: [&str; 14] = [
     "swaps, with a take or a give under the profile",
+    "swaps, with a take or a give before the profile",
     "swaps, two accesses",
     "swaps, two reads of one variable",
     "swaps, two bumps of one variable",
@@ -588,9 +596,14 @@ fn entry_file(random: &mut Random, run: &Run) -> Vec<u8> {
     out.split_inclusive('\n').take(entries::MOST).collect::<String>().into_bytes()
 }
 
-/// A recording of which every record is accepted.
+/// A recording of which every record is accepted, of any shape.
 fn accepted(random: &mut Random) -> Run {
-    let (any, marks) = (shape(random), random.pick(&[3, 10, 25]));
+    let any = shape(random);
+    accepted_of(random, any)
+}
+
+fn accepted_of(random: &mut Random, any: Shape) -> Run {
+    let marks = random.pick(&[3, 10, 25]);
     let length = any.length.min(120);
     run_of(&oracle::read(&recording(random, &Shape { length, marks, stray: 0, damage: 0, ..any })).recording)
 }
@@ -626,7 +639,8 @@ fn run_forbidden(first: u64) -> Tally {
     let mut tally = Tally::new();
     for seed in (first..2 * RUNS).step_by(THREADS as usize) {
         let mut random = Random::new(12_000_000 + seed);
-        let run = accepted(&mut random);
+        let shape = if seed / THREADS % 3 == 0 { changing_shape(&mut random) } else { shape(&mut random) };
+        let run = accepted_of(&mut random, shape);
         let said = by_feeding(&feeding::CLOCKS, &run, None);
         for premise in PREMISES {
             let alone = |at: &usize| broken(&run[*at].1, &run[at + 1].1) == [premise];
@@ -681,9 +695,7 @@ pub fn run(tally: &mut Tally, order: Option<&str>) {
     on_threads(tally, |first| run_generated(first, order));
     tally.part("swaps, runs at random");
     on_threads(tally, run_forbidden);
-    // Next to an `owned` one task acts in both, so that no other premise is broken alone.
-    let forbidden = PREMISES.into_iter().filter(|premise| *premise != Owned);
-    let forbidden = forbidden.map(|premise| format!("swaps, forbidden, {premise:?}: something changes"));
+    let forbidden = PREMISES.map(|premise| format!("swaps, forbidden, {premise:?}: something changes"));
     let program = order.map(|_| BY_PROGRAM.to_string());
     for what in SEEN.into_iter().map(String::from).chain(forbidden).chain(program) {
         let times = tally.seen.get(&what).copied().unwrap_or(0);

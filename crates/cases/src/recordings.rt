@@ -83,7 +83,8 @@ pub(crate) fn bumped() {
     run(b"bump across a mark", b"0+1 0w5 _?3 1b5");
 }
 
-// Under the profile a take needs a free semaphore and a give its holder, there are no marks, and a join frees nothing.
+// Under the profile a take needs a free semaphore and a give its holder, there are no marks, and a join frees nothing. A recording comes under it once, at
+// any record: all semaphores are free there, and order and marks from before stay.
 pub(crate) fn owned() {
     run(b"owned hand-over", b"0o0 0+1 0w5 0t4 0g4 1t4 1r5");
     run(b"owned twice", b"0o0 0o0");
@@ -95,6 +96,13 @@ pub(crate) fn owned() {
     );
     run(b"give without holding", b"0o0 0+1 0g4 0t4 1g4 0g4 0g4");
     run(b"join of a holder", b"0o0 0+1 1t4 0-1 0t4 0g4");
+    run(
+        b"taken before the change",
+        b"0+1 0t4 1o0 0g4 1g4 1t4 0t4 1g4",
+    );
+    run(b"given before the change", b"0+1 0w5 0g4 1g4 0o0 1t4 1r5");
+    run(b"mark before the change", b"0+1 0w5 _?3 0o0 1w5 _?3");
+    run(b"changed twice", b"0+1 1o0 0t4 0o0 1o0 1t4");
 }
 
 // Refused records between accepted ones.

@@ -33,7 +33,7 @@ use theory::Task;
 ghost use mathlib.Core.Path.{_≡_};
 ghost use mathlib.Core.Bool.{cond, not, _&&_, _||_};
 ghost use Prim.Native.Nat.{_<_, _^_};
-ghost use lib.Dec.{leb, ltb, eqb};
+ghost use lib.Dec.{leb, eqb};
 ghost use Rattle.theory.specs.order.Limits.{tasks, semaphores, flags, variables, profiles, records};
 ghost use Rattle.theory.specs.order.Recording.{lossMark, kindSeries};
 ghost use Rattle.theory.proofs.acceptance.Rows.{OfAct};
@@ -138,11 +138,11 @@ fn join_refusal(control: &Control, task: Task, named: Task) -> u32
     0
 }
 
-// Row 14, for `owned`: a record has been accepted already.
+// Row 14, for `owned`: it is a second one.
 fn owned_refusal(control: &Control) -> u32
-    ensures { λ n. ⌜ n ≡ cond (ltb 0 (countIn (now (control .entry)))) 14 0 ⌝ }
+    ensures { λ n. ⌜ n ≡ cond (underIn (now (control .entry))) 14 0 ⌝ }
 {
-    if 0 < control[COUNT] {
+    if is_under(control) {
         return 14;
     }
     0

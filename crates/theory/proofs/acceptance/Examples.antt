@@ -1,4 +1,4 @@
--- The short lists of F-12 get the refusals that stand with them: the table is computed. Assumes nothing.
+-- The short lists of F-12 and F-14 get the refusals that stand with them: the table is computed. Assumes nothing.
 use mathlib.Core.Path.{refl}
 use Rattle.theory.specs.tables.Turns.{turns}
 use Rattle.theory.specs.acceptance.Table.{standingRefusal}

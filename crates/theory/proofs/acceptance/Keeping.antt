@@ -1,11 +1,10 @@
 -- A record that no row refuses keeps the profile of owned semaphores. Assumes nothing.
 use mathlib.Core.Path.{_≡_, refl, sym, ap, subst}
 use mathlib.Core.Bool.{true, false, true≢false}
-use mathlib.Core.List.{List, [], _∷_}
+use mathlib.Core.List.{List}
 use Prim.Native.Nat.{ℕ}
 use native.Mathlib.Omega.{arith}
 use borrow.Author.Tests.{eqb-true, eqb-false}
-use lib.ListN.{length}
 use Rattle.theory.specs.order.Recording.{Op, Event, act, lost, kind, lossMark}
 use Rattle.theory.specs.acceptance.Owning.{Who, nobody, by, isSomebody, isBy, holder, KeepsProfile}
 use Rattle.theory.specs.acceptance.Table.{standing}
@@ -21,10 +20,6 @@ pub is-by : (h : Who) (t : ℕ) → isBy h t ≡ true → h ≡ by t
 is-by nobody t q = absurd (true≢false (sym q))
 is-by (by u) t q = ap by (eqb-true u t q)
 
-none-yet : (es : List Event) → length es ≡ 0 → es ≡ []
-none-yet [] q = refl
-none-yet (e ∷ es) q = absurd (omega arith)
-
 -- what two events that are the same have in common
 same-kind : {e f : Event} → e ≡ f → (eventRecord e) .kind ≡ (eventRecord f) .kind
 same-kind q = ap (λ (e : Event). (eventRecord e) .kind) q
@@ -38,7 +33,7 @@ same-on q = ap (λ (e : Event). (eventRecord e) .on) q
 pub act-keeps : (es : List Event) (o : Op) (t n : ℕ) → ActAllowed (standing es) (kind o) t n → KeepsProfile es (act o t n)
 act-keeps es o t n a =
     record {
-      owned-first = λ q. none-yet es (a .owned-first (eqb-true (kind o) (kind Op.owned) q));
+      owned-once = λ q. a .owned-once (eqb-true (kind o) (kind Op.owned) q);
       no-mark = λ mask q. absurd (eqb-false (kind o) lossMark (no-mark o) (same-kind q));
       takes-free = λ u s q p. is-nobody (holder es s) (subst (λ (i : ℕ). isSomebody (holder es i) ≡ false) (same-on q) (a .takes-free p (same-kind q)));
       gives-own = λ u s q p.
@@ -50,7 +45,7 @@ act-keeps es o t n a =
 pub mark-keeps : (es : List Event) (n : ℕ) → MarkAllowed (standing es) n → KeepsProfile es (lost n)
 mark-keeps es n m =
     record {
-      owned-first = λ q. absurd (true≢false (sym q));
+      owned-once = λ q. absurd (true≢false (sym q));
       no-mark = λ mask q. m .no-profile;
       takes-free = λ u s q p. absurd (let k = same-kind q in omega arith);
       gives-own = λ u s q p. absurd (let k = same-kind q in omega arith);

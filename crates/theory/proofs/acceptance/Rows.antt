@@ -8,7 +8,7 @@ use Prim.Native.Nat.{ℕ, zero, suc, _+_, _^_, _≤_, _<_, zero-le}
 use native.Mathlib.Omega.{arith}
 use lib.Dec.{leb, ltb, eqb}
 use lib.ListN.{length}
-use borrow.Author.Tests.{le-leb, lt-leb, ltb-true, ltb-false, leb-true, leb-false, ne-eqb, eqb-false, not-false}
+use borrow.Author.Tests.{le-leb, lt-leb, ltb-true, leb-true, leb-false, ne-eqb, eqb-false, not-false}
 use Rattle.theory.specs.declared.record.Record.{Record}
 use Rattle.theory.specs.order.Limits.{tasks, records}
 use Rattle.theory.specs.tables.Turns.{turns}
@@ -92,7 +92,7 @@ module _ (s : Standing) (r : Record) where
       ∷ (7 when (hasKind r start && not (s .unseen (r .on))))
       ∷ (8 when (hasKind r join && eqb (r .on) (r .task)))
       ∷ (9 when (hasKind r join && not (s .live (r .on))))
-      ∷ (14 when (hasKind r owned && ltb 0 (s .count)))
+      ∷ (14 when (hasKind r owned && s .profile))
       ∷ (15 when false)
       ∷ (16 when (s .profile && ((hasKind r take && s .held (r .on)) || (hasKind r give && not (s .holds (r .on) (r .task))))))
       ∷ []
@@ -127,7 +127,7 @@ pub record ActAllowed (s : Standing) (k task on : ℕ) : Type 0 where
   pub starts-unseen : k ≡ kind start → s .unseen on ≡ true
   pub joins-other : k ≡ kind join → on ≢ task
   pub joins-live : k ≡ kind join → s .live on ≡ true
-  pub owned-first : k ≡ kind owned → s .count ≡ 0
+  pub owned-once : k ≡ kind owned → s .profile ≡ false
   pub takes-free : s .profile ≡ true → k ≡ kind take → s .held on ≡ false
   pub gives-own : s .profile ≡ true → k ≡ kind give → s .holds on task ≡ true
 
@@ -162,7 +162,7 @@ module _ (s : Standing) (r : Record) (e : standingRefusal s r ≡ 0) where
             starts-unseen = λ q. not-false (s .unseen (r .on)) (rw q at u);
             joins-other = λ q. eqb-false (r .on) (r .task) (rw q at j);
             joins-live = λ q. not-false (s .live (r .on)) (rw q at d);
-            owned-first = λ q. let z = ltb-false 0 (s .count) (rw q at w) in omega arith;
+            owned-once = λ q. rw q at w;
             takes-free = λ p q. rw (or-false (s .held (r .on))) at (rw (p, q) at h);
             gives-own = λ p q. not-false (s .holds (r .on) (r .task)) (rw (p, q) at h);
           }

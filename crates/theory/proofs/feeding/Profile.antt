@@ -1,5 +1,5 @@
--- F-12: each accepted record keeps the profile of owned semaphores, and under it no verdict is Doubt. Of whatever accepts by the table, and gives the
--- verdicts of demand 2. Assumes nothing.
+-- F-12 and F-14: each accepted record keeps the profile of owned semaphores, and where the first record is `owned` no verdict is Doubt. Of whatever
+-- accepts by the table, and gives the verdicts of demand 2. Assumes nothing.
 use mathlib.Core.Path.{_≡_, refl, sym, _∙_, ap, subst}
 use mathlib.Core.Bool.{Bool, true, false, _||_, true≢false}
 use mathlib.Core.Logic.{_↔_, _≢_}

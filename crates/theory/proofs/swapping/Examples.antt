@@ -20,7 +20,7 @@ use Rattle.theory.specs.feeding.Meaning.{Meaning, isRefusal}
 use Rattle.theory.specs.feeding.Feeding.{answersFrom, eventRecord}
 use Rattle.theory.specs.swapping.Unrelated.{Series, task, semaphore, flag, variable, profile, seriesOf, Names, names, sharing, MayShare, may-share, Premise, two-acts, actors-differ, names-no-actor, names-no-same, no-semaphore, no-flag, no-variable, none-owned, Holds, first-misses, second-misses}
 use Rattle.theory.specs.swapping.Compared.{Accepted, none-left, and-accepted, Said, refused, taken, judged, known}
-use Rattle.theory.specs.swapping.Examples.{Related, logged, exchanged, newPlace, saidAt, Changes, AllChange, EachNeeded, related, Pair, AllUnrelated, unrelatedPairs, AllMissed, missedPairs, holding, EitherOrder, HeldPairs, OwnedMoved, NumbersShift}
+use Rattle.theory.specs.swapping.Examples.{Related, logged, exchanged, newPlace, saidAt, Changes, AllChange, EachNeeded, related, Pair, AllUnrelated, unrelatedPairs, AllMissed, missedPairs, holding, EitherOrder, HeldPairs, NumbersShift}
 use Rattle.theory.proofs.basics.Reflects.{fails, equal, passed}
 use Rattle.theory.proofs.order.Ops.{same-op}
 
@@ -257,14 +257,14 @@ all-change = rows-change related refl refl refl
 
 -- the rows, each for its premise
 pub each-needed : EachNeeded
-each-needed two-acts d = (_, refl, all-change .0)
-each-needed actors-differ d = (_, refl, all-change .1 .0)
-each-needed names-no-actor d = (_, refl, all-change .1 .1 .0)
-each-needed names-no-same d = (_, refl, all-change .1 .1 .1 .1 .0)
-each-needed no-semaphore d = (_, refl, all-change .1 .1 .1 .1 .1 .0)
-each-needed no-flag d = (_, refl, all-change .1 .1 .1 .1 .1 .1 .1 .0)
-each-needed no-variable d = (_, refl, all-change .1 .1 .1 .1 .1 .1 .1 .1 .0)
-each-needed none-owned d = absurd (d refl)
+each-needed two-acts = (_, refl, all-change .0)
+each-needed actors-differ = (_, refl, all-change .1 .0)
+each-needed names-no-actor = (_, refl, all-change .1 .1 .0)
+each-needed names-no-same = (_, refl, all-change .1 .1 .1 .1 .0)
+each-needed no-semaphore = (_, refl, all-change .1 .1 .1 .1 .1 .0)
+each-needed no-flag = (_, refl, all-change .1 .1 .1 .1 .1 .1 .1 .0)
+each-needed no-variable = (_, refl, all-change .1 .1 .1 .1 .1 .1 .1 .1 .0)
+each-needed none-owned = (_, refl, all-change .1 .1 .1 .1 .1 .1 .1 .1 .1 .1 .1 .1 .1 .1 .1 .1 .1 .0)
 
 -- The pairs
 
@@ -309,10 +309,6 @@ held-pairs =
       give-miss = either-order _ refl refl;
       miss-take = either-order _ refl refl;
     }
-
-pub owned-moved : OwnedMoved
-unfolding turns standingRefusal judge rule rounds round part onEach
-owned-moved = record { before = refl; after = refl }
 
 -- Record numbers
 

@@ -1,4 +1,4 @@
--- F-12: short lists of records, fed from a fresh state, with the refusal that each record gets. proofs/acceptance/Examples.antt proves the table, by
+-- F-12 and F-14: short lists of records, fed from a fresh state, with the refusal that each record gets. proofs/acceptance/Examples.antt proves the table, by
 -- computing it.
 use Prim.Native.Nat.{ℕ}
 use mathlib.Core.Path.{_≡_}
@@ -32,18 +32,29 @@ abbrev pub lists : List (List Fed)
 lists =
     -- "A recording whose first record is `op=owned task=0 on=0`", and "all are free at the start"
     (own gets 0 ∷ act take 0 4 gets 0 ∷ act take 0 31 gets 0 ∷ [])
-    -- its first record is the first that is accepted: refused ones before it do not make it late
+    -- the same after refused records
     ∷ (act take 1 4 gets 6 ∷ act read 0 64 gets 3 ∷ lost 0 gets 4 ∷ own gets 0 ∷ act give 0 4 gets 16 ∷ [])
-    -- "14 `owned` once any record has been accepted": an act, a loss mark, another `owned`. The recording is as it was
-    ∷ (act read 0 5 gets 0 ∷ own gets 14 ∷ act give 0 4 gets 0 ∷ lost 1 gets 0 ∷ [])
-    ∷ (lost 1 gets 0 ∷ own gets 14 ∷ lost 1 gets 0 ∷ [])
-    ∷ (own gets 0 ∷ act take 0 4 gets 0 ∷ own gets 14 ∷ act take 0 4 gets 16 ∷ [])
-    -- "`owned` with `on` other than 0 is a 3", also a late one
+    -- F-14: "Allow `op=owned` once at any record, by any live task": after acts and after a loss mark, by task 0 and by another
+    ∷ (act read 0 5 gets 0 ∷ own gets 0 ∷ act give 0 4 gets 16 ∷ lost 1 gets 15 ∷ [])
+    ∷ (lost 1 gets 0 ∷ own gets 0 ∷ lost 1 gets 15 ∷ act take 0 4 gets 0 ∷ act take 0 4 gets 16 ∷ [])
+    ∷ (start1 gets 0 ∷ act owned 1 0 gets 0 ∷ act give 0 4 gets 16 ∷ act take 1 4 gets 0 ∷ act take 0 4 gets 16 ∷ [])
+    -- "Number 14 is now given for a second `owned` only", at the start and later, by its task and by another. The recording is as it was
+    ∷ (own gets 0 ∷ own gets 14 ∷ act take 0 4 gets 0 ∷ own gets 14 ∷ act take 0 4 gets 16 ∷ [])
+    ∷ (own gets 0 ∷ start1 gets 0 ∷ act owned 1 0 gets 14 ∷ [])
+    ∷ (start1 gets 0 ∷ act owned 1 0 gets 0 ∷ act take 1 4 gets 0 ∷ own gets 14 ∷ act owned 1 0 gets 14 ∷ act take 0 4 gets 16 ∷ act give 1 4 gets 0 ∷ [])
+    -- not for one after an `owned` that was refused
+    ∷ (act owned 0 1 gets 3 ∷ act owned 1 0 gets 6 ∷ act give 0 4 gets 0 ∷ own gets 0 ∷ own gets 14 ∷ [])
+    -- "All semaphores count as free at that point": one that was taken before it is given by nobody after it, its taker neither, and may be taken
+    ∷ (start1 gets 0 ∷ act take 0 4 gets 0 ∷ act take 1 5 gets 0 ∷ own gets 0 ∷ act give 0 4 gets 16 ∷ act give 1 5 gets 16 ∷ act take 0 4 gets 0
+    ∷ act give 0 4 gets 0 ∷ act take 0 5 gets 0 ∷ act take 1 5 gets 16 ∷ [])
+    -- "15 and 16 apply after the first": before it each of these is accepted, and after it none is
+    ∷ (start1 gets 0 ∷ act take 0 4 gets 0 ∷ act take 1 4 gets 0 ∷ act take 1 4 gets 0 ∷ act give 0 6 gets 0 ∷ lost 3 gets 0 ∷ act owned 1 0 gets 0
+    ∷ act take 0 4 gets 0 ∷ act take 1 4 gets 16 ∷ act take 0 4 gets 16 ∷ act give 0 6 gets 16 ∷ lost 3 gets 15 ∷ [])
+    -- "`owned` with `on` other than 0 is a 3", also a second one
     ∷ (act owned 0 1 gets 3 ∷ own gets 0 ∷ act owned 0 1 gets 3 ∷ [])
-    -- by a task above 15 it is a 2, and by one that is not live a 6, also late
+    -- by a task above 15 it is a 2, and by one that is not live a 6, unseen or ended, also a second one
     ∷ (act owned 16 0 gets 2 ∷ act owned 1 0 gets 6 ∷ own gets 0 ∷ act owned 16 0 gets 2 ∷ act owned 1 0 gets 6 ∷ [])
-    -- by another live task it is late, since that was started
-    ∷ (start1 gets 0 ∷ act owned 1 0 gets 14 ∷ [])
+    ∷ (start1 gets 0 ∷ act join 0 1 gets 0 ∷ act owned 1 0 gets 6 ∷ own gets 0 ∷ act owned 1 0 gets 6 ∷ own gets 14 ∷ [])
     -- "15 a loss mark under the profile"
     ∷ (own gets 0 ∷ start1 gets 0 ∷ lost 1 gets 15 ∷ lost 3 gets 15 ∷ [])
     -- "Three numbers after 9": a mask of 0 or above 65,535, and one that names a task which is not live

@@ -1,5 +1,6 @@
--- F-12: the profile of owned semaphores. "A recording whose first record is `op=owned task=0 on=0` follows that profile: a take needs a free semaphore, a
--- give needs its holder, and all are free at the start." The rows that say so are in Table.antt.
+-- F-12 and F-14: the profile of owned semaphores. "A recording whose first record is `op=owned task=0 on=0` follows that profile: a take needs a free
+-- semaphore, a give needs its holder", and a recording may come to it later: "Allow `op=owned` once at any record, by any live task. All semaphores count
+-- as free at that point". The rows that say so are in Table.antt.
 use Prim.Native.Nat.{ℕ}
 use mathlib.Core.Path.{_≡_}
 use mathlib.Core.Bool.{Bool, true, false, cond, _||_}
@@ -17,7 +18,7 @@ abbrev pub under : List Event → Bool
 under [] = false
 under (e ∷ es) = isOwned e || under es
 
--- what came since: the records after the `owned`, and none where there is none
+-- what came since: the records after the first `owned`, and none where there is none
 abbrev pub since : List Event → List Event
 since [] = []
 since (e ∷ es) = cond (isOwned e) es (since es)
@@ -50,7 +51,7 @@ laterWho next h (e ∷ es) s = laterWho next (next e s h) es s
 abbrev pub whoSince : (Event → ℕ → Who → Who) → List Event → ℕ → Who
 whoSince next es s = laterWho next nobody (since es) s
 
--- "holder" of semaphore s after a recording: "all are free" where the profile begins
+-- "holder" of semaphore s after a recording: "All semaphores count as free at that point", also one that was taken before it
 abbrev pub holder : List Event → ℕ → Who
 holder es s = whoSince nextHolder es s
 
@@ -60,8 +61,8 @@ pub data OwnedFirst : List Event → Type 0 where
 
 -- what the profile asks of an accepted record e, after those before it
 pub record KeepsProfile (es : List Event) (e : Event) : Type 0 where
-  -- `owned` is the first record
-  pub owned-first : isOwned e ≡ true → es ≡ []
+  -- "`op=owned` once at any record"
+  pub owned-once : isOwned e ≡ true → under es ≡ false
   -- "Loss marks are not allowed in it"
   pub no-mark : (mask : ℕ) → e ≡ lost mask → under es ≡ false
   -- "a take needs a free semaphore"

@@ -4,7 +4,7 @@ use mathlib.Core.Bool.{Bool, true, false, cond, not, _&&_, _||_}
 use mathlib.Core.Path.{_≡_}
 use mathlib.Core.Logic.{_≢_}
 use mathlib.Core.List.{List, [], _∷_, _++_}
-use lib.Dec.{leb, ltb, eqb}
+use lib.Dec.{leb, eqb}
 use lib.ListN.{length}
 use Rattle.theory.specs.declared.record.Record.{Record}
 use Rattle.theory.specs.order.Limits.{tasks, records}
@@ -112,8 +112,8 @@ rows s r =
     ∷ (8 when (hasKind r join && eqb (r .on) (r .task)))
     -- the joined task, or any one of the marked tasks, is not live
     ∷ (9 when ((hasKind r join && not (s .live (r .on))) || (isMark r && anyBelow tasks (λ t. names (r .on) t && not (s .live t)))))
-    -- `owned` once any record has been accepted
-    ∷ (14 when (hasKind r owned && ltb 0 (s .count)))
+    -- a second `owned`
+    ∷ (14 when (hasKind r owned && s .profile))
     -- a loss mark under the profile
     ∷ (15 when (isMark r && s .profile))
     -- under it, a take of a held semaphore, or a give by a task that does not hold it

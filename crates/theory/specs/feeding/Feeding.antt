@@ -82,7 +82,8 @@ EachAccess answers P =
     AccessAt (recordedBy answers rs) k →
     (v : Verdict) × (w : ℕ) × Got (map meaning (answers rs)) k (judges (suc k) v w) × P (recordedBy answers rs) k v w
 
--- demand 3: nobody who fills in the lost records can overturn a verdict
+-- demand 3: nobody who fills in the lost records can overturn a verdict. Of every recording, with or without an `owned` and wherever that stands: F-14's
+-- "whoever fills them in afterwards still can't overturn a verdict on either side of the change" is this, with place k before the `owned` or after it
 abbrev pub FedDemand3 : (List Record → List Answer) → Type 0
 FedDemand3 answers = EachAccess answers (λ es k v w. Firm es k v)
 
@@ -103,12 +104,13 @@ abbrev pub FedAcceptance : (List Record → List Answer) → Type 0
 FedAcceptance answers =
     (rs : List Record) → (recordedBy answers rs ≡ recording rs) × (map refusalNumber (map meaning (answers rs)) ≡ refusalsAfter [] rs)
 
--- F-12: each accepted record keeps the profile
+-- F-12 and F-14: each accepted record keeps the profile
 abbrev pub FedProfile : (List Record → List Answer) → Type 0
 FedProfile answers =
     (rs : List Record) (before : List Event) (e : Event) (after : List Event) → recordedBy answers rs ≡ before ++ (e ∷ after) → KeepsProfile before e
 
--- "Loss marks are not allowed in it, so every verdict there is Race or Clear": no Doubt in a recording whose first record is `owned`
+-- "Loss marks are not allowed in it, so every verdict there is Race or Clear": no Doubt in a recording whose first record is `owned`.
+-- Where it comes later, "Earlier loss marks stay, so Doubt can still be given after the change"
 abbrev pub FedOwned : (List Record → List Answer) → Type 0
 FedOwned answers = EachAccess answers (λ es k v w. OwnedFirst es → v ≢ Doubt)
 

@@ -1,4 +1,4 @@
--- F-13: short lists of records, fed from a fresh state, with the number of takes that are skipped in each. proofs/skipping/Examples.antt proves the table,
+-- F-13 and F-14: short lists of records, fed from a fresh state, with the number of takes that are skipped in each. proofs/skipping/Examples.antt proves the table,
 -- by computing it.
 use Prim.Native.Nat.{ℕ}
 use mathlib.Core.Path.{_≡_}
@@ -52,5 +52,15 @@ lists =
     ∷ (own ∷ act take 0 1 ∷ act give 0 1 ∷ start1 ∷ act set 1 1 ∷ act write 1 1 ∷ act read 0 1 ∷ act take 0 1 ∷ []) skip 1
     -- outside the profile none is, whoever gave it
     ∷ (act take 0 4 ∷ act give 0 4 ∷ act take 0 4 ∷ act give 0 4 ∷ act take 0 4 ∷ []) skip 0
+    -- F-14: "Gives before it never count as the last give", whether their task had taken or not
     ∷ (act give 0 4 ∷ own ∷ act take 0 4 ∷ lost 1 ∷ act take 0 4 ∷ []) skip 0
+    ∷ (start1 ∷ act take 1 4 ∷ act give 1 4 ∷ own ∷ act take 1 4 ∷ []) skip 0
+    ∷ (start1 ∷ act give 0 4 ∷ act give 1 4 ∷ act owned 1 0 ∷ act take 1 4 ∷ []) skip 0
+    -- the first give after it does
+    ∷ (start1 ∷ act give 1 4 ∷ own ∷ act take 1 4 ∷ act give 1 4 ∷ act take 1 4 ∷ []) skip 1
+    ∷ (start1 ∷ act give 0 4 ∷ own ∷ act take 1 4 ∷ act give 1 4 ∷ act take 0 4 ∷ []) skip 0
+    -- what was taken before it is held by nobody: the give is refused, and counts for nothing
+    ∷ (act take 0 4 ∷ own ∷ act give 0 4 ∷ act take 0 4 ∷ act give 0 4 ∷ act take 0 4 ∷ []) skip 1
+    -- a second `owned` is refused, and the gives before it count
+    ∷ (own ∷ start1 ∷ act take 0 4 ∷ act give 0 4 ∷ own ∷ act owned 1 0 ∷ act take 0 4 ∷ []) skip 1
     ∷ []

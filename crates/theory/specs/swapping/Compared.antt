@@ -70,7 +70,7 @@ pub record SameVerdicts (R : Record → Record → Type 0) (answers : List Recor
   pub same : {rs rs′ : List Record} (s : Swaps R rs rs′) → Accepted (map meaning (answers rs)) → (k : ℕ) →
       getElem? (lines answers rs′) (movedBy s k) ≡ getElem? (lines answers rs) k
 
--- F-12, of an `owned`: "a swap as in F-11 never moves it". It stays at its place
+-- F-12, of an `owned`: "a swap as in F-11 never moves it". It stays at its place, wherever that is (F-14)
 
 abbrev pub OwnedStays : (Record → Record → Type 0) → Type 0
 OwnedStays R =

@@ -65,10 +65,9 @@ abbrev pub AllChange : List Related → Type 0
 AllChange [] = Unit
 AllChange (x ∷ xs) = Changes x × AllChange xs
 
--- so each premise is needed. But for `none-owned`: an accepted `owned` is the first record, and after it only task 0 is live, so that the record behind it
--- is by the same task, and `actors-differ` fails as well (`OwnedMoved`)
+-- so each premise is needed
 abbrev pub EachNeeded : Type 0
-EachNeeded = (q : Premise) → q ≢ none-owned → (x : Related) × (x .premise ≡ q) × Changes x
+EachNeeded = (q : Premise) → (x : Related) × (x .premise ≡ q) × Changes x
 
 abbrev pub row : Premise → List Event → Event → Event → List Event → ℕ → Said → Said → Related
 row q ahead e f behind k was becomes =
@@ -117,6 +116,10 @@ related =
     ∷ row no-variable (act start 0 1 ∷ []) w0 (act fresh 1 5) (w1 ∷ []) 3 clear (race 0)
     ∷ row no-variable (act start 0 1 ∷ []) r0 (act fresh 1 5) (w1 ∷ []) 3 clear (race 0)
     ∷ row no-variable (act start 0 1 ∷ []) b0 (act fresh 1 5) (w1 ∷ []) 3 clear (race 0)
+    -- an `owned`: who has taken before it holds nothing after it
+    ∷ row none-owned (act start 0 1 ∷ []) (act owned 0 0) (act take 1 4) (act give 1 4 ∷ []) 3 taken (refused 16)
+    -- and who has not taken may give before it
+    ∷ row none-owned (act start 0 1 ∷ []) (act give 1 4) (act owned 0 0) [] 1 taken (refused 16)
     ∷ []
 
 -- And records that meet every premise, so that they may be swapped wherever they stand side by side
@@ -183,12 +186,6 @@ pub record HeldPairs : Type 0 where
   pub give-take : EitherOrder (act give 1 3 beside act take 2 4)
   pub give-miss : EitherOrder (act give 1 3 beside act miss 2 3)
   pub miss-take : EitherOrder (act miss 2 4 beside act take 1 4)
-
--- "a swap as in F-11 never moves it": once it is not the first record, an `owned` is refused
-
-pub record OwnedMoved : Type 0 where
-  pub before : saidAt (act owned 0 0 ∷ w0 ∷ []) 0 ≡ some taken
-  pub after : saidAt (w0 ∷ act owned 0 0 ∷ []) 1 ≡ some (refused 14)
 
 -- "Partner record numbers may shift": w0 and the write of variable 6 are unrelated, and the read's partner, w0, has number 2, or 3 once they are swapped
 

@@ -4,7 +4,7 @@ use Prim.Native.Nat.{ℕ, suc}
 use mathlib.Core.Path.{_≡_}
 use mathlib.Core.List.{List, [], _∷_}
 use lib.Dec.{T}
-use Rattle.theory.specs.order.Recording.{Op, read, write, take, give, look, set, start, join, fresh, miss, bump, Event, act, lost, isAccess}
+use Rattle.theory.specs.order.Recording.{Op, read, write, take, give, look, set, start, join, fresh, miss, bump, owned, Event, act, lost, isAccess}
 use Rattle.theory.specs.verdicts.Verdict.{Verdict, Race, Clear, Doubt, With}
 use Rattle.theory.specs.verdicts.Demands.{Firm}
 use Rattle.theory.specs.verdicts.Search.{Finding}
@@ -62,6 +62,10 @@ b0 = act bump 0 5
 
 abbrev pub b1 : Event
 b1 = act bump 1 5
+
+-- the kernel is changed, by task 0
+abbrev pub own : Event
+own = act owned 0 0
 
 infix 10 _gives_
 abbrev pub table : List Example
@@ -156,4 +160,32 @@ table =
     ∷ (act start 0 1 ∷ w0 ∷ lost 3 ∷ b1 ∷ [] gives (2 ∶ Clear with 0) ∷ (4 ∶ Doubt with 2) ∷ [])
     -- and after a fresh
     ∷ (act start 0 1 ∷ w0 ∷ act fresh 0 5 ∷ b1 ∷ [] gives (2 ∶ Clear with 0) ∷ (4 ∶ Clear with 0) ∷ [])
+    -- F-12: under the profile a take acquires what its holder before it gave, and what was given of another semaphore it does not
+    ∷ (own ∷ act start 0 1 ∷ act take 0 4 ∷ w0 ∷ act give 0 4 ∷ act take 1 4 ∷ w1 ∷ [] gives (4 ∶ Clear with 0) ∷ (7 ∶ Clear with 0) ∷ [])
+    ∷ (own ∷ act start 0 1 ∷ act take 0 4 ∷ w0 ∷ act give 0 4 ∷ act take 1 6 ∷ w1 ∷ [] gives (4 ∶ Clear with 0) ∷ (7 ∶ Race with 4) ∷ [])
+    -- F-14: "Order gained before it remains": a give before it reaches a take after it, a set a look, and what was acquired before it is kept
+    ∷ (act start 0 1 ∷ w0 ∷ act give 0 4 ∷ own ∷ act take 1 4 ∷ r1 ∷ [] gives (2 ∶ Clear with 0) ∷ (6 ∶ Clear with 0) ∷ [])
+    ∷ (act start 0 1 ∷ w0 ∷ act set 0 3 ∷ own ∷ act look 1 3 ∷ r1 ∷ [] gives (2 ∶ Clear with 0) ∷ (6 ∶ Clear with 0) ∷ [])
+    ∷ (act start 0 1 ∷ w0 ∷ act give 0 4 ∷ act take 1 4 ∷ own ∷ r1 ∷ [] gives (2 ∶ Clear with 0) ∷ (6 ∶ Clear with 0) ∷ [])
+    -- two gives before it: the later one is by the task that takes after it, which has to acquire the other's
+    ∷ (act start 0 1 ∷ w0 ∷ act give 0 4 ∷ act give 1 4 ∷ own ∷ act take 1 4 ∷ r1 ∷ [] gives (2 ∶ Clear with 0) ∷ (7 ∶ Clear with 0) ∷ [])
+    -- it makes no step: nothing is in order by it, whoever's act it is
+    ∷ (act start 0 1 ∷ w0 ∷ own ∷ w1 ∷ [] gives (2 ∶ Clear with 0) ∷ (4 ∶ Race with 2) ∷ [])
+    ∷ (act start 0 1 ∷ w0 ∷ act owned 1 0 ∷ w1 ∷ [] gives (2 ∶ Clear with 0) ∷ (4 ∶ Race with 2) ∷ [])
+    -- it is an act of its task: a join acquires it
+    ∷ (act start 0 2 ∷ w0 ∷ act start 0 1 ∷ act owned 1 0 ∷ act join 2 1 ∷ act read 2 5 ∷ [] gives (2 ∶ Clear with 0) ∷ (6 ∶ Clear with 0) ∷ [])
+    -- "Earlier loss marks stay, so Doubt can still be given after the change"
+    ∷ (act start 0 1 ∷ w0 ∷ lost 3 ∷ own ∷ w1 ∷ [] gives (2 ∶ Clear with 0) ∷ (5 ∶ Doubt with 2) ∷ [])
+    -- and before it: a Doubt on either side
+    ∷ (act start 0 1 ∷ w0 ∷ lost 3 ∷ r1 ∷ own ∷ w1 ∷ [] gives (2 ∶ Clear with 0) ∷ (4 ∶ Doubt with 2) ∷ (6 ∶ Doubt with 2) ∷ [])
+    -- a Race on either side, also with a mark between which names one of the two tasks
+    ∷ (act start 0 1 ∷ w0 ∷ r1 ∷ own ∷ w1 ∷ [] gives (2 ∶ Clear with 0) ∷ (3 ∶ Race with 2) ∷ (5 ∶ Race with 2) ∷ [])
+    ∷ (act start 0 1 ∷ w0 ∷ r1 ∷ lost 2 ∷ own ∷ w1 ∷ [] gives (2 ∶ Clear with 0) ∷ (3 ∶ Race with 2) ∷ (6 ∶ Race with 2) ∷ [])
+    -- a Race before it, and a Doubt after it
+    ∷ (act start 0 1 ∷ w0 ∷ w1 ∷ lost 3 ∷ own ∷ w0 ∷ [] gives (2 ∶ Clear with 0) ∷ (3 ∶ Race with 2) ∷ (6 ∶ Doubt with 3) ∷ [])
+    -- a give that was lost before it may reach a take after it, and is not forgotten where that task gives and takes again
+    ∷ (act start 0 1 ∷ w0 ∷ lost 1 ∷ own ∷ act take 1 9 ∷ w1 ∷ [] gives (2 ∶ Clear with 0) ∷ (6 ∶ Doubt with 2) ∷ [])
+    ∷ (act start 0 1 ∷ w0 ∷ lost 1 ∷ own ∷ act take 1 9 ∷ act give 1 9 ∷ act take 1 9 ∷ w1 ∷ [] gives (2 ∶ Clear with 0) ∷ (8 ∶ Doubt with 2) ∷ [])
+    -- where the semaphore is handed over after it, the marks before it no longer matter
+    ∷ (act start 0 1 ∷ w0 ∷ lost 3 ∷ own ∷ act take 0 4 ∷ act give 0 4 ∷ act take 1 4 ∷ w1 ∷ [] gives (2 ∶ Clear with 0) ∷ (8 ∶ Clear with 0) ∷ [])
     ∷ []
