@@ -10,8 +10,10 @@ pub mod RoundTrip
 pub mod EntryForm
 pub mod Places
 pub mod Ops
+pub mod Seven
 pub mod Short
 pub mod Wrote
+pub mod Words
 pub mod Lengths
 pub mod ReportExamples
 -- Texts in pieces, what the functions over them need, and the demand
