@@ -4,6 +4,7 @@ mod decimal;
 mod entries;
 mod entry;
 mod entry_form;
+mod fast_reading;
 mod fast_writing;
 mod parsing;
 mod reader;

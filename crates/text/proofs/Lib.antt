@@ -12,6 +12,7 @@ pub mod Places
 pub mod Ops
 pub mod Seven
 pub mod Short
+pub mod Tasks
 pub mod Wrote
 pub mod Words
 pub mod Lengths
