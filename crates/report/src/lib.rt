@@ -4,6 +4,8 @@ mod decimal;
 mod entries;
 mod entry;
 mod entry_form;
+mod fast_reading;
+mod fast_writing;
 mod parsing;
 mod reader;
 mod scan;

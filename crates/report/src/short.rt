@@ -1,10 +1,10 @@
 // Short lines, read in one pass: `op=W task=T on=N` with numbers of one or two digits, LF being found on the way. Nearly all lines are.
 use crate::decimal::read_short;
+use crate::fast_reading::guess_task;
 use crate::parsing::parse_line;
 use crate::scan::LF;
 use crate::scan::line_at;
 use crate::scan::place_after;
-use crate::words::SPACE;
 use crate::words::four;
 use crate::words::known_op;
 use text::Number;
@@ -57,7 +57,7 @@ fn field_after(s: &[u8], p: usize, name: usize, end: u8) -> Field
     }
 }
 
-// `task=T` at a place, after a space.
+// `task=T` at a place, after a space, for the tasks that there are.
 fn task_at(s: &[u8], p: usize) -> Field
     requires { ⌜ p + 8 ≤ length (now s) ⌝ }
     ensures { λ r. ⌜ (r .len ≤ 8) × (0 < r .len → FieldAt (now (s .entry)) p (space ∷ taskName) (r .value) (r .len)) ⌝ }
@@ -65,10 +65,15 @@ fn task_at(s: &[u8], p: usize) -> Field
     if !has_four(s, p, b" tas") {
         return Field { value: 0, len: 0 };
     }
-    if !has_four(s, p + 2, b"ask=") {
+    let bytes = four(s, p + 4);
+    let t = guess_task(bytes);
+    if bytes != t.bytes {
         return Field { value: 0, len: 0 };
     }
-    field_after(s, p, 6, SPACE)
+    Field {
+        value: t.task,
+        len: 6 + t.len,
+    }
 }
 
 // `on=N` at a place, after a space.

@@ -110,7 +110,7 @@ fn wide(b: u8) -> u64
 }
 
 // Eight bytes as one number, the first counting least: the compiler makes one load of it.
-fn eight(s: &[u8], p: usize) -> u64
+pub(crate) fn eight(s: &[u8], p: usize) -> u64
     requires { ⌜ p + 8 ≤ length (now s) ⌝ }
     ensures { λ r. ⌜ r ≡ little (take 8 (drop p (now (s .entry)))) ⌝ }
 {

@@ -1,4 +1,7 @@
 // Report lines, written into lent memory. Each function writes at a place and returns the place after what it wrote.
+use crate::fast_writing::put_eight;
+use crate::fast_writing::put_number;
+use crate::words::eight;
 use checker::excuse;
 use theory::Answer;
 use theory::Clocks;
@@ -6,10 +9,10 @@ use theory::Control;
 use theory::Excuse;
 use theory::History;
 use theory::Record;
-ghost use Prim.Native.Nat.{_+_, _/_, _<_, _≤_, _^_};
+ghost use Prim.Native.Nat.{ℕ, _+_, _/_, _<_, _≤_, _^_};
 ghost use mathlib.Core.Path.{_≡_};
 ghost use mathlib.Core.Bool.{cond};
-ghost use mathlib.Core.List.{[], _∷_};
+ghost use mathlib.Core.List.{List, [], _∷_, _++_};
 ghost use lib.Dec.{ltb};
 ghost use lib.ListN.{length};
 ghost use Rattle.text.specs.LineForm.{digits};
@@ -18,6 +21,8 @@ ghost use Rattle.text.specs.Printing.{bytes, lastDigit, decimal, recordDigits, 
 ghost use Rattle.theory.specs.feeding.Meaning.{meaning};
 ghost use Rattle.theory.specs.entries.Table.{excuseBy};
 ghost use Rattle.text.specs.ReportLines.{accessPart, accessLine, refusedAs, refusedLine, raceWord, excusedFor, partnerIn};
+ghost use Rattle.text.specs.Bytes.{little};
+ghost use Rattle.text.specs.Words.{Opens};
 ghost use Rattle.text.specs.Wrote.{Wrote};
 
 // The bytes as they are.
@@ -105,57 +110,69 @@ fn put_record(out: &mut [u8], at: usize, n: u32) -> usize
     put_last(out, seventh, n, n / 10)
 }
 
+// The same after its `=`.
+pub(crate) fn put_plain_number(out: &mut [u8], at: usize, n: u32) -> usize
+    requires { ⌜ at + 8 ≤ length (now out) ⌝ }
+    ensures { λ r. ⌜ Wrote (now (out .entry)) at (bytes "=" ++ recordText n) (now (out .exit)) r ⌝ }
+{
+    let a = put_bytes(out, at, b"=");
+    put_record(out, a, n)
+}
+
 // The first part of an access's line, up to its variable.
 fn put_access_part(out: &mut [u8], at: usize, number: u32, task: u32, variable: u32) -> usize
     requires { ⌜ at + length (accessPart number task variable) ≤ length (now out) ⌝ }
     ensures { λ r. ⌜ Wrote (now (out .entry)) at (accessPart number task variable) (now (out .exit)) r ⌝ }
 {
-    let a = put_bytes(out, at, b"rec=");
-    let b = put_record(out, a, number);
+    let a = put_bytes(out, at, b"rec");
+    let b = put_number(out, a, number);
     let c = put_bytes(out, b, b" task=");
     let d = put_decimal(out, c, task as u64);
     let e = put_bytes(out, d, b" var=");
     put_decimal(out, e, variable as u64)
 }
 
-// The line of an accepted access with a partner, by its record number, the verdict's word and the partner's record number.
-fn put_access_line(
-    out: &mut [u8],
-    at: usize,
+// What an accepted access's line says of its verdict: the access's record number, `=` and the verdict's word as eight bytes, how many of them these are,
+// and the partner's record number.
+struct Judged {
     number: u32,
-    r: Record,
-    verdict: &[u8],
+    word: u64,
+    len: usize,
     partner: u32,
-) -> usize
-    requires { ⌜ at + length (accessLine number (r .task) (r .on) (now verdict) partner) ≤ length (now out) ⌝ }
-    ensures { λ to. ⌜ Wrote (now (out .entry)) at (accessLine number (r .task) (r .on) (now (verdict .entry)) partner) (now (out .exit)) to ⌝ }
-{
-    let a = put_access_part(out, at, number, r.task, r.on);
-    let b = put_bytes(out, a, b" verdict=");
-    let c = put_bytes(out, b, verdict);
-    let d = put_bytes(out, c, b" with=");
-    let e = put_record(out, d, partner);
-    put_bytes(out, e, b"\n")
 }
 
-// The line of a Clear access. Its partner is 0, so that what follows its first part is one word.
-fn put_clear(out: &mut [u8], at: usize, number: u32, r: Record) -> usize
-    requires { ⌜ at + length (accessLine number (r .task) (r .on) (bytes "clear") 0) ≤ length (now out) ⌝ }
-    ensures { λ to. ⌜ Wrote (now (out .entry)) at (accessLine number (r .task) (r .on) (bytes "clear") 0) (now (out .exit)) to ⌝ }
+fn told(number: u32, word: &[u8; 8], len: usize, partner: u32) -> Judged
+    ensures { λ r. ⌜ r ≡ record { number = number; word = little (now (word .entry)); len = len; partner = partner } ⌝ }
 {
-    let a = put_access_part(out, at, number, r.task, r.on);
-    put_bytes(out, a, b" verdict=clear with=0000000\n")
+    Judged {
+        number,
+        word: eight(word, 0),
+        len,
+        partner,
+    }
 }
 
-// The line of a Race as it is excused.
-fn put_race(out: &mut [u8], at: usize, number: u32, r: Record, x: Excuse) -> usize
-    requires { ⌜ at + length (accessLine number (r .task) (r .on) (raceWord (x .known)) (x .partner .0)) ≤ length (now out) ⌝ }
-    ensures { λ to. ⌜ Wrote (now (out .entry)) at (accessLine number (r .task) (r .on) (raceWord (x .known)) (x .partner .0)) (now (out .exit)) to ⌝ }
+// A Race as it is excused.
+fn told_race(number: u32, x: Excuse) -> Judged
+    ensures { λ r. ⌜ (r .number ≡ number) × Opens (bytes "=" ++ raceWord (x .known)) (r .word) (r .len) × (r .partner ≡ x .partner .0) ⌝ }
 {
     if x.known {
-        return put_access_line(out, at, number, r, b"known", x.partner.0);
+        return told(number, b"=known  ", 6, x.partner.0);
     }
-    put_access_line(out, at, number, r, b"race", x.partner.0)
+    told(number, b"=race   ", 5, x.partner.0)
+}
+
+// The line of an accepted access. The bytes after the verdict's word are written over.
+fn put_access_line(out: &mut [u8], at: usize, r: Record, j: Judged) -> usize
+    requires { ⌜ (at + 44 + length (decimal (r .task)) + length (decimal (r .on)) + j .len ≤ length (now out)) × (3 ≤ j .len) × (j .len ≤ 8) ⌝ }
+    ensures { λ to. ⌜ ((w : List ℕ) → Opens (bytes "=" ++ w) (j .word) (j .len) → Wrote (now (out .entry)) at (accessLine (j .number) (r .task) (r .on) w (j .partner)) (now (out .exit)) to) ⌝ }
+{
+    let a = put_access_part(out, at, j.number, r.task, r.on);
+    let b = put_bytes(out, a, b" verdict");
+    put_eight(out, b, j.word);
+    let c = put_bytes(out, b + j.len, b" with");
+    let d = put_number(out, c, j.partner);
+    put_bytes(out, d, b"\n")
 }
 
 // The line of a refused line of a text of which each is called so, by its line number and the refusal's number.
@@ -194,21 +211,19 @@ pub(crate) fn put_answer(
     ensures { λ to. let excused = excuseBy (now (control .entry)) (now (last .entry)) (now (fullclocks .entry)) r (partnerIn (meaning a)) in
         ⌜ Wrote (now (out .entry)) at (excusedFor line r excused (meaning a)) (now (out .exit)) to × (to ≤ at + lineRoom) ⌝ }
 {
-    match a {
-        Answer::Refused(number) => put_refused(out, at, line, number),
-        Answer::Accepted(_) => at,
-        Answer::Clear(number) => put_clear(out, at, number.0, r),
+    let j = match a {
+        Answer::Refused(number) => {
+            return put_refused(out, at, line, number);
+        }
+        Answer::Accepted(_) => {
+            return at;
+        }
+        Answer::Clear(number) => told(number.0, b"=clear  ", 6, 0),
         Answer::Race(number, partner) => {
             let x = excuse(control, last, fullclocks, r, partner);
-            put_race(out, at, number.0, r, x)
+            told_race(number.0, x)
         }
-        Answer::Doubt(number, partner) => put_access_line(
-            out,
-            at,
-            number.0,
-            r,
-            b"doubt",
-            partner.0,
-        ),
-    }
+        Answer::Doubt(number, partner) => told(number.0, b"=doubt  ", 6, partner.0),
+    };
+    put_access_line(out, at, r, j)
 }

@@ -1,6 +1,6 @@
 -- How long the lines of the report are: none is longer than 64 bytes. Assumes nothing.
-use mathlib.Core.Path.{_≡_, refl}
-use mathlib.Core.List.{List, _++_, append-assoc}
+use mathlib.Core.Path.{_≡_}
+use mathlib.Core.List.{List}
 use Prim.Native.Nat.{ℕ, _+_, _*_, _-_, _^_, _≤_, _<_}
 use native.Mathlib.Omega.{arith}
 use lib.ListN.{length, length-append}
@@ -22,11 +22,6 @@ pub length-access-line : (number task variable : ℕ) (verdict : List ℕ) (part
     → length (accessLine number task variable verdict partner) ≡ 31 + 2 * recordDigits + length (decimal task) + length (decimal variable) + length verdict
 unfolding accessLine lastDigits
 length-access-line number task variable verdict partner = simp length-append (omega (arith, length-access-part number task variable))
-
--- the partner of a Clear access is 0, so that its verdict's words and numbers are one word
-pub clear-line : (number task variable : ℕ) → accessLine number task variable (bytes "clear") 0 ≡ accessPart number task variable ++ bytes " verdict=clear with=0000000\n"
-unfolding accessLine lastDigits
-clear-line number task variable = simp append-assoc refl
 
 length-refused : (name : List ℕ) (line number : ℕ) → length (refusedAs name line number) ≡ 10 + length name + length (decimal line) + length (decimal number)
 unfolding refusedAs

@@ -10,8 +10,11 @@ pub mod RoundTrip
 pub mod EntryForm
 pub mod Places
 pub mod Ops
+pub mod Seven
 pub mod Short
+pub mod Tasks
 pub mod Wrote
+pub mod Words
 pub mod Lengths
 pub mod ReportExamples
 -- Texts in pieces, what the functions over them need, and the demand

@@ -135,9 +135,13 @@ only-sayable s r e = said s r e .can
 
 -- Kinds and their words
 
--- a test that each kind's word passes, by trying them
+-- a test that each number below n passes, by trying them
+pub each-below : (n : ℕ) (p : ℕ → Bool) → anyBelow n (λ k. not (p k)) ≡ false → (k : ℕ) → k < n → p k ≡ true
+each-below n p e k h = not-false (p k) (none-below n (λ k. not (p k)) e k h)
+
+-- and each kind's word
 pub each-kind : (p : ℕ → Bool) → anyBelow (length words) (λ k. not (p k)) ≡ false → (k : ℕ) → k < length words → p k ≡ true
-each-kind p e k h = not-false (p k) (none-below (length words) (λ k. not (p k)) e k h)
+each-kind = each-below (length words)
 
 pub op-kind : (k : ℕ) → k < length words → namedKind (opName ++ wordOf k) ≡ k
 unfolding turns namedKind placeOf isWord startsWith

@@ -3,7 +3,7 @@ use mathlib.Core.Path.{_≡_, refl, sym, ap, _∙_}
 use mathlib.Core.List.{List, [], _∷_, _++_, append-assoc}
 use Prim.Native.Nat.{ℕ, _+_, _<_}
 use native.Mathlib.Omega.{arith}
-use lib.ListN.{length, getD, take, drop, length-append, length-drop}
+use lib.ListN.{length, getD, drop, length-append, length-drop}
 use borrow.Author.Tests.{eqb-true}
 use lib.Dec.{eqb}
 use Rattle.theory.specs.order.Recording.{lossMark}
@@ -16,15 +16,9 @@ use Rattle.text.specs.Places.{StandsAt, FieldAt, OpAt}
 use Rattle.text.specs.Printing.{decimal}
 use Rattle.text.specs.Reading.{lineAt, nextAt}
 use Rattle.text.proofs.Bytes.{Without, without-append, index-seam, before-seam}
-use Rattle.text.proofs.Places.{says-split, says-both, says-last, says-byte}
+use Rattle.text.proofs.Places.{says-split, says-both, says-byte}
 use Rattle.text.proofs.Reading.{next-place}
 use Rattle.text.proofs.RoundTrip.{each-kind, decimal-whole, act-text, text-taken}
-
--- ` task=` by its first four bytes and its last four
-pub says-task : (s : List ℕ) (at : ℕ) → StandsAt s at (take 4 (space ∷ taskName)) → StandsAt s (at + 2) (drop 2 (space ∷ taskName)) → StandsAt s at (space ∷ taskName)
-says-task s at h k =
-    says-both s at (at + 4) (take 4 (space ∷ taskName)) (drop 4 (space ∷ taskName)) refl h
-    (says-last s (at + 2) (take 2 (drop 2 (space ∷ taskName))) (drop 4 (space ∷ taskName)) k (at + 4) (omega arith))
 
 -- a line and its LF stand at a place
 module _ (s : List ℕ) (at : ℕ) (w : List ℕ) (h : StandsAt s at (w ++ (lf ∷ []))) (d : Without lf w) where

@@ -14,6 +14,7 @@ pub mod EntryForm
 pub mod Entries
 pub mod TextKnown
 -- As memory: what is written, what answering promises, and how a reader moves
+pub mod Words
 pub mod Wrote
 pub mod Answers
 pub mod EntriesRead

@@ -2,7 +2,7 @@
 use mathlib.Core.Path.{_≡_}
 use Prim.Native.Nat.{ℕ, _+_, _^_, _<_}
 use mathlib.Core.Bool.{cond}
-use mathlib.Core.List.{List, _∷_, _++_}
+use mathlib.Core.List.{List, [], _∷_, _++_}
 use lib.ListN.{length, getD, take, drop}
 use lib.Dec.{eqb}
 use Rattle.text.specs.LineForm.{digits, words, opName, taskName, space, wordOf}
@@ -29,6 +29,10 @@ kindOpening k = opening (wordOf k)
 -- how many of them are the op's, which has six at least: those before the space
 abbrev pub opBytes : List ℕ → ℕ
 opBytes o = cond (eqb (getD o 6 0) space) 6 (cond (eqb (getD o 7 0) space) 7 8)
+
+-- the four bytes after the first four of ` task=T`: the rest of the name, T, and the space after it where there is room
+abbrev pub taskEnding : ℕ → List ℕ
+taskEnding n = take 4 (drop 4 (space ∷ taskName) ++ (decimal n ++ (space ∷ [])))
 
 -- the op of a kind stands there, in so many bytes
 pub record OpAt (s : List ℕ) (at k len : ℕ) : Type 0 where

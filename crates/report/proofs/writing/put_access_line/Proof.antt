@@ -2,60 +2,88 @@
 use native.Mathlib.Omega.{arith}
 use borrow.Author.Needs.{needs}
 use Rattle.text.specs.Printing.{lastDigits}
-use Rattle.text.specs.ReportLines.{accessLine}
-use Rattle.text.proofs.Wrote.{_then_}
-use Rattle.text.proofs.Lengths.{length-access-part, length-access-line}
+use Rattle.text.specs.Words.{bytesOf}
+use Rattle.text.proofs.Lengths.{length-access-part}
+use Rattle.text.proofs.Words.{line-covered}
 use Rattle.report.proofs.writing.put_access_line.Statement.{statement}
 use Rattle.report.proofs.writing.put_access_line.Tie as tie
 
 put-access-part-requires : tie.Need-put-access-part-requires
-unfolding lastDigits
+unfolding lastDigits bytesOf
 put-access-part-requires c κs =
-    let at-start = c .before .before .before in
-    let a = at-start .args in omega (arith, length-access-part (a .number) (a .r .task) (a .r .on), length-access-line (a .number) (a .r .task) (a .r .on) (a .verdict .now) (a .partner))
+    let start = c .before .before in
+    let a = start .args in omega (arith, start .pre .0, length-access-part (a .j .number) (a .r .task) (a .r .on))
 
 put-bytes-requires : tie.Need-put-bytes-requires
-unfolding lastDigits
+unfolding lastDigits bytesOf
 put-bytes-requires c κs =
-    let at-start = c .before .before .before .before .before .before .before .before in
-    let a = at-start .args in omega (arith, length-access-part (a .number) (a .r .task) (a .r .on), length-access-line (a .number) (a .r .task) (a .r .on) (a .verdict .now) (a .partner))
+    let start = c .before .before .before .before .before .before .before in
+    let a = start .args in omega (arith, start .pre .0, length-access-part (a .j .number) (a .r .task) (a .r .on))
+
+put-eight-requires : tie.Need-put-eight-requires
+unfolding lastDigits bytesOf
+put-eight-requires c κs =
+    let start = c .before .before .before .before .before .before .before .before .before .before .before in
+    let a = start .args in omega (arith, start .pre .0, length-access-part (a .j .number) (a .r .task) (a .r .on))
+
+add-put-bytes : tie.Need-add-put-bytes
+unfolding lastDigits bytesOf
+add-put-bytes c =
+    let start = c .before .before .before .before .before .before .before .before .before .before .before .before .before .before .before .before in
+    let a = start .args in omega (arith, start .pre .0, length-access-part (a .j .number) (a .r .task) (a .r .on))
 
 put-bytes-requires-2 : tie.Need-put-bytes-requires-2
-unfolding lastDigits
+unfolding lastDigits bytesOf
 put-bytes-requires-2 c κs =
-    let at-start = c .before .before .before .before .before .before .before .before .before .before .before .before in
-    let a = at-start .args in omega (arith, length-access-part (a .number) (a .r .task) (a .r .on), length-access-line (a .number) (a .r .task) (a .r .on) (a .verdict .now) (a .partner))
+    let start = c .before .before .before .before .before .before .before .before .before .before .before .before .before .before .before .before .before in
+    let a = start .args in omega (arith, start .pre .0, length-access-part (a .j .number) (a .r .task) (a .r .on))
+
+put-number-requires : tie.Need-put-number-requires
+unfolding lastDigits bytesOf
+put-number-requires c κs =
+    let start = c .before .before .before .before .before .before .before .before .before .before .before .before .before .before .before .before .before .before .before .before .before in
+    let a = start .args in omega (arith, start .pre .0, length-access-part (a .j .number) (a .r .task) (a .r .on))
 
 put-bytes-requires-3 : tie.Need-put-bytes-requires-3
-unfolding lastDigits
+unfolding lastDigits bytesOf
 put-bytes-requires-3 c κs =
-    let at-start = c .before .before .before .before .before .before .before .before .before .before .before .before .before .before .before .before .before in
-    let a = at-start .args in omega (arith, length-access-part (a .number) (a .r .task) (a .r .on), length-access-line (a .number) (a .r .task) (a .r .on) (a .verdict .now) (a .partner))
-
-put-record-requires : tie.Need-put-record-requires
-unfolding lastDigits
-put-record-requires c κs =
-    let at-start = c .before .before .before .before .before .before .before .before .before .before .before .before .before .before .before .before .before .before .before .before .before in
-    let a = at-start .args in omega (arith, length-access-part (a .number) (a .r .task) (a .r .on), length-access-line (a .number) (a .r .task) (a .r .on) (a .verdict .now) (a .partner))
-
-put-bytes-requires-4 : tie.Need-put-bytes-requires-4
-unfolding lastDigits
-put-bytes-requires-4 c κs = let a = c .before .before .before .before .before .before .before .before .before .before .before .before .before .before .before .before .before .before .before .before .before .before .before .before .before .before .args in omega (arith, length-access-part (a .number) (a .r .task) (a .r .on), length-access-line (a .number) (a .r .task) (a .r .on) (a .verdict .now) (a .partner))
+    let at-number = c .before .before .before .before in
+    let at-with = at-number .before .before .before .before in
+    let at-eight = at-with .before .before .before .before .before .before in
+    let at-word = at-eight .before .before .before .before in
+    let at-part = at-word .before .before .before .before .before in
+    let start = at-part .before .before .before in
+    let a = start .args in
+    omega (
+      arith,
+      start .pre .0,
+      at-part .put-access-part .ensures .place,
+      at-part .put-access-part .kept .0,
+      at-word .put-bytes .ensures .place,
+      at-word .put-bytes .kept .0,
+      at-eight .put-eight .kept .0,
+      at-with .put-bytes2 .ensures .place,
+      at-with .put-bytes2 .kept .0,
+      at-number .put-number .ensures .place,
+      at-number .put-number .kept .0,
+      length-access-part (a .j .number) (a .r .task) (a .r .on),
+    )
 
 returns : tie.Need-returns
-unfolding accessLine
 returns c =
     let f = c .before .before in
     let e = f .before .before .before .before .before in
     let d = e .before .before .before .before in
-    let b = d .before .before .before .before .before in
-    let a = b .before .before .before .before in
-    let z = a .before .before .before .before .before in
-    z .put-access-part .ensures then a .put-bytes .ensures then b .put-bytes2 .ensures then d .put-bytes3 .ensures
-    then e .put-record .ensures then f .put-bytes4 .ensures
+    let w = d .before .before .before .before .before .before in
+    let b = w .before .before .before .before in
+    let z = b .before .before .before .before .before in
+    let start = z .before .before .before in
+    let a = start .args in
+    λ verdict o. line-covered (a .j .number) (a .r .task) (a .r .on) verdict (a .j .partner) (a .j .word) (a .j .len) o (start .pre .1)
+    (z .put-access-part .ensures) (b .put-bytes .ensures) (w .put-eight .ensures) (d .put-bytes2 .ensures) (e .put-number .ensures) (f .put-bytes3 .ensures)
 
 pub put-access-line-spec : {M : Type 1} → statement M
 put-access-line-spec =
     tie.close (tie.spec
-    put-access-part-requires (λ c. search needs) put-bytes-requires put-bytes-requires-2 (λ c. search needs)
-    put-bytes-requires-3 put-record-requires (λ c. search needs) put-bytes-requires-4 (λ c. search needs) returns)
+    put-access-part-requires (λ c. search needs) put-bytes-requires put-eight-requires add-put-bytes (λ c. search needs) put-bytes-requires-2
+    put-number-requires (λ c. search needs) put-bytes-requires-3 (λ c. search needs) returns)

@@ -12,9 +12,9 @@ put-bytes-requires : tie.Need-put-bytes-requires
 unfolding lastDigits
 put-bytes-requires c κs = let a = c .before .before .before .args in omega (arith, length-access-part (a .number) (a .task) (a .variable))
 
-put-record-requires : tie.Need-put-record-requires
+put-number-requires : tie.Need-put-number-requires
 unfolding lastDigits
-put-record-requires c κs = let a = c .before .before .before .before .before .before .before .args in omega (arith, length-access-part (a .number) (a .task) (a .variable))
+put-number-requires c κs = let a = c .before .before .before .before .before .before .before .args in omega (arith, length-access-part (a .number) (a .task) (a .variable))
 
 put-bytes-requires-2 : tie.Need-put-bytes-requires-2
 unfolding lastDigits
@@ -49,11 +49,11 @@ returns c =
     let b = d .before .before .before .before in
     let a = b .before .before .before .before .before in
     let z = a .before .before .before .before in
-    z .put-bytes .ensures then a .put-record .ensures then b .put-bytes2 .ensures then d .put-decimal .ensures
+    z .put-bytes .ensures then a .put-number .ensures then b .put-bytes2 .ensures then d .put-decimal .ensures
     then e .put-bytes3 .ensures then f .put-decimal2 .ensures
 
 pub put-access-part-spec : {M : Type 1} → statement M
 put-access-part-spec =
     tie.close (tie.spec
-    (λ c. search needs) put-bytes-requires put-record-requires (λ c. search needs) put-bytes-requires-2
+    (λ c. search needs) put-bytes-requires put-number-requires (λ c. search needs) put-bytes-requires-2
     put-decimal-requires (λ c. search needs) put-bytes-requires-3 put-decimal-requires-2 (λ c. search needs) returns)
