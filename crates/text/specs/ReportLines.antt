@@ -9,12 +9,12 @@ use Rattle.theory.specs.declared.excuse.Excuse.{Excuse}
 use Rattle.theory.specs.verdicts.Verdict.{Verdict, Race, Clear, Doubt}
 use Rattle.theory.specs.feeding.Meaning.{Meaning, refuses, takes, judges, meaning}
 
--- which access it is: "rec=00002 task=0 var=5", by its record number, task and variable
+-- which access it is: "rec=0000002 task=0 var=5", by its record number, task and variable
 unfoldable pub accessPart : ℕ → ℕ → ℕ → List ℕ
 accessPart number task variable =
     bytes "rec=" ++ recordText number ++ bytes " task=" ++ decimal task ++ bytes " var=" ++ decimal variable
 
--- an accepted access: "rec=00002 task=0 var=5 verdict=clear with=00000", with the verdict's word and the partner's record number
+-- an accepted access: "rec=0000002 task=0 var=5 verdict=clear with=0000000", with the verdict's word and the partner's record number
 unfoldable pub accessLine : ℕ → ℕ → ℕ → List ℕ → ℕ → List ℕ
 accessLine number task variable verdict partner =
     accessPart number task variable ++ bytes " verdict=" ++ verdict ++ bytes " with=" ++ recordText partner ++ bytes "\n"
