@@ -15,6 +15,7 @@ pub mod ClockTables
 pub mod SetTables
 pub mod Ranges
 pub mod Onward
+pub mod HandOver
 pub mod Reckoned
 pub mod Masked
 pub mod Finds

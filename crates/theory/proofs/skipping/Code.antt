@@ -11,7 +11,7 @@ use lib.Dec.{eqb}
 use lib.ListN.{set}
 use Rattle.theory.specs.order.Recording.{Op, kind, lossMark}
 use Rattle.theory.specs.acceptance.Table.{Fitting}
-use Rattle.theory.specs.acceptance.Control.{gaveIn, skipsIn}
+use Rattle.theory.specs.acceptance.Control.{underIn, gaveIn, skipsIn}
 use Rattle.theory.specs.history.History.{lastAfter}
 use Rattle.theory.specs.tables.Reckonings.{clockMasks}
 use Rattle.theory.specs.feeding.Step.{answeredBy, clockKind}
@@ -23,7 +23,7 @@ module _ (control : List ℕ) (k task on : ℕ) where
   moved P p q = decided (skipsIn control k task on) refl
     where
       decided : (b : Bool) → skipsIn control k task on ≡ b → P (cond b (kind Op.miss) k)
-      decided true e = q (eqb-true k (kind Op.take) (and-elim-left (eqb k (kind Op.take)) (gaveIn control on task) e))
+      decided true e = q (eqb-true k (kind Op.take) (and-elim-left (eqb k (kind Op.take)) (underIn control && gaveIn control on task) e))
       decided false e = p
 
   pub moved-fits : Fitting k task on → Fitting (clockKind control k task on) task on

@@ -1,5 +1,5 @@
 -- Masks of 16 tasks, built from the highest bit down or summed from the lowest up. Assumes nothing.
-use mathlib.Core.Path.{_≡_, refl, sym, _∙_}
+use mathlib.Core.Path.{_≡_, refl, sym, _∙_, ap}
 use mathlib.Core.Bool.{Bool, true, false, not, _&&_}
 use Prim.Native.Nat.{ℕ, zero, suc, _+_, _*_, _-_, _^_, _/_, _%_, _≤_, _<_, zero-le, suc-le-suc, min}
 use native.Mathlib.Nat.{pow-suc, add-mul, mul-assoc, zero-mul}
@@ -208,6 +208,10 @@ all-sums {p} {u} s h l = s .is ∙ sums-all p u (omega arith)
 -- The mask as an "or" of weights that stand twice in a word, which the compiler makes vector code of: as a sum, or with single bits, it
 -- does not
 
+-- a mask in both halves of a word
+abbrev pub twice : ℕ → ℕ
+twice m = m * 2 ^ tasks + m
+
 pub record Gathered (p : ℕ → Bool) (u x : ℕ) : Type 0 where
   pub m : ℕ
   pub summed : Summed p u m
@@ -244,3 +248,7 @@ module _ {p : ℕ → Bool} where
       let room = sum-fits (g .summed) h in
       let low : x % 2 ^ tasks ≡ g .m = omega (arith, g .twice) in
       low ∙ all-sums (g .summed) h l
+
+  -- the whole word: it is empty only where the mask is
+  pub all-twice : {u x : ℕ} → Gathered p u x → u ≤ tasks → tasks ≤ u → x ≡ twice (maskOf p)
+  all-twice g h l = g .twice ∙ ap twice (all-sums (g .summed) h l)
