@@ -3,14 +3,18 @@
 // fullest filling.
 use crate::bools::both;
 use crate::bools::either;
-use crate::history::ask_at;
+use crate::bools::picked;
+use crate::history::asks_of;
 use crate::history::slot;
+use crate::masks::Words;
 use crate::masks::added_weight;
 use crate::masks::lower_half;
 use crate::rows::acquired_row;
 use crate::rows::acted_after;
 use crate::rows::has_bit;
+use crate::rows::is_release;
 use crate::rows::named_row;
+use crate::rows::object_row;
 use crate::rows::released_by;
 use crate::rows::released_row;
 use crate::rows::semaphore_row;
@@ -31,7 +35,8 @@ use theory::TASKS;
 use theory::Task;
 use theory::Variable;
 ghost use mathlib.Core.Path.{_≡_};
-ghost use Prim.Native.Nat.{_<_, _≤_, _+_, _%_, _^_, max};
+ghost use mathlib.Core.Bool.{true, false};
+ghost use Prim.Native.Nat.{_<_, _≤_, _+_, max};
 ghost use lib.Dec.{ltb};
 ghost use lib.ListN.{getD};
 ghost use Rattle.theory.specs.order.Limits.{tasks};
@@ -42,6 +47,8 @@ ghost use Rattle.theory.specs.tables.Rows.{anyNewer, actedRow, cellCount, cell,
 ghost use Rattle.theory.specs.tables.Joining.{acquiredBy, afterAcquiring};
 ghost use Rattle.theory.specs.tables.Reckonings.{clockOwn, maskOf, clockMask, masksBy};
 ghost use Rattle.theory.proofs.history.Accesses.{OfAccess};
+ghost use Rattle.theory.proofs.tables.Bits.{twice};
+ghost use Rattle.theory.proofs.tables.HandOver.{HandsOver};
 
 // Where the row of what has acted begins.
 const FIRST_ACTED: usize = ACTED * COLUMNS;
@@ -245,6 +252,23 @@ pub(crate) fn pass_on(cells: &mut Clocks, asked: bool, kind: u8, task: Task, on:
     );
 }
 
+// Order over a take, give, look or set, in both tables: of the task's row and its object's the one is joined with the other, and what is released in the
+// fullest filling comes to the hub as well. Which row is which is picked without a branch; where nothing is released, the hub is joined with itself.
+pub(crate) fn hand_over(clocks: &mut Clocks, fullclocks: &mut Clocks, kind: u8, task: Task, on: u32)
+    requires { ⌜ HandsOver kind × Fitting kind (task .0) on ⌝ }
+    ensures { λ _. ⌜ (now (clocks .exit) ≡ onward max tasks false kind (task .0) on (now (clocks .entry)))
+        × (now (fullclocks .exit) ≡ onward max tasks true kind (task .0) on (now (fullclocks .entry))) ⌝ }
+{
+    let own = task_row(task);
+    let object = object_row(kind, on);
+    let releases = is_release(kind);
+    let to = picked(releases, object, own);
+    let from = picked(releases, own, object);
+    join_newer(clocks, to, from);
+    join_newer(fullclocks, to, from);
+    join_newer(fullclocks, HUB, picked(releases, own, HUB));
+}
+
 // An act's own part: the task's own cell is the act's number, and the task has acted.
 pub(crate) fn own(cells: &mut Clocks, task: Task, number: RecordNumber)
     requires { ⌜ task .0 < tasks ⌝ }
@@ -259,7 +283,7 @@ pub(crate) fn own(cells: &mut Clocks, task: Task, number: RecordNumber)
 // does: the tasks whose latest conflicting access the row does not know. The loop is over columns, which are the tasks by their numbers.
 fn mask(cells: &Clocks, last: &History, row: usize, from: usize) -> u32
     requires { ⌜ (row + tasks ≤ cellCount tasks) × (from + tasks ≤ slots) ⌝ }
-    ensures { λ r. ⌜ r % 2 ^ tasks ≡ maskOf (λ u. ltb (getD (now (cells .entry)) (row + u) 0) (getD (now (last .entry)) (from + u) 0)) ⌝ }
+    ensures { λ r. ⌜ r ≡ twice (maskOf (λ u. ltb (getD (now (cells .entry)) (row + u) 0) (getD (now (last .entry)) (from + u) 0))) ⌝ }
 {
     let mut x: u32 = 0;
     let mut c: usize = 0;
@@ -270,7 +294,28 @@ fn mask(cells: &Clocks, last: &History, row: usize, from: usize) -> u32
     x
 }
 
-// The masks of the tasks whose latest conflicting access has no path to this access.
+// The masks of the tasks whose latest conflicting access has no path to this access, as words.
+pub(crate) fn clock_words(
+    clocks: &Clocks,
+    fullclocks: &Clocks,
+    last: &History,
+    kind: u8,
+    task: Task,
+    v: Variable,
+) -> Words
+    requires { ⌜ OfAccess kind (task .0) (v .0) ⌝ }
+    ensures { λ r. ⌜ (r .full ≡ twice (clockMask (now (fullclocks .entry)) (now (last .entry)) kind (task .0) (v .0)))
+        × (r .arrived ≡ twice (clockMask (now (clocks .entry)) (now (last .entry)) kind (task .0) (v .0))) ⌝ }
+{
+    let row = task_row(task) * COLUMNS;
+    let from = slot(asks_of(kind), v, Task(0));
+    Words {
+        full: mask(fullclocks, last, row, from),
+        arrived: mask(clocks, last, row, from),
+    }
+}
+
+// The same as masks.
 pub(crate) fn clock_masks(
     clocks: &Clocks,
     fullclocks: &Clocks,
@@ -283,11 +328,10 @@ pub(crate) fn clock_masks(
     ensures { λ r. ⌜ r ≡ masksBy (clockMask (now (fullclocks .entry)) (now (last .entry)) kind (task .0) (v .0))
         (clockMask (now (clocks .entry)) (now (last .entry)) kind (task .0) (v .0)) ⌝ }
 {
-    let row = task_row(task) * COLUMNS;
-    let from = slot(ask_at(kind), v, Task(0));
+    let words = clock_words(clocks, fullclocks, last, kind, task, v);
     Masks {
-        full: lower_half(mask(fullclocks, last, row, from)),
-        arrived: lower_half(mask(clocks, last, row, from)),
+        full: lower_half(words.full),
+        arrived: lower_half(words.arrived),
     }
 }
 
@@ -297,7 +341,7 @@ pub(crate) fn clock_mask(cells: &Clocks, last: &History, kind: u8, task: Task, v
     ensures { λ r. ⌜ r ≡ clockMask (now (cells .entry)) (now (last .entry)) kind (task .0) (v .0) ⌝ }
 {
     let row = task_row(task) * COLUMNS;
-    let from = slot(ask_at(kind), v, Task(0));
+    let from = slot(asks_of(kind), v, Task(0));
     lower_half(mask(cells, last, row, from))
 }
 

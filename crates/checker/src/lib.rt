@@ -7,6 +7,7 @@ mod columns;
 mod control;
 mod counters;
 mod entries;
+mod fast_steps;
 mod following;
 mod history;
 mod lazy;

@@ -2,9 +2,9 @@
 use mathlib.Core.Path.{_≡_, refl, sym, _∙_, ap, subst}
 use mathlib.Core.Bool.{Bool, true, false, cond, not, _&&_, true≢false}
 use mathlib.Core.List.{List}
-use Prim.Native.Nat.{ℕ, zero, suc, _≤_, _<_}
+use Prim.Native.Nat.{ℕ, zero, suc, _-_, _≤_, _<_}
 use native.Mathlib.Omega.{arith}
-use lib.Dec.{eqb}
+use lib.Dec.{eqb, lit<}
 use lib.ListN.{length, set}
 use lib.Seq.{set-set}
 use Rattle.theory.specs.order.Limits.{tasks, variables}
@@ -67,16 +67,22 @@ accessing k e = decided (equal k (kind read)) (equal k (kind write)) (equal k (k
     decided (wrong _) (wrong _) (right q) = subst Accessing (sym q) a-bump
     decided (wrong x) (wrong y) (wrong z) = absurd (true≢false (sym e ∙ no-access-else k (x, (y, (z, tt)))))
 
+-- each is over the variables
+pub access-series : {k : ℕ} → Accessing k → kindSeries k ≡ variables
+access-series a-read = refl
+access-series a-write = refl
+access-series a-bump = refl
+
 -- the number of a kind among them, by its own number: the last of them comes after other kinds
-pub asks-own : {k : ℕ} → Accessing k → k < kind bump → k ≡ askAt k
-asks-own a-read h = refl
-asks-own a-write h = refl
+pub asks-own : {k : ℕ} → Accessing k → k < kind bump → (k ≡ askAt k) × (k < length askers)
+asks-own a-read h = (refl, lit< tt)
+asks-own a-write h = (refl, lit< tt)
 asks-own a-bump h = absurd (omega arith)
 
-pub asks-last : {k : ℕ} → Accessing k → kind bump ≤ k → 2 ≡ askAt k
+pub asks-last : {k : ℕ} → Accessing k → kind bump ≤ k → (length askers - 1 ≡ askAt k) × (length askers - 1 < length askers)
 asks-last a-read h = absurd (omega arith)
 asks-last a-write h = absurd (omega arith)
-asks-last a-bump h = refl
+asks-last a-bump h = (refl, lit< tt)
 
 -- where it is kept when the kind with number a is at hand, without asking whether it clashes with that: a kind that does not clash with itself is kept
 -- under a write once more, with which every access clashes

@@ -9,7 +9,7 @@ use native.Mathlib.Omega.{arith}
 use borrow.Author.Tests.{eqb-true}
 use lib.Dec.{eqb}
 use lib.ListN.{set}
-use Rattle.theory.specs.order.Recording.{Op, kind, lossMark}
+use Rattle.theory.specs.order.Recording.{Op, kind, lossMark, accesses}
 use Rattle.theory.specs.acceptance.Table.{Fitting}
 use Rattle.theory.specs.acceptance.Control.{underIn, gaveIn, skipsIn}
 use Rattle.theory.specs.history.History.{lastAfter}
@@ -31,6 +31,9 @@ module _ (control : List ℕ) (k task on : ℕ) where
 
   pub moved-act : k ≢ lossMark → clockKind control k task on ≢ lossMark
   moved-act n = moved (λ m. m ≢ lossMark) n (λ e q. omega arith)
+
+  pub moved-plain : accesses k ≡ false → accesses (clockKind control k task on) ≡ false
+  moved-plain n = moved (λ m. accesses m ≡ false) n (λ e. refl)
 
   pub moved-answer : (clocks fullclocks last : List ℕ) (n : ℕ) →
       answeredBy last (clockKind control k task on) on n (clockMasks clocks fullclocks last (clockKind control k task on) task on)

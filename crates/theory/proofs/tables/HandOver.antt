@@ -62,6 +62,11 @@ object-fits a-give f = let h = f .on-fits in omega arith
 object-fits a-look f = let h = f .on-fits in omega arith
 object-fits a-set f = let h = f .on-fits in omega arith
 
+-- a row that is picked is in the table if both are
+pub picked-fits : (b : Bool) (x y : ℕ) {z m : ℕ} → z ≡ cond b x y → x ≤ m → y ≤ m → z ≤ m
+picked-fits true x y e h l = omega (arith, e)
+picked-fits false x y e h l = omega (arith, e)
+
 -- Order over them
 
 module _ {j : ℕ → ℕ → ℕ} (same : Same j) (w t : ℕ) (h : t < tasks) where

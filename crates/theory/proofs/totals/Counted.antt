@@ -2,15 +2,17 @@
 use mathlib.Core.Path.{_≡_, refl, _∙_, ap}
 use mathlib.Core.Bool.{Bool, true, false, cond, not}
 use mathlib.Core.List.{List}
-use Prim.Native.Nat.{ℕ}
+use Prim.Native.Nat.{ℕ, _+_, _<_}
+use native.Mathlib.Omega.{arith}
 use lib.Dec.{eqb}
 use lib.ListN.{getD, set}
 use lib.Seq.{set-getD}
+use Rattle.theory.specs.order.Limits.{variables}
 use Rattle.theory.specs.verdicts.Verdict.{Verdict, Race, Clear, Doubt}
 use Rattle.theory.specs.feeding.Meaning.{meaning}
 use Rattle.theory.specs.feeding.Step.{answerByTests, answerByMasks}
 use Rattle.theory.specs.tables.Counters.{oneMore, raise}
-use Rattle.theory.specs.totals.Totals.{racesAt, totalAt, withVerdict, totalled}
+use Rattle.theory.specs.totals.Totals.{racesAt, totalAt, controlCells, withVerdict, totalled}
 
 -- some task is apart in the fullest filling, and as it arrived
 abbrev pub verdictBy : Bool → Bool → Verdict
@@ -27,6 +29,15 @@ told-verdict last k on number full arrived v control = decided (eqb full 0) (eqb
     decided false b = refl
     decided true false = refl
     decided true true = refl
+
+-- where it counts, by the first places
+abbrev pub totalsFrom : Bool → Bool → ℕ
+totalsFrom race doubt = cond race (totalAt Race 0) (cond doubt (totalAt Doubt 0) (totalAt Clear 0))
+
+pub counts-at : (race doubt : Bool) {x v : ℕ} → x ≡ totalsFrom race doubt → v < variables → (x + v ≡ totalAt (verdictBy race doubt) v) × (x + v < controlCells)
+counts-at true doubt e h = (omega (arith, e), omega (arith, e))
+counts-at false true e h = (omega (arith, e), omega (arith, e))
+counts-at false false e h = (omega (arith, e), omega (arith, e))
 
 -- its own total, and the Races' where it is one; else that cell is as it was
 pub counted-by : (race doubt : Bool) (v : ℕ) (control : List ℕ) {x : List ℕ} → x ≡ raise (totalAt (verdictBy race doubt) v) control →
