@@ -107,7 +107,7 @@ pub(crate) fn count(control: &mut Control)
 }
 
 // One more accepted record, by which a cell gets a value: a phase, a holder, a giver, or the profile.
-fn enter(control: &mut Control, i: usize, value: u32)
+fn note_value(control: &mut Control, i: usize, value: u32)
     requires { ⌜ (i < acceptanceCells) × (i ≢ countAt) × (countIn (now control) < records) ⌝ }
     ensures { λ _. ⌜ now (control .exit) ≡ counted (set (now (control .entry)) i value) ⌝ }
 {
@@ -126,10 +126,10 @@ fn note_take(control: &mut Control, s: Semaphore, t: Task)
     }
     if gave(control, s, t) {
         raise(control, SKIPPED);
-        enter(control, HOLDERS + s.0 as usize, t.0 + 1);
+        note_value(control, HOLDERS + s.0 as usize, t.0 + 1);
         return;
     }
-    enter(control, HOLDERS + s.0 as usize, t.0 + 1);
+    note_value(control, HOLDERS + s.0 as usize, t.0 + 1);
 }
 
 // One more accepted record, a give. Under the profile nobody holds the semaphore, and its task is the last giver.
@@ -139,7 +139,7 @@ fn note_give(control: &mut Control, s: Semaphore, t: Task)
 {
     if is_under(control) {
         control[HOLDERS + s.0 as usize] = FREE;
-        enter(control, GIVERS + s.0 as usize, t.0 + 1);
+        note_value(control, GIVERS + s.0 as usize, t.0 + 1);
         return;
     }
     count(control);
@@ -151,11 +151,11 @@ pub(crate) fn note(control: &mut Control, kind: u8, task: u32, on: u32)
     ensures { λ _. ⌜ now (control .exit) ≡ controlAfter kind task on (now (control .entry)) ⌝ }
 {
     match kind {
-        START => enter(control, on as usize, LIVE),
-        JOIN => enter(control, on as usize, ENDED),
+        START => note_value(control, on as usize, LIVE),
+        JOIN => note_value(control, on as usize, ENDED),
         TAKE => note_take(control, Semaphore(on), Task(task)),
         GIVE => note_give(control, Semaphore(on), Task(task)),
-        OWNED => enter(control, PROFILE, UNDER),
+        OWNED => note_value(control, PROFILE, UNDER),
         _ => count(control),
     }
 }

@@ -28,12 +28,12 @@ ghost use lib.Bits.{bitAnd};
 ghost use Rattle.theory.specs.order.Limits.{tasks, variables, entries};
 ghost use Rattle.theory.specs.order.Recording.{accesses};
 ghost use Rattle.theory.specs.totals.Totals.{controlCells};
-ghost use Rattle.theory.specs.entries.Table.{pairedAt, takenIn, marked, pairs, full, entered, pairInRange, enters, afterEntry, accessInRange, openTasks, excuseOpen, excuseBy};
+ghost use Rattle.theory.specs.entries.Table.{pairedAt, entryCount, marked, pairs, entriesFull, entered, pairInRange, enters, afterEntry, accessInRange, openTasks, excuseOpen, excuseBy};
 ghost use Rattle.theory.proofs.history.Accesses.{OfAccess};
 
 // Whether as many entries were taken in as there is room for.
 pub fn entries_full(control: &Control) -> bool
-    ensures { λ r. ⌜ r ≡ full (now (control .entry)) ⌝ }
+    ensures { λ r. ⌜ r ≡ entriesFull (now (control .entry)) ⌝ }
 {
     !(control[ENTRIES] < ENTRIES_MOST)
 }
@@ -69,7 +69,7 @@ fn pair(control: &mut Control, accepted: bool, v: Variable, t: Task, u: Task)
 
 // An entry is taken in: the two tasks are paired whichever of them acts, and it is counted.
 fn take_in(control: &mut Control, v: Variable, low: Task, high: Task, accepted: bool)
-    requires { ⌜ (v .0 < variables) × (low .0 < tasks) × (high .0 < tasks) × (takenIn (now control) < entries) ⌝ }
+    requires { ⌜ (v .0 < variables) × (low .0 < tasks) × (high .0 < tasks) × (entryCount (now control) < entries) ⌝ }
     ensures { λ _. ⌜ now (control .exit) ≡ entered (v .0) (low .0) (high .0) accepted (now (control .entry)) ⌝ }
 {
     let taken = control[ENTRIES];

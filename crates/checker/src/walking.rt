@@ -131,7 +131,7 @@ fn access(
 }
 
 // A fresh of it: nothing is followed any more.
-fn emptied(walk: Walk) -> Walk
+fn unfollowed(walk: Walk) -> Walk
     ensures { λ r. ⌜ r ≡ walkOf 0 (walk .acted) 0 (walk .walked) ⌝ }
 {
     Walk {
@@ -160,7 +160,7 @@ fn other_act(
         return walk;
     }
     if kind == FRESH {
-        return emptied(walk);
+        return unfollowed(walk);
     }
     if is_access(kind) {
         return access(nodes, counts, walk, q, kind, task);

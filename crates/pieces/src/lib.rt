@@ -15,7 +15,7 @@ ghost use lib.ListN.{length};
 ghost use lib.Seq.{sets as written};
 ghost use Rattle.theory.specs.feeding.Lent.{tables};
 ghost use Rattle.text.specs.Stream.{pendingIn, pieceSaid, pieceKept};
-ghost use Rattle.text.specs.Entries.{entries};
+ghost use Rattle.text.specs.Entries.{entryReader};
 ghost use Rattle.text.specs.Pieces.{fromMemory, fits, saidIn, afterPiece};
 ghost use Rattle.pieces.specs.Begun.{begun, progressNumbers};
 
@@ -69,8 +69,8 @@ pub extern "C" fn order_entries(
 ) -> u64
     ensures { λ n. let from = begun (now (progress .entry)) in
         let k = pendingIn (now (control .entry)) from (now (held .entry)) in
-        let said = pieceSaid entries k (now (piece .entry)) in
-        let after = pieceKept entries k (now (piece .entry)) in
+        let said = pieceSaid entryReader k (now (piece .entry)) in
+        let after = pieceKept entryReader k (now (piece .entry)) in
         let taken = fits (length (now (report .entry))) (length (now (piece .entry))) (now (held .entry)) from in
         ⌜ (n ≡ cond taken (length said) (2 ^ 64 - 1))
         × (now (report .exit) ≡ cond taken (written (now (report .entry)) 0 said) (now (report .entry)))

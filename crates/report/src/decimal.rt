@@ -3,7 +3,7 @@ use text::Number;
 ghost use mathlib.Core.Path.{_≡_};
 ghost use Prim.Native.Nat.{_≤_, _<_};
 ghost use lib.ListN.{length};
-ghost use Rattle.text.specs.EntryForm.{recordWide, readRecord};
+ghost use Rattle.text.specs.EntryForm.{recordWide, readRecordNumber};
 ghost use Rattle.text.specs.LineForm.{isDigit, isPlain, readDigits, readDecimal};
 ghost use Rattle.text.specs.Printing.{recordDigits};
 
@@ -97,8 +97,8 @@ fn record_wide(k: usize) -> bool
 }
 
 // What a part of a line says as a record number.
-pub(crate) fn read_record(s: &[u8]) -> Number
-    ensures { λ r. ⌜ r ≡ readRecord (now (s .entry)) ⌝ }
+pub(crate) fn read_record_number(s: &[u8]) -> Number
+    ensures { λ r. ⌜ r ≡ readRecordNumber (now (s .entry)) ⌝ }
 {
     if record_wide(s.len()) {
         return read_digits(s);

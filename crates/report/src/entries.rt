@@ -23,10 +23,10 @@ ghost use Rattle.theory.specs.feeding.Lent.{seen};
 ghost use Rattle.text.specs.Lines.{lineRoom};
 ghost use Rattle.text.specs.Wrote.{Wrote};
 ghost use Rattle.text.specs.Stream.{pendingIn, pieceSaid, pieceKept, progressTo};
-ghost use Rattle.text.specs.Pieces.{fits, refused};
+ghost use Rattle.text.specs.Pieces.{fits, pieceRefused};
 ghost use Rattle.text.specs.Answers.{PieceFits};
 ghost use Rattle.text.specs.EntryForm.{entryOf};
-ghost use Rattle.text.specs.Entries.{saidForEntry, controlWith, entries};
+ghost use Rattle.text.specs.Entries.{saidForEntry, controlWith, entryReader};
 ghost use Rattle.text.specs.EntriesRead.{EntriesFit, EntriesRead, EntriesAnswered};
 
 // Takes the entry of a line in, or writes why not: refusal 12 is looked at first.
@@ -127,9 +127,9 @@ pub fn entries_piece(
 ) -> Progress
     ensures { λ r. let taken = fits (length (now (out .entry))) (length (now (piece .entry))) (now (held .entry)) begun in
         let before = pendingIn (now (control .entry)) begun (now (held .entry)) in
-        let after = pieceKept entries before (now (piece .entry)) in
-        ⌜ (r ≡ cond taken (progressTo entries before (begun .at) (now (piece .entry))) (refused begun))
-        × (now (out .exit) ≡ cond taken (written (now (out .entry)) (begun .at) (pieceSaid entries before (now (piece .entry)))) (now (out .entry)))
+        let after = pieceKept entryReader before (now (piece .entry)) in
+        ⌜ (r ≡ cond taken (progressTo entryReader before (begun .at) (now (piece .entry))) (pieceRefused begun))
+        × (now (out .exit) ≡ cond taken (written (now (out .entry)) (begun .at) (pieceSaid entryReader before (now (piece .entry)))) (now (out .entry)))
         × (now (control .exit) ≡ cond taken (after .state) (now (control .entry)))
         × (now (held .exit) ≡ cond taken (written (now (held .entry)) 0 (after .held)) (now (held .entry))) ⌝ }
 {

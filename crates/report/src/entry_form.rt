@@ -1,5 +1,5 @@
 // A line as an entry of the faults already accepted: `rec=DDDDDDD var=V low=A high=B mark=accepted`, or `.. mark=open`.
-use crate::decimal::read_record;
+use crate::decimal::read_record_number;
 use crate::parsing::past;
 use crate::scan::place_of;
 use crate::words::SPACE;
@@ -13,7 +13,7 @@ use theory::RECORDS;
 use theory::TASKS;
 use theory::VARIABLES;
 ghost use mathlib.Core.Path.{_≡_};
-ghost use Rattle.text.specs.EntryForm.{afterSpaces, wordAfter, recordOf, inRange, withinRange, markedBy, entryOf};
+ghost use Rattle.text.specs.EntryForm.{afterSpaces, wordAfter, recordField, inRange, withinRange, markedBy, entryOf};
 ghost use Rattle.text.specs.LineForm.{fieldOf};
 
 // What follows the first k spaces; nothing where there are fewer.
@@ -47,10 +47,10 @@ fn word_field(line: &[u8], k: usize, name: &[u8]) -> Number
 
 // The number of a field `rec=DDDDD` or `rec=DDDDDDD`.
 fn record_number(s: &[u8]) -> Number
-    ensures { λ r. ⌜ r ≡ recordOf (now (s .entry)) ⌝ }
+    ensures { λ r. ⌜ r ≡ recordField (now (s .entry)) ⌝ }
 {
     if starts_with(b"rec=", s) {
-        return read_record(&s[4..]);
+        return read_record_number(&s[4..]);
     }
     Number::Nothing
 }

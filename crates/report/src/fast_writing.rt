@@ -6,7 +6,7 @@ ghost use mathlib.Core.Path.{_≡_};
 ghost use mathlib.Core.List.{_++_};
 ghost use lib.ListN.{length};
 ghost use Rattle.text.specs.Printing.{bytes, recordText};
-ghost use Rattle.text.specs.Words.{bytesOf, pairsOf, numberWord};
+ghost use Rattle.text.specs.Words.{bytesOf, digitPairs, numberWord};
 ghost use Rattle.text.specs.Wrote.{Wrote};
 
 // The bytes of a number, the first counting least.
@@ -28,7 +28,7 @@ pub(crate) fn put_eight(out: &mut [u8], at: usize, w: u64) -> usize
 // The digits of a number in four pairs, 16 bits for each. Both halves of four digits are divided by 100 at once, as a product that leaves each its room.
 fn in_pairs(n: u64) -> u64
     requires { ⌜ n < 10_000_000 ⌝ }
-    ensures { λ r. ⌜ r ≡ pairsOf n ⌝ }
+    ensures { λ r. ⌜ r ≡ digitPairs n ⌝ }
 {
     let halves = n / 10_000 + n % 10_000 * 4_294_967_296;
     let q = halves * 5243 / 524_288;

@@ -20,7 +20,7 @@ ghost use Rattle.theory.specs.feeding.Lent.{seen, tables};
 ghost use Rattle.text.specs.Lines.{lineEnd};
 ghost use Rattle.text.specs.LineForm.{parseOf};
 ghost use Rattle.text.specs.Reading.{LastLf};
-ghost use Rattle.text.specs.Pieces.{heldMost, fromMemory, saidIn, afterPiece, progressAfter, holdsOpen, fits, refused};
+ghost use Rattle.text.specs.Pieces.{heldMost, fromMemory, saidIn, afterPiece, progressAfter, holdsOpen, fits, pieceRefused};
 ghost use Rattle.text.specs.Answers.{LineAnswered, PieceFits, EndedAnswered, PieceAnswered};
 
 fn least(a: usize, b: usize) -> usize
@@ -223,7 +223,7 @@ pub fn report_piece(
         let taken = fits (length (now (out .entry))) (length (now (piece .entry))) (now (held .entry)) begun in
         let before = fromMemory (state .entry) begun (now (held .entry)) in
         let after = afterPiece before (now (piece .entry)) in
-        ⌜ (r ≡ cond taken (progressAfter before (begun .at) (now (piece .entry))) (refused begun))
+        ⌜ (r ≡ cond taken (progressAfter before (begun .at) (now (piece .entry))) (pieceRefused begun))
         × (now (out .exit) ≡ cond taken (written (now (out .entry)) (begun .at) (saidIn before (now (piece .entry)))) (now (out .entry)))
         × (state .exit ≡ cond taken (after .state) (state .entry))
         × (now (held .exit) ≡ cond taken (written (now (held .entry)) 0 (after .held)) (now (held .entry))) ⌝ }

@@ -5,7 +5,8 @@ ghost use mathlib.Core.Bool.{cond};
 ghost use Prim.Native.Nat.{_<_, _≤_};
 ghost use Rattle.theory.specs.order.Limits.{tasks};
 ghost use Rattle.theory.specs.fillings.Completion.{bit};
-ghost use Rattle.settle.specs.Table.{raised, raisedAt, tallied};
+ghost use Rattle.theory.specs.tables.Counters.{oneMore, raise};
+ghost use Rattle.settle.specs.Table.{tallied};
 
 // One for each task, and one for all.
 pub(crate) const ALL: usize = TASKS as usize;
@@ -14,19 +15,19 @@ pub(crate) const TALLIES: usize = ALL + 1;
 
 pub(crate) type Tallies = [u32; TALLIES];
 
-// A count one higher, unless it is at its end.
-fn raised(n: u32) -> u32
-    ensures { λ r. ⌜ r ≡ raised n ⌝ }
+// One more; at the end of its range a count stays.
+fn one_more(n: u32) -> u32
+    ensures { λ r. ⌜ r ≡ oneMore n ⌝ }
 {
     if n < u32::MAX { n + 1 } else { n }
 }
 
 // The same in the table.
-fn raise_at(tallies: &mut Tallies, i: usize)
+fn raise(tallies: &mut Tallies, i: usize)
     requires { ⌜ i ≤ tasks ⌝ }
-    ensures { λ _. ⌜ now (tallies .exit) ≡ raisedAt i (now (tallies .entry)) ⌝ }
+    ensures { λ _. ⌜ now (tallies .exit) ≡ raise i (now (tallies .entry)) ⌝ }
 {
-    tallies[i] = raised(tallies[i]);
+    tallies[i] = one_more(tallies[i]);
 }
 
 // Whether a task is in a mask.
@@ -40,10 +41,10 @@ pub(crate) fn has(mask: u16, t: u32) -> bool
 // Counts a Doubt for a task, if that is in the mask.
 fn count_task(tallies: &mut Tallies, mask: u16, t: u32)
     requires { ⌜ t < tasks ⌝ }
-    ensures { λ _. ⌜ now (tallies .exit) ≡ cond (bit mask t) (raisedAt t (now (tallies .entry))) (now (tallies .entry)) ⌝ }
+    ensures { λ _. ⌜ now (tallies .exit) ≡ cond (bit mask t) (raise t (now (tallies .entry))) (now (tallies .entry)) ⌝ }
 {
     if has(mask, t) {
-        raise_at(tallies, t as usize);
+        raise(tallies, t as usize);
         return;
     }
 }
@@ -53,7 +54,7 @@ pub(crate) fn tally(tallies: &mut Tallies, doubt: bool, mask: u16)
     ensures { λ _. ⌜ now (tallies .exit) ≡ tallied doubt mask (now (tallies .entry)) ⌝ }
 {
     if doubt {
-        raise_at(tallies, ALL);
+        raise(tallies, ALL);
         let mut t: u32 = 0;
         while t < TASKS {
             count_task(tallies, mask, t);

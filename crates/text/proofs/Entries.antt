@@ -4,16 +4,16 @@ use mathlib.Core.List.{List}
 use Prim.Native.Nat.{ℕ}
 use Rattle.text.specs.Stream.{HeldEnough, CutsAlike}
 use Rattle.text.specs.EntryForm.{entryOf}
-use Rattle.text.specs.Entries.{saidForEntry, controlWith, entries}
+use Rattle.text.specs.Entries.{saidForEntry, controlWith, entryReader}
 use Rattle.text.proofs.Stream.{held-same, cuts-alike}
 use Rattle.text.proofs.EntryForm.{long-entry}
 
-pub entries-held : HeldEnough entries
+pub entries-held : HeldEnough entryReader
 entries-held =
     record {
       same-said = λ n control l. ap (saidForEntry n control) (held-same entryOf long-entry l);
       same-next = λ control l. ap (controlWith control) (held-same entryOf long-entry l);
     }
 
-pub entries-cut : CutsAlike entries
-entries-cut = cuts-alike entries entries-held
+pub entries-cut : CutsAlike entryReader
+entries-cut = cuts-alike entryReader entries-held

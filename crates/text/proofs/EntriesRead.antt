@@ -10,7 +10,7 @@ use lib.ListN.{length, take, getD, length-append, length-take}
 use lib.Seq.{sets, length-sets, take-suc, take-all}
 use borrow.Author.Tests.{eq-eqb, ne-eqb}
 use Rattle.theory.specs.feeding.Lent.{Twice}
-use Rattle.theory.specs.entries.Table.{full, entered, pairInRange}
+use Rattle.theory.specs.entries.Table.{entriesFull, entered, pairInRange}
 use Rattle.text.specs.declared.entry.Entry.{Entry}
 use Rattle.text.specs.declared.entry.EntryLine.{EntryLine}
 use Rattle.text.specs.declared.progress.Progress.{Progress}
@@ -19,7 +19,7 @@ use Rattle.text.specs.Wrote.{Wrote}
 use Rattle.text.specs.EntryForm.{entryOf}
 use Rattle.text.specs.Stream.{Pending, pending, heldMost, byteSaid, byteKept, pieceSaid, pieceKept, pendingIn, progressTo}
 use Rattle.text.specs.ReportLines.{refusedEntry}
-use Rattle.text.specs.Entries.{saidForEntry, controlWith, entries}
+use Rattle.text.specs.Entries.{saidForEntry, controlWith, entryReader}
 use Rattle.text.specs.Answers.{PieceFits}
 use Rattle.text.specs.EntriesRead.{EntriesFit, EntriesRead, EntriesAnswered}
 use Rattle.text.proofs.Wrote.{_then_, wrote-nothing, front, as-long}
@@ -29,7 +29,7 @@ use Rattle.text.proofs.Held.{front-held}
 
 -- An entry
 
-full-kept : (control : List ℕ) (e : Entry) → full control ≡ true → controlWith control (EntryLine.Entry e) ≡ control
+full-kept : (control : List ℕ) (e : Entry) → entriesFull control ≡ true → controlWith control (EntryLine.Entry e) ≡ control
 full-kept control e h = rw h (none (pairInRange (e .var) (e .low) (e .high)))
   where
     none : (b : Bool) → cond (b && false) (entered (e .var) (e .low) (e .high) (e .accepted) control) control ≡ control
@@ -37,12 +37,12 @@ full-kept control e h = rw h (none (pairInRange (e .var) (e .low) (e .high)))
     none false = refl
 
 -- one for which there is no room is left out
-pub left-out : (n : ℕ) (control : List ℕ) {l : EntryLine} {e : Entry} → l ≡ EntryLine.Entry e → full control ≡ true
+pub left-out : (n : ℕ) (control : List ℕ) {l : EntryLine} {e : Entry} → l ≡ EntryLine.Entry e → entriesFull control ≡ true
     → (saidForEntry n control l ≡ refusedEntry n 13) × (controlWith control l ≡ control)
 left-out n control {e = e} q h = (rw (q, h), rw q (full-kept control e h))
 
 -- nothing is said for one that is taken in
-pub taken-in : (n : ℕ) (control : List ℕ) {l : EntryLine} {e : Entry} → l ≡ EntryLine.Entry e → full control ≡ false → saidForEntry n control l ≡ []
+pub taken-in : (n : ℕ) (control : List ℕ) {l : EntryLine} {e : Entry} → l ≡ EntryLine.Entry e → entriesFull control ≡ false → saidForEntry n control l ≡ []
 taken-in n control q h = rw (q, h)
 
 -- memory at entry and at exit
@@ -62,13 +62,13 @@ module _ (line control : List ℕ) (begun : Progress) (b : ℕ) where
   abbrev entry : EntryLine
   entry = entryOf (take (begun .held) line)
 
-  at-lf : b ≡ lf → (pieceSaid entries before (b ∷ []) ≡ saidForEntry (begun .lines + 1) control entry)
-      × (pieceKept entries before (b ∷ []) ≡ pending (controlWith control entry) (begun .lines + 1) [])
+  at-lf : b ≡ lf → (pieceSaid entryReader before (b ∷ []) ≡ saidForEntry (begun .lines + 1) control entry)
+      × (pieceKept entryReader before (b ∷ []) ≡ pending (controlWith control entry) (begun .lines + 1) [])
   unfolding pieceSaid byteSaid pieceKept byteKept
   at-lf e = (rw (eq-eqb b lf e, add-one (begun .lines)) (append-nil _), rw (eq-eqb b lf e, add-one (begun .lines)))
 
-  at-other : (b ≡ lf → ⊥) → (pieceSaid entries before (b ∷ []) ≡ [])
-      × (pieceKept entries before (b ∷ []) ≡ pending control (begun .lines) (take heldMost (take (begun .held) line ++ (b ∷ []))))
+  at-other : (b ≡ lf → ⊥) → (pieceSaid entryReader before (b ∷ []) ≡ [])
+      × (pieceKept entryReader before (b ∷ []) ≡ pending control (begun .lines) (take heldMost (take (begun .held) line ++ (b ∷ []))))
   unfolding pieceSaid byteSaid pieceKept byteKept
   at-other d = (rw (ne-eqb b lf d), rw (ne-eqb b lf d))
 
@@ -114,8 +114,8 @@ read-both : {out out′ out″ line line′ line″ control control′ control�
     → EntriesRead (twice out out″) (twice line line″) (twice control control″) begun (s ++ t) ended
 read-both {line = line} {control = control} {begun = begun} s t v w =
     record {
-      wrote = rw (said-append entries entries-held (pendingIn control begun line) s t, ← v .keeps) (v .wrote then w .wrote);
-      keeps = w .keeps ∙ ap (λ (k : Pending (List ℕ)). pieceKept entries k t) (v .keeps) ∙ sym (after-append entries entries-held (pendingIn control begun line) s t);
+      wrote = rw (said-append entryReader entries-held (pendingIn control begun line) s t, ← v .keeps) (v .wrote then w .wrote);
+      keeps = w .keeps ∙ ap (λ (k : Pending (List ℕ)). pieceKept entryReader k t) (v .keeps) ∙ sym (after-append entryReader entries-held (pendingIn control begun line) s t);
       room = omega (arith, v .room, w .room, length-append s t);
       short = w .short;
       holds = w .holds ∙ v .holds;
@@ -163,9 +163,9 @@ pub piece-read : {out out′ piece held held′ zeros line line′ control contr
     → EntriesAnswered (twice out out′) (twice held held′) (twice control control′) begun piece ended
 piece-read {out} {out′} {piece} {held} {held′} {zeros} {line} {line′} {control} {control′} {begun} {ended} {to} f h w r v =
     record {
-      progress = same-progress ended (sym kept-long ∙ ap (λ (k : Pending (List ℕ)). length (k .held)) keeps) (r .wrote .place ∙ ap (λ (k : Pending (List ℕ)). begun .at + length (pieceSaid entries k piece)) same)
-          ∙ ap (λ (k : Pending (List ℕ)). record { lines = k .lines; held = length (after .held); at = begun .at + length (pieceSaid entries before piece) }) keeps;
-      wrote = r .wrote .memory ∙ ap (λ (k : Pending (List ℕ)). sets out (begun .at) (pieceSaid entries k piece)) same;
+      progress = same-progress ended (sym kept-long ∙ ap (λ (k : Pending (List ℕ)). length (k .held)) keeps) (r .wrote .place ∙ ap (λ (k : Pending (List ℕ)). begun .at + length (pieceSaid entryReader k piece)) same)
+          ∙ ap (λ (k : Pending (List ℕ)). record { lines = k .lines; held = length (after .held); at = begun .at + length (pieceSaid entryReader before piece) }) keeps;
+      wrote = r .wrote .memory ∙ ap (λ (k : Pending (List ℕ)). sets out (begun .at) (pieceSaid entryReader k piece)) same;
       fed = ap (λ (k : Pending (List ℕ)). k .state) keeps;
       holds = v .memory ∙ ap (λ (k : Pending (List ℕ)). sets held 0 (k .held)) keeps;
     }
@@ -174,7 +174,7 @@ piece-read {out} {out′} {piece} {held} {held′} {zeros} {line} {line′} {con
     before = pendingIn control begun held
 
     after : Pending (List ℕ)
-    after = pieceKept entries (pendingIn control begun held) piece
+    after = pieceKept entryReader (pendingIn control begun held) piece
 
     long : length (take (begun .held) held) ≡ begun .held
     long = length-take (begun .held) held ∙ omega (arith, f .short, f .holds)
@@ -187,8 +187,8 @@ piece-read {out} {out′} {piece} {held} {held′} {zeros} {line} {line′} {con
     same : pendingIn control begun line ≡ pendingIn control begun held
     same = ap (pending control (begun .lines)) there
 
-    keeps : pendingIn control′ ended line′ ≡ pieceKept entries (pendingIn control begun held) piece
-    keeps = r .keeps ∙ ap (λ (k : Pending (List ℕ)). pieceKept entries k piece) same
+    keeps : pendingIn control′ ended line′ ≡ pieceKept entryReader (pendingIn control begun held) piece
+    keeps = r .keeps ∙ ap (λ (k : Pending (List ℕ)). pieceKept entryReader k piece) same
 
     kept-long : length (take (ended .held) line′) ≡ ended .held
     kept-long = length-take (ended .held) line′ ∙ omega (arith, r .short, r .holds, as-long w)

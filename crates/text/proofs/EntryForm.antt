@@ -17,7 +17,7 @@ use Rattle.text.specs.declared.entry.EntryLine.{EntryLine}
 use Rattle.text.specs.declared.number.Number.{Number}
 use Rattle.text.specs.Bytes.{indexOf, upTo, after, startsWith, isWord}
 use Rattle.text.specs.LineForm.{readDigits, space, fieldOf}
-use Rattle.text.specs.EntryForm.{afterSpaces, wordAfter, recName, varName, lowName, highName, markWord, fewerDigits, recordWide, readRecord, recordOf, inRange, withinRange}
+use Rattle.text.specs.EntryForm.{afterSpaces, wordAfter, recName, varName, lowName, highName, markWord, fewerDigits, recordWide, readRecordNumber, recordField, inRange, withinRange}
 use Rattle.text.specs.EntryForm.{markedBy, entryBy, entryOf, entryText, InForm, EntryTaken, OnlyEntryText, OnlyInForm, LongEntry, TextOf, EntryWritten}
 use Rattle.text.specs.Printing.{bytes, lastDigits, widthIn, width, decimal, recordDigits}
 use Rattle.text.proofs.Bytes.{Without, without-append, before-seam, after-seam, joined, is-the-word}
@@ -51,10 +51,10 @@ record InDigits (name s : List ℕ) (n : ℕ) : Type 0 where
   enough : n < 10 ^ count
   is : s ≡ name ++ lastDigits count n
 
-record-is : (s : List ℕ) (n : ℕ) → recordOf s ≡ Number.Value n → InDigits recName s n
-unfolding recordOf readRecord
+record-is : (s : List ℕ) (n : ℕ) → recordField s ≡ Number.Value n → InDigits recName s n
+unfolding recordField readRecordNumber
 record-is s n e =
-    let (t, f, g) = field-by readRecord recName s n e in
+    let (t, f, g) = field-by readRecordNumber recName s n e in
     let (w, r) = let-through (recordWide (length t)) (readDigits 0 t) n g in
     record {
       count = length t;
@@ -63,13 +63,13 @@ record-is s n e =
       is = f ∙ ap (λ (l : List ℕ). recName ++ l) (read-printed 0 n t r);
     }
 
-in-digits : (k n : ℕ) → Wide k → n < 10 ^ k → readRecord (lastDigits k n) ≡ Number.Value n
-unfolding readRecord
+in-digits : (k n : ℕ) → Wide k → n < 10 ^ k → readRecordNumber (lastDigits k n) ≡ Number.Value n
+unfolding readRecordNumber
 in-digits k n w h = rw (digits-long k n, digits-wide k w) (printed-read 0 n k (sym (div-eq-of-lt h)))
 
-record-read : (k n : ℕ) → Wide k → n < 10 ^ k → recordOf (recName ++ lastDigits k n) ≡ Number.Value n
-unfolding recordOf
-record-read k n w h = field-read-by readRecord recName (lastDigits k n) n (in-digits k n w h)
+record-read : (k n : ℕ) → Wide k → n < 10 ^ k → recordField (recName ++ lastDigits k n) ≡ Number.Value n
+unfolding recordField
+record-read k n w h = field-read-by readRecordNumber recName (lastDigits k n) n (in-digits k n w h)
 
 -- Ranges
 
@@ -171,7 +171,7 @@ entry-joined s k e a b c d m =
     let r = spaced 1 s (varWord e) (fromLow e) b q (omega arith) in
     spaced 0 s (recWord k e) (fromVar e) a r (omega arith) ∙ sym (entry-text k e)
 
-fields-said : (s : List ℕ) (e : Entry) (x y z w : Number) → recordOf (wordAfter 0 s) ≡ x → fieldOf varName (wordAfter 1 s) ≡ y → fieldOf lowName (wordAfter 2 s) ≡ z
+fields-said : (s : List ℕ) (e : Entry) (x y z w : Number) → recordField (wordAfter 0 s) ≡ x → fieldOf varName (wordAfter 1 s) ≡ y → fieldOf lowName (wordAfter 2 s) ≡ z
     → fieldOf highName (wordAfter 3 s) ≡ w → entryBy x y z w (afterSpaces 4 s) ≡ EntryLine.Entry e → Said s e
 fields-said s e (Number.Value rec) (Number.Value var) (Number.Value low) (Number.Value high) a b c d h =
     let (t, m, q, i) = marked rec var low high (afterSpaces 4 s) e h in
@@ -195,7 +195,7 @@ fields-said s e Number.Nothing y z w a b c d h = absurd (let z : _≡_ {A = ℕ}
 said : (s : List ℕ) (e : Entry) → entryOf s ≡ EntryLine.Entry e → Said s e
 unfolding entryOf
 said s e h =
-    fields-said s e (recordOf (wordAfter 0 s)) (fieldOf varName (wordAfter 1 s)) (fieldOf lowName (wordAfter 2 s)) (fieldOf highName (wordAfter 3 s)) refl refl refl refl h
+    fields-said s e (recordField (wordAfter 0 s)) (fieldOf varName (wordAfter 1 s)) (fieldOf lowName (wordAfter 2 s)) (fieldOf highName (wordAfter 3 s)) refl refl refl refl h
 
 pub only-entry-text : OnlyEntryText
 only-entry-text s e h = said s e h .is
@@ -255,7 +255,7 @@ word-next k w s h = ap (upTo space) (spaces-next k w s h)
 -- a line of five words
 module _ (a b c d m : List ℕ) (i : Without space a) (j : Without space b) (k : Without space c) (l : Without space d) where
   words-read : entryOf (a ++ (space ∷ (b ++ (space ∷ (c ++ (space ∷ (d ++ (space ∷ m))))))))
-      ≡ entryBy (recordOf a) (fieldOf varName b) (fieldOf lowName c) (fieldOf highName d) m
+      ≡ entryBy (recordField a) (fieldOf varName b) (fieldOf lowName c) (fieldOf highName d) m
   unfolding entryOf
   words-read = simp (word-first, word-next 0, word-next 1, word-next 2, spaces-next 0, spaces-next 1, spaces-next 2, spaces-next 3, no-spaces)
 
@@ -307,7 +307,7 @@ unfolding markedBy
 mark-known rec var low high s t e f = rw (← e, f)
 
 -- what the fields say is what the line says
-pub fields-read : (s : List ℕ) {x y z w : Number} → recordOf (wordAfter 0 s) ≡ x → fieldOf varName (wordAfter 1 s) ≡ y → fieldOf lowName (wordAfter 2 s) ≡ z
+pub fields-read : (s : List ℕ) {x y z w : Number} → recordField (wordAfter 0 s) ≡ x → fieldOf varName (wordAfter 1 s) ≡ y → fieldOf lowName (wordAfter 2 s) ≡ z
     → fieldOf highName (wordAfter 3 s) ≡ w → entryOf s ≡ entryBy x y z w (afterSpaces 4 s)
 unfolding entryOf
 fields-read s a b c d = rw (a, b, c, d)

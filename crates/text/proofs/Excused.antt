@@ -9,7 +9,7 @@ use Rattle.theory.specs.verdicts.Verdict.{Race, Clear, Doubt}
 use Rattle.theory.specs.feeding.Meaning.{Meaning, refuses, takes, judges}
 use Rattle.theory.specs.feeding.Step.{freshState}
 use Rattle.theory.specs.totals.Totals.{entriesAt}
-use Rattle.theory.specs.entries.Table.{takenIn, excuseOf}
+use Rattle.theory.specs.entries.Table.{entryCount, excuseOf}
 use Rattle.theory.proofs.totals.Kept.{fresh-cell}
 use Rattle.theory.proofs.entries.Kept.{taken-kept, no-excuse}
 use Rattle.text.specs.declared.parsed.Parsed.{Parsed}
@@ -18,7 +18,7 @@ use Rattle.text.specs.Report.{saidBeside, stateAfter}
 
 -- no entry was taken in
 abbrev pub NoEntries : State → Type 0
-NoEntries s = takenIn (s .control) ≡ 0
+NoEntries s = entryCount (s .control) ≡ 0
 
 pub said-plain : (n : ℕ) (r : Record) (s : State) (m : Meaning) → NoEntries s → saidBeside n r s m ≡ lineFor n r m
 said-plain n r s m e = rw (no-excuse s r (partnerIn m) e) (plain m)

@@ -8,7 +8,7 @@ use Rattle.theory.specs.feeding.Step.{freshState}
 use Rattle.text.specs.Lines.{lf}
 use Rattle.text.specs.LineForm.{parseOf}
 use Rattle.text.specs.Stream.{HeldEnough}
-use Rattle.text.specs.Report.{saidFor, stateAfter, records, reportOf}
+use Rattle.text.specs.Report.{saidFor, stateAfter, recordReader, reportOf}
 use Rattle.text.specs.Pieces.{Kept, kept, heldMost, saidAt, afterByte, saidIn, afterPiece, AnyCut}
 use Rattle.text.proofs.Bytes.{Without}
 use Rattle.text.proofs.Stream as Stream
@@ -19,7 +19,7 @@ pub parse-held : (s : List ℕ) → parseOf (take heldMost s) ≡ parseOf s
 parse-held = Stream.held-same parseOf long-refused
 
 -- so a recording's lines may be held so
-pub held-enough : HeldEnough records
+pub held-enough : HeldEnough recordReader
 held-enough = record { same-said = λ n s l. ap (saidFor n s) (parse-held l); same-next = λ s l. ap (stateAfter s) (parse-held l) }
 
 -- what is kept where a line has begun with h
@@ -27,36 +27,36 @@ abbrev pub holding : State → ℕ → List ℕ → Kept
 holding s n h = kept s n (take heldMost h)
 
 pub at-lf : (s : State) (n : ℕ) (h : List ℕ) → saidAt (holding s n h) lf ≡ saidFor (suc n) s (parseOf h)
-at-lf = Stream.at-lf records held-enough
+at-lf = Stream.at-lf recordReader held-enough
 
 pub after-lf : (s : State) (n : ℕ) (h : List ℕ) → afterByte (holding s n h) lf ≡ holding (stateAfter s (parseOf h)) (suc n) []
-after-lf = Stream.after-lf records held-enough
+after-lf = Stream.after-lf recordReader held-enough
 
 pub at-other : (k : Kept) (b : ℕ) → (b ≡ lf → ⊥) → saidAt k b ≡ []
-at-other = Stream.at-other records held-enough
+at-other = Stream.at-other recordReader held-enough
 
 pub after-other : (s : State) (n : ℕ) (h : List ℕ) (b : ℕ) → (b ≡ lf → ⊥) → afterByte (holding s n h) b ≡ holding s n (h ++ (b ∷ []))
-after-other = Stream.after-other records held-enough
+after-other = Stream.after-other recordReader held-enough
 
 pub said-append : (k : Kept) (a b : List ℕ) → saidIn k (a ++ b) ≡ saidIn k a ++ saidIn (afterPiece k a) b
-said-append = Stream.said-append records held-enough
+said-append = Stream.said-append recordReader held-enough
 
 pub after-append : (k : Kept) (a b : List ℕ) → afterPiece k (a ++ b) ≡ afterPiece (afterPiece k a) b
-after-append = Stream.after-append records held-enough
+after-append = Stream.after-append recordReader held-enough
 
 pub rest-held : (s : State) (n : ℕ) (h l : List ℕ) → Without lf l
     → (saidIn (holding s n h) l ≡ []) × (afterPiece (holding s n h) l ≡ holding s n (h ++ l))
-rest-held = Stream.rest-held records held-enough
+rest-held = Stream.rest-held recordReader held-enough
 
 pub line-said : (s : State) (n : ℕ) (h l rest : List ℕ) → Without lf l
     → saidIn (holding s n h) (l ++ (lf ∷ rest))
     ≡ saidFor (suc n) s (parseOf (h ++ l)) ++ saidIn (holding (stateAfter s (parseOf (h ++ l))) (suc n) []) rest
-line-said = Stream.line-said records held-enough
+line-said = Stream.line-said recordReader held-enough
 
 pub line-after : (s : State) (n : ℕ) (h l rest : List ℕ) → Without lf l
     → afterPiece (holding s n h) (l ++ (lf ∷ rest)) ≡ afterPiece (holding (stateAfter s (parseOf (h ++ l))) (suc n) []) rest
-line-after = Stream.line-after records held-enough
+line-after = Stream.line-after recordReader held-enough
 
 pub any-cut : AnyCut
 unfolding reportOf
-any-cut = Stream.cuts-alike records held-enough freshState
+any-cut = Stream.cuts-alike recordReader held-enough freshState

@@ -6,7 +6,7 @@ use native.Mathlib.Nat.{add-mul-mod-self-left, mod-eq-of-lt, div-div-eq-div-mul}
 use native.Mathlib.Omega.{arith}
 use Rattle.text.specs.Bytes.{little}
 use Rattle.text.specs.Printing.{lastDigit, recordText}
-use Rattle.text.specs.Words.{sideBySide, pairsOf, numberWord}
+use Rattle.text.specs.Words.{sideBySide, digitPairs, numberWord}
 use Rattle.text.proofs.Digits.{record-digits}
 
 -- what is left of a multiple and a small number
@@ -39,14 +39,14 @@ second-hundredth a y h l = left-over 128 (y / 100) 0 (omega (arith, hundredth y 
 halves : (h l : ℕ) → (h + l * 4294967296) * 65536 ≡ sideBySide (h / 100) (h % 100) (l / 100) (l % 100) + (h / 100 + l / 100 * 4294967296) * 6553599
 halves h l = omega arith
 
-half-pairs : (n : ℕ) → sideBySide (n / 10000 / 100) (n / 10000 % 100) (n % 10000 / 100) (n % 10000 % 100) ≡ pairsOf n
+half-pairs : (n : ℕ) → sideBySide (n / 10000 / 100) (n / 10000 % 100) (n % 10000 / 100) (n % 10000 % 100) ≡ digitPairs n
 half-pairs n =
     let e : n / 10000 / 100 ≡ n / 1000000 = div-div-eq-div-mul n 10000 100 in
     let f : n % 10000 / 100 ≡ n / 100 % 100 = omega arith in
     let g : n % 10000 % 100 ≡ n % 100 = omega arith in
     rw (e, f, g)
 
-in-pairs : (n : ℕ) → (n / 10000 + n % 10000 * 4294967296) * 65536 ≡ pairsOf n + (n / 10000 / 100 + n % 10000 / 100 * 4294967296) * 6553599
+in-pairs : (n : ℕ) → (n / 10000 + n % 10000 * 4294967296) * 65536 ≡ digitPairs n + (n / 10000 / 100 + n % 10000 / 100 * 4294967296) * 6553599
 in-pairs n = rw (← half-pairs n) (halves (n / 10000) (n % 10000))
 
 -- the tenths of four numbers
@@ -88,7 +88,7 @@ digit-word a b c d h = omega arith
 
 number-word : (n : ℕ) → n < 10000000
     → numberWord n + (n / 1000000 / 10 + n / 10000 % 100 / 10 * 65536 + n / 100 % 100 / 10 * 4294967296 + n % 100 / 10 * 281474976710656) * 2559
-    ≡ pairsOf n * 256 + 3472328296227680317
+    ≡ digitPairs n * 256 + 3472328296227680317
 number-word n h =
     let a : n / 1000000 < 10 = omega arith in
     let e : n / 1000000 % 10 ≡ n / 1000000 = mod-eq-of-lt a in
@@ -109,16 +109,16 @@ abbrev pub hundredsIn : ℕ → ℕ
 hundredsIn x = x * 5243 / 524288 % 128 + x * 5243 / 524288 / 4294967296 % 128 * 4294967296
 
 pub by-hundreds : (n : ℕ) → n < 10000000
-    → (hundredsIn (halvesOf n) * 6553599 ≤ halvesOf n * 65536) × (halvesOf n * 65536 - hundredsIn (halvesOf n) * 6553599 ≡ pairsOf n)
+    → (hundredsIn (halvesOf n) * 6553599 ≤ halvesOf n * 65536) × (halvesOf n * 65536 - hundredsIn (halvesOf n) * 6553599 ≡ digitPairs n)
 by-hundreds n h =
     let l : n % 10000 < 10000 = omega arith in
-    difference (halvesOf n * 65536) (pairsOf n) (hundredsIn (halvesOf n) * 6553599)
+    difference (halvesOf n * 65536) (digitPairs n) (hundredsIn (halvesOf n) * 6553599)
     (rw (first-hundredth (n / 10000) (n % 10000) (omega arith), second-hundredth (n / 10000) (n % 10000) (omega arith) l) (in-pairs n))
 
 abbrev pub tensIn : ℕ → ℕ
 tensIn r = r * 103 / 1024 % 16 + r * 103 / 1024 / 65536 % 16 * 65536 + r * 103 / 1024 / 4294967296 % 16 * 4294967296 + r * 103 / 1024 / 281474976710656 % 16 * 281474976710656
 
-pub by-tens : (n r zeros : ℕ) → n < 10000000 → r ≡ pairsOf n → zeros ≡ 3472328296227680317
+pub by-tens : (n r zeros : ℕ) → n < 10000000 → r ≡ digitPairs n → zeros ≡ 3472328296227680317
     → (tensIn r * 2559 ≤ r * 256 + zeros) × (r * 256 + zeros - tensIn r * 2559 ≡ numberWord n)
 by-tens n r zeros h e f =
     let a : n / 1000000 < 100 = omega arith in
@@ -128,7 +128,7 @@ by-tens n r zeros h e f =
     difference (r * 256 + zeros) (numberWord n) (tensIn r * 2559)
     (rw (e, f, tenth-0 _ _ _ _ a b c d, tenth-1 _ _ _ _ a b c d, tenth-2 _ _ _ _ a b c d, tenth-3 _ _ _ _ a b c d) (sym (number-word n h)))
 
-pub pairs-below : (n : ℕ) → n < 10000000 → pairsOf n < 28147497671065600
+pub pairs-below : (n : ℕ) → n < 10000000 → digitPairs n < 28147497671065600
 pairs-below n h = below (n / 1000000) (n / 10000 % 100) (n / 100 % 100) (n % 100) (omega arith) (omega arith) (omega arith) (omega arith)
   where
     below : (a b c d : ℕ) → a < 100 → b < 100 → c < 100 → d < 100 → sideBySide a b c d < 28147497671065600

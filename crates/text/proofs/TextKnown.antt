@@ -17,7 +17,7 @@ use Rattle.theory.specs.feeding.Meaning.{Meaning, refuses, takes, judges, meani
 use Rattle.theory.specs.feeding.Step.{freshState, freshControl}
 use Rattle.theory.specs.feeding.Feeding.{byClocks}
 use Rattle.theory.specs.totals.Totals.{entriesAt, controlCells}
-use Rattle.theory.specs.entries.Table.{takenIn, full, entered, afterEntry, excuse}
+use Rattle.theory.specs.entries.Table.{entryCount, entriesFull, entered, afterEntry, excuse}
 use Rattle.theory.specs.entries.Known.{Fault, Fits, AllFit, none-left, and-fits, enteredAll, startWith}
 use Rattle.theory.proofs.totals.Kept.{fresh-cell}
 use Rattle.theory.proofs.acceptance.ControlTable.{fresh-control}
@@ -30,8 +30,8 @@ use Rattle.text.specs.LineForm.{parseOf}
 use Rattle.text.specs.Stream.{linesSaid, linesAfter}
 use Rattle.text.specs.EntryForm.{InForm, TextOf, entryOf}
 use Rattle.text.specs.ReportLines.{refusedLine, lineFor}
-use Rattle.text.specs.Report.{saidBeside, saidFor, stateAfter, records, reportOf}
-use Rattle.text.specs.Entries.{saidForEntry, controlWith, entries}
+use Rattle.text.specs.Report.{saidBeside, saidFor, stateAfter, recordReader, reportOf}
+use Rattle.text.specs.Entries.{saidForEntry, controlWith, entryReader}
 use Rattle.text.specs.TextKnown.{EntryGot, no-entry, no-room, took-in, EntriesGot, no-entries, an-entry, faultsBy, faultsIn, FilesRead, AsRace, the-same, a-race, AsRaces, no-line, a-line, RaceOrKnown, EntriesCut, WithoutEntries}
 use Rattle.text.proofs.EntryForm.{entry-taken, only-entry-text, only-in-form}
 use Rattle.text.proofs.Stream.{cuts-alike, ends-alike}
@@ -49,20 +49,20 @@ fault-fits : {e : Entry} → InForm e → Fits (fault-of e)
 fault-fits f = record { variable-fits = f .var-within; lower = f .low-lower; high-fits = f .high-within }
 
 -- what is taken in where there is room, and what is not
-taken-in : {e : Entry} (control : List ℕ) → InForm e → length control ≡ controlCells → full control ≡ false →
+taken-in : {e : Entry} (control : List ℕ) → InForm e → length control ≡ controlCells → entriesFull control ≡ false →
     afterEntry (e .var) (e .low) (e .high) (e .accepted) control ≡ entered (e .var) (e .low) (e .high) (e .accepted) control
 taken-in {e} control f size q = is-entered (fault-of e) (fault-fits f) control size (room q)
   where
-    room : not (ltb (takenIn control) Limits.entries) ≡ false → takenIn control < Limits.entries
-    room q = of (ltb (takenIn control) Limits.entries) refl q
+    room : not (ltb (entryCount control) Limits.entries) ≡ false → entryCount control < Limits.entries
+    room q = of (ltb (entryCount control) Limits.entries) refl q
       where
-        of : (b : Bool) → ltb (takenIn control) Limits.entries ≡ b → not b ≡ false → takenIn control < Limits.entries
-        of true z q = ltb-true (takenIn control) Limits.entries z
+        of : (b : Bool) → ltb (entryCount control) Limits.entries ≡ b → not b ≡ false → entryCount control < Limits.entries
+        of true z q = ltb-true (entryCount control) Limits.entries z
         of false z q = absurd (let w : _≡_ {A = ℕ} 0 1 = cc in omega arith)
 
 module _ {e : Entry} (control : List ℕ) (f : InForm e) where
   -- there is no room: the table stays
-  left-out : full control ≡ true → afterEntry (e .var) (e .low) (e .high) (e .accepted) control ≡ control
+  left-out : entriesFull control ≡ true → afterEntry (e .var) (e .low) (e .high) (e .accepted) control ≡ control
   left-out q =
       let l : e .low < Limits.tasks = omega (arith, f .low-lower, f .high-within) in
       rw (lt-ltb (e .var) Limits.variables (f .var-within), lt-ltb (e .low) Limits.tasks l, lt-ltb (e .high) Limits.tasks (f .high-within), q)
@@ -83,9 +83,9 @@ record OneRead (n : ℕ) (control line : List ℕ) (x : EntryLine) : Type 0 wher
 
 one-read : (n : ℕ) (control line : List ℕ) → length control ≡ controlCells → (x : EntryLine) → entryOf line ≡ x → OneRead n control line x
 one-read n control line size EntryLine.Nothing q = record { got = no-entry (not-form line q); size = size }
-one-read n control line size (EntryLine.Entry e) q = let (f, p) = entry-form line q in decided f p (full control) refl
+one-read n control line size (EntryLine.Entry e) q = let (f, p) = entry-form line q in decided f p (entriesFull control) refl
   where
-    decided : InForm e → TextOf e line → (b : Bool) → full control ≡ b → OneRead n control line (EntryLine.Entry e)
+    decided : InForm e → TextOf e line → (b : Bool) → entriesFull control ≡ b → OneRead n control line (EntryLine.Entry e)
     decided f p true z = record { got = rw (left-out control f z, z) (no-room f p z); size = rw (left-out control f z) size }
     decided f p false z =
         record {
@@ -93,7 +93,7 @@ one-read n control line size (EntryLine.Entry e) q = let (f, p) = entry-form lin
           size = rw (taken-in control f size z) (entered-size (fault-of e) (fault-fits f) control size);
         }
 
-all-got : (n : ℕ) (control : List ℕ) (lines : List (List ℕ)) → length control ≡ controlCells → EntriesGot n control lines (linesAfter entries control lines) (linesSaid entries n control lines)
+all-got : (n : ℕ) (control : List ℕ) (lines : List (List ℕ)) → length control ≡ controlCells → EntriesGot n control lines (linesAfter entryReader control lines) (linesSaid entryReader n control lines)
 unfolding linesAfter linesSaid
 all-got n control [] size = no-entries
 all-got n control (line ∷ lines) size =
@@ -116,48 +116,48 @@ take-fit (suc k) (and-fits x xs) = and-fits x (take-fit k xs)
 
 -- the table after lines: as many of their entries as there is room for
 table-after : (lines : List (List ℕ)) (control : List ℕ) → length control ≡ controlCells →
-    linesAfter entries control lines ≡ enteredAll (take (Limits.entries - takenIn control) (faultsIn lines)) control
+    linesAfter entryReader control lines ≡ enteredAll (take (Limits.entries - entryCount control) (faultsIn lines)) control
 unfolding linesAfter
-table-after [] control size = none (Limits.entries - takenIn control)
+table-after [] control size = none (Limits.entries - entryCount control)
   where
     none : (k : ℕ) → control ≡ enteredAll (take k []) control
     none zero = refl
     none (suc k) = refl
 table-after (line ∷ lines) control size = of (entryOf line) refl (λ c z. table-after lines c z)
   where
-    of : (x : EntryLine) → entryOf line ≡ x → ((c : List ℕ) → length c ≡ controlCells → linesAfter entries c lines ≡ enteredAll (take (Limits.entries - takenIn c) (faultsIn lines)) c) →
-        linesAfter entries (controlWith control x) lines ≡ enteredAll (take (Limits.entries - takenIn control) (faultsBy x (faultsIn lines))) control
+    of : (x : EntryLine) → entryOf line ≡ x → ((c : List ℕ) → length c ≡ controlCells → linesAfter entryReader c lines ≡ enteredAll (take (Limits.entries - entryCount c) (faultsIn lines)) c) →
+        linesAfter entryReader (controlWith control x) lines ≡ enteredAll (take (Limits.entries - entryCount control) (faultsBy x (faultsIn lines))) control
     of EntryLine.Nothing q rest = rest control size
-    of (EntryLine.Entry e) q rest = decided (entry-form line q .0) (full control) refl
+    of (EntryLine.Entry e) q rest = decided (entry-form line q .0) (entriesFull control) refl
       where
-        decided : InForm e → (b : Bool) → full control ≡ b →
-            linesAfter entries (afterEntry (e .var) (e .low) (e .high) (e .accepted) control) lines ≡ enteredAll (take (Limits.entries - takenIn control) (fault-of e ∷ faultsIn lines)) control
+        decided : InForm e → (b : Bool) → entriesFull control ≡ b →
+            linesAfter entryReader (afterEntry (e .var) (e .low) (e .high) (e .accepted) control) lines ≡ enteredAll (take (Limits.entries - entryCount control) (fault-of e ∷ faultsIn lines)) control
         decided f true z =
-            let k : Limits.entries - takenIn control ≡ 0 = no-more z in
+            let k : Limits.entries - entryCount control ≡ 0 = no-more z in
             rw (left-out control f z, k) (rest control size ∙ ap (λ (m : ℕ). enteredAll (take m (faultsIn lines)) control) k)
           where
-            no-more : not (ltb (takenIn control) Limits.entries) ≡ true → Limits.entries - takenIn control ≡ 0
-            no-more y = go (ltb (takenIn control) Limits.entries) refl y
+            no-more : not (ltb (entryCount control) Limits.entries) ≡ true → Limits.entries - entryCount control ≡ 0
+            no-more y = go (ltb (entryCount control) Limits.entries) refl y
               where
-                go : (b : Bool) → ltb (takenIn control) Limits.entries ≡ b → not b ≡ true → Limits.entries - takenIn control ≡ 0
+                go : (b : Bool) → ltb (entryCount control) Limits.entries ≡ b → not b ≡ true → Limits.entries - entryCount control ≡ 0
                 go true w y = absurd (let v : _≡_ {A = ℕ} 0 1 = cc in omega arith)
-                go false w y = let v = ltb-false (takenIn control) Limits.entries w in omega arith
+                go false w y = let v = ltb-false (entryCount control) Limits.entries w in omega arith
         decided f false z =
             let c = entered (e .var) (e .low) (e .high) (e .accepted) control in
             let s = entered-size (fault-of e) (fault-fits f) control size in
-            let t : takenIn (entered (e .var) (e .low) (e .high) (e .accepted) control) ≡ suc (takenIn control) = entered-taken (fault-of e) (fault-fits f) control size in
-            let k : Limits.entries - takenIn control ≡ suc (Limits.entries - suc (takenIn control)) = some z in
+            let t : entryCount (entered (e .var) (e .low) (e .high) (e .accepted) control) ≡ suc (entryCount control) = entered-taken (fault-of e) (fault-fits f) control size in
+            let k : Limits.entries - entryCount control ≡ suc (Limits.entries - suc (entryCount control)) = some z in
             rw (k, taken-in control f size z)
-            (rest c s ∙ (ap (λ (m : ℕ). enteredAll (take (Limits.entries - m) (faultsIn lines)) c) t ∙ ap (enteredAll (take (Limits.entries - suc (takenIn control)) (faultsIn lines))) (sym (taken-in control f size z))))
+            (rest c s ∙ (ap (λ (m : ℕ). enteredAll (take (Limits.entries - m) (faultsIn lines)) c) t ∙ ap (enteredAll (take (Limits.entries - suc (entryCount control)) (faultsIn lines))) (sym (taken-in control f size z))))
           where
-            some : not (ltb (takenIn control) Limits.entries) ≡ false → Limits.entries - takenIn control ≡ suc (Limits.entries - suc (takenIn control))
-            some y = go (ltb (takenIn control) Limits.entries) refl y
+            some : not (ltb (entryCount control) Limits.entries) ≡ false → Limits.entries - entryCount control ≡ suc (Limits.entries - suc (entryCount control))
+            some y = go (ltb (entryCount control) Limits.entries) refl y
               where
-                go : (b : Bool) → ltb (takenIn control) Limits.entries ≡ b → not b ≡ false → Limits.entries - takenIn control ≡ suc (Limits.entries - suc (takenIn control))
-                go true w y = let v = ltb-true (takenIn control) Limits.entries w in omega arith
+                go : (b : Bool) → ltb (entryCount control) Limits.entries ≡ b → not b ≡ false → Limits.entries - entryCount control ≡ suc (Limits.entries - suc (entryCount control))
+                go true w y = let v = ltb-true (entryCount control) Limits.entries w in omega arith
                 go false w y = absurd (let v : _≡_ {A = ℕ} 0 1 = cc in omega arith)
 
-fresh-taken : takenIn freshControl ≡ 0
+fresh-taken : entryCount freshControl ≡ 0
 fresh-taken = fresh-cell entriesAt (omega arith) (omega arith)
 
 pub files-read : FilesRead
@@ -171,9 +171,9 @@ files-read lines =
 pub entries-cut : EntriesCut
 entries-cut files pieces =
     record {
-      file = cuts-alike entries entries-held freshControl files;
-      table = ends-alike entries entries-held freshControl files;
-      report = λ s. cuts-alike records held-enough s pieces;
+      file = cuts-alike entryReader entries-held freshControl files;
+      table = ends-alike entryReader entries-held freshControl files;
+      report = λ s. cuts-alike recordReader held-enough s pieces;
     }
 
 -- The report
@@ -187,13 +187,13 @@ as-race n r s (judges number Doubt partner) = the-same
 as-race n r s (judges number Race partner) = a-race number (r .task) (r .on) partner ((excuse s r partner) .partner .0) ((excuse s r partner) .known)
 
 -- two states of one recording, the second without entries, fed the same lines
-as-races : (lines : List (List ℕ)) (n : ℕ) (es : List Event) (s z : State) → Represents es s → Represents es z → NoEntries z → AsRaces (linesSaid records n s lines) (linesSaid records n z lines)
+as-races : (lines : List (List ℕ)) (n : ℕ) (es : List Event) (s z : State) → Represents es s → Represents es z → NoEntries z → AsRaces (linesSaid recordReader n s lines) (linesSaid recordReader n z lines)
 unfolding linesSaid
 as-races [] n es s z x y none = no-line
 as-races (line ∷ lines) n es s z x y none = by-parse (parseOf line) (λ es s z x y none. as-races lines (suc n) es s z x y none)
   where
-    by-parse : (p : Parsed) → ((es : List Event) (s z : State) → Represents es s → Represents es z → NoEntries z → AsRaces (linesSaid records (suc n) s lines) (linesSaid records (suc n) z lines)) →
-        AsRaces (saidFor n s p ++ linesSaid records (suc n) (stateAfter s p) lines) (saidFor n z p ++ linesSaid records (suc n) (stateAfter z p) lines)
+    by-parse : (p : Parsed) → ((es : List Event) (s z : State) → Represents es s → Represents es z → NoEntries z → AsRaces (linesSaid recordReader (suc n) s lines) (linesSaid recordReader (suc n) z lines)) →
+        AsRaces (saidFor n s p ++ linesSaid recordReader (suc n) (stateAfter s p) lines) (saidFor n z p ++ linesSaid recordReader (suc n) (stateAfter z p) lines)
     by-parse Parsed.Nothing rest = a-line {said = refusedLine n 1} {said′ = refusedLine n 1} the-same (rest es s z x y none)
     by-parse (Parsed.Record r) rest =
         let (e, x′) = clocks-simulate .steps es s r x in

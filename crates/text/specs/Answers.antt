@@ -13,7 +13,7 @@ use Rattle.text.specs.Lines.{lineRoom, linesOf, lineEnd}
 use Rattle.text.specs.Reading.{LineStarts}
 use Rattle.text.specs.Wrote.{Wrote}
 use Rattle.text.specs.Stream.{linesAfter}
-use Rattle.text.specs.Report.{saidFor, stateAfter, records, reportFrom}
+use Rattle.text.specs.Report.{saidFor, stateAfter, recordReader, reportFrom}
 use Rattle.text.specs.Pieces.{Kept, kept, fromMemory, heldMost, saidIn, afterPiece, progressAfter}
 
 -- a line that says `parsed` was answered under its number, from the place `at` on; `to` is the next place
@@ -32,7 +32,7 @@ pub record LinesFit (out : List ℕ) (at lines : ℕ) (text : List ℕ) (from en
 
 -- the running state after lines
 abbrev pub stateFrom : State → List (List ℕ) → State
-stateFrom = linesAfter records
+stateFrom = linesAfter recordReader
 
 -- lines ls were answered after so many others, from the place `at` on; then `ended` lines are answered, and `to` is the next place
 pub record LinesAnswered (out : Twice (List ℕ)) (at : ℕ) (state : Twice State) (lines : ℕ) (ls : List (List ℕ)) (ended to : ℕ) : Type 0 where

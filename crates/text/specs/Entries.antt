@@ -3,7 +3,7 @@
 use Prim.Native.Nat.{ℕ}
 use mathlib.Core.Bool.{cond}
 use mathlib.Core.List.{List, []}
-use Rattle.theory.specs.entries.Table.{full, afterEntry}
+use Rattle.theory.specs.entries.Table.{entriesFull, afterEntry}
 use Rattle.text.specs.declared.entry.EntryLine.{EntryLine}
 use Rattle.text.specs.Stream.{Reader}
 use Rattle.text.specs.EntryForm.{entryOf}
@@ -12,12 +12,12 @@ use Rattle.text.specs.ReportLines.{refusedEntry}
 -- "12 for an entry outside this form or its ranges, 13 for an entry when 200 have been taken in; .. 12 first"
 abbrev pub saidForEntry : ℕ → List ℕ → EntryLine → List ℕ
 saidForEntry n control EntryLine.Nothing = refusedEntry n 12
-saidForEntry n control (EntryLine.Entry e) = cond (full control) (refusedEntry n 13) []
+saidForEntry n control (EntryLine.Entry e) = cond (entriesFull control) (refusedEntry n 13) []
 
 -- "such an entry is left out"
 abbrev pub controlWith : List ℕ → EntryLine → List ℕ
 controlWith control EntryLine.Nothing = control
 controlWith control (EntryLine.Entry e) = afterEntry (e .var) (e .low) (e .high) (e .accepted) control
 
-abbrev pub entries : Reader (List ℕ)
-entries = record { said = λ n control l. saidForEntry n control (entryOf l); next = λ control l. controlWith control (entryOf l) }
+abbrev pub entryReader : Reader (List ℕ)
+entryReader = record { said = λ n control l. saidForEntry n control (entryOf l); next = λ control l. controlWith control (entryOf l) }

@@ -51,12 +51,12 @@ unfoldable pub recordWide : ℕ → Bool
 recordWide k = eqb k fewerDigits || eqb k recordDigits
 
 -- the number that so many digits say, leading zeros included
-unfoldable pub readRecord : List ℕ → Number
-readRecord s = cond (recordWide (length s)) (readDigits 0 s) Number.Nothing
+unfoldable pub readRecordNumber : List ℕ → Number
+readRecordNumber s = cond (recordWide (length s)) (readDigits 0 s) Number.Nothing
 
 -- the number of a field `rec=DDDDD` or `rec=DDDDDDD`
-unfoldable pub recordOf : List ℕ → Number
-recordOf s = fieldBy readRecord recName s
+unfoldable pub recordField : List ℕ → Number
+recordField s = fieldBy readRecordNumber recName s
 
 -- Entries
 
@@ -87,7 +87,7 @@ entryBy Number.Nothing v l h s = EntryLine.Nothing
 -- what a line says as an entry
 unfoldable pub entryOf : List ℕ → EntryLine
 entryOf s =
-    entryBy (recordOf (wordAfter 0 s)) (fieldOf varName (wordAfter 1 s)) (fieldOf lowName (wordAfter 2 s)) (fieldOf highName (wordAfter 3 s))
+    entryBy (recordField (wordAfter 0 s)) (fieldOf varName (wordAfter 1 s)) (fieldOf lowName (wordAfter 2 s)) (fieldOf highName (wordAfter 3 s))
     (afterSpaces 4 s)
 
 -- the text of an entry with its record number in k digits, without its LF: `rec=00012 var=5 low=1 high=3 mark=accepted`, or `.. mark=open`

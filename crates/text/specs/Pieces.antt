@@ -13,7 +13,7 @@ use Rattle.text.specs.Lines.{lineRoom, lineEnd}
 use Rattle.text.specs.Stream.{Pending, pending, byteSaid, byteKept, pieceSaid, pieceKept, endSaid, piecesSaid, pendingIn, progressTo}
 pub use Rattle.text.specs.Stream.{heldMost}
 unfoldable pub use Rattle.text.specs.Stream.{wholeOf}
-use Rattle.text.specs.Report.{records, reportOf}
+use Rattle.text.specs.Report.{recordReader, reportOf}
 
 -- what is kept between pieces: the running state, how many lines are answered, and what is held of the line that has begun
 abbrev pub Kept : Type 0
@@ -28,25 +28,25 @@ freshKept = kept freshState 0 []
 
 -- what the report has at a byte, and what is kept after it
 abbrev pub saidAt : Kept → ℕ → List ℕ
-saidAt = byteSaid records
+saidAt = byteSaid recordReader
 
 abbrev pub afterByte : Kept → ℕ → Kept
-afterByte = byteKept records
+afterByte = byteKept recordReader
 
 -- what the report has for a piece, and what is kept after it
 abbrev pub saidIn : Kept → List ℕ → List ℕ
-saidIn = pieceSaid records
+saidIn = pieceSaid recordReader
 
 abbrev pub afterPiece : Kept → List ℕ → Kept
-afterPiece = pieceKept records
+afterPiece = pieceKept recordReader
 
 -- what the report has at the text's end
 abbrev pub saidAtEnd : Kept → List ℕ
-saidAtEnd = endSaid records
+saidAtEnd = endSaid recordReader
 
 -- what the report has for pieces and for the text's end after them
 abbrev pub saidInAll : Kept → List (List ℕ) → List ℕ
-saidInAll = piecesSaid records
+saidInAll = piecesSaid recordReader
 
 -- however a text is cut, what is said for its pieces makes its report
 abbrev pub AnyCut : Type 0
@@ -64,7 +64,7 @@ fromMemory = pendingIn
 
 -- the progress after a piece, the report having come to a place before it
 abbrev pub progressAfter : Kept → ℕ → List ℕ → Progress
-progressAfter = progressTo records
+progressAfter = progressTo recordReader
 
 -- n bytes of one line are held: the memory can hold a line, no more bytes of it are held, and no LF is among them
 abbrev pub holdsOpen : List ℕ → ℕ → Bool
@@ -78,5 +78,5 @@ fits out piece memory begun =
     && (leb piece ((out - begun .at) / lineRoom) && (holdsOpen memory (begun .held) && leb piece (2 ^ 64 - 1 - begun .lines)))
 
 -- the answer to a piece that is not: 64 one-bits, as for row 11
-abbrev pub refused : Progress → Progress
-refused begun = record { lines = begun .lines; held = begun .held; at = 2 ^ 64 - 1 }
+abbrev pub pieceRefused : Progress → Progress
+pieceRefused begun = record { lines = begun .lines; held = begun .held; at = 2 ^ 64 - 1 }

@@ -32,12 +32,12 @@ stateAfter s Parsed.Nothing = s
 stateAfter s (Parsed.Record r) = (stepOf s r) .state
 
 -- the lines of a recording
-abbrev pub records : Reader State
-records = record { said = λ n s l. saidFor n s (parseOf l); next = λ s l. stateAfter s (parseOf l) }
+abbrev pub recordReader : Reader State
+recordReader = record { said = λ n s l. saidFor n s (parseOf l); next = λ s l. stateAfter s (parseOf l) }
 
 -- the report of lines, the first having number n, fed to a state
 abbrev pub reportFrom : ℕ → State → List (List ℕ) → List ℕ
-reportFrom = linesSaid records
+reportFrom = linesSaid recordReader
 
 -- the report of a text
 unfoldable pub reportOf : List ℕ → List ℕ

@@ -16,8 +16,8 @@ abbrev pub sideBySide : ℕ → ℕ → ℕ → ℕ → ℕ
 sideBySide a b c d = a + 65536 * (b + 65536 * (c + 65536 * d))
 
 -- the digits of n in pairs, of which there are four
-abbrev pub pairsOf : ℕ → ℕ
-pairsOf n = sideBySide (n / 1_000_000) (n / 10_000 % 100) (n / 100 % 100) (n % 100)
+abbrev pub digitPairs : ℕ → ℕ
+digitPairs n = sideBySide (n / 1_000_000) (n / 10_000 % 100) (n / 100 % 100) (n % 100)
 
 -- a record number after its `=`, as one word
 abbrev pub numberWord : ℕ → ℕ

@@ -1,3 +1,3 @@
 -- What the functions' proofs share
-pub mod Cells
+pub mod Aligned
 pub mod Lines

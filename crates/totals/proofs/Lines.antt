@@ -10,12 +10,12 @@ use Rattle.theory.specs.declared.verdict_totals.Totals.{Totals}
 use Rattle.theory.specs.order.Limits.{variables}
 use Rattle.theory.specs.totals.Totals.{totalsOf}
 use Rattle.totals.specs.declared.sums.Sums.{Sums}
-use Rattle.totals.specs.Table.{Small, nothingYet, added, allOf, nameWidth, countWidth, cell, countsOf, sumsBelow, variableLine, linesBelow}
-use Rattle.totals.proofs.Cells.{cell-fits}
+use Rattle.totals.specs.Table.{Small, nothingYet, added, allOf, nameWidth, countWidth, rightAligned, countsOf, sumsBelow, variableLine, linesBelow}
+use Rattle.totals.proofs.Aligned.{aligned-fits}
 
 module _ (s : Sums) where
   pub length-counts : length (countsOf s)
-      ≡ length (cell countWidth (s .clear)) + length (cell countWidth (s .race)) + length (cell countWidth (s .doubt)) + length (cell countWidth (allOf s)) + 1
+      ≡ length (rightAligned countWidth (s .clear)) + length (rightAligned countWidth (s .race)) + length (rightAligned countWidth (s .doubt)) + length (rightAligned countWidth (allOf s)) + 1
   unfolding countsOf
   length-counts = simp length-append
 
@@ -25,10 +25,10 @@ module _ (s : Sums) where
         arith,
         length-counts,
         h,
-        cell-fits countWidth (s .clear) (omega arith) (omega arith),
-        cell-fits countWidth (s .race) (omega arith) (omega arith),
-        cell-fits countWidth (s .doubt) (omega arith) (omega arith),
-        cell-fits countWidth (allOf s) (omega arith) (omega arith),
+        aligned-fits countWidth (s .clear) (omega arith) (omega arith),
+        aligned-fits countWidth (s .race) (omega arith) (omega arith),
+        aligned-fits countWidth (s .doubt) (omega arith) (omega arith),
+        aligned-fits countWidth (allOf s) (omega arith) (omega arith),
       )
 
 module _ (v : ℕ) (t : Totals) where
@@ -40,7 +40,7 @@ module _ (v : ℕ) (t : Totals) where
   unfolding variableLine
   line-none h = rw (eq-eqb (allOf (added nothingYet t)) 0 h)
 
-  pub line-some : (allOf (added nothingYet t) ≡ 0 → ⊥) → variableLine v t ≡ cell nameWidth v ++ countsOf (added nothingYet t)
+  pub line-some : (allOf (added nothingYet t) ≡ 0 → ⊥) → variableLine v t ≡ rightAligned nameWidth v ++ countsOf (added nothingYet t)
   unfolding variableLine
   line-some h = rw (ne-eqb (allOf (added nothingYet t)) 0 h)
 

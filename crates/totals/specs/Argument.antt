@@ -16,5 +16,5 @@ abbrev pub everyOf : List ℕ → ℕ
 everyOf word = numberOr0 (readDecimal word)
 
 -- a table is due where the count of accepted records has grown, and come to a multiple of the number asked for
-abbrev pub due : ℕ → ℕ → ℕ → Bool
-due every before count = not (eqb every 0) && (ltb before count && eqb (count % every) 0)
+abbrev pub tableDue : ℕ → ℕ → ℕ → Bool
+tableDue every before count = not (eqb every 0) && (ltb before count && eqb (count % every) 0)

@@ -50,8 +50,8 @@ abbrev pub padded : ℕ → List ℕ → List ℕ
 padded spaces s = replicate spaces space ++ s
 
 -- a number at the right end of a column; one that is too long for it has a space before it still
-unfoldable pub cell : ℕ → ℕ → List ℕ
-cell width n = padded (max 1 (width - length (decimal n))) (decimal n)
+unfoldable pub rightAligned : ℕ → ℕ → List ℕ
+rightAligned width n = padded (max 1 (width - length (decimal n))) (decimal n)
 
 -- Lines
 
@@ -61,11 +61,11 @@ line = 128
 
 -- the counts of a line, and LF
 unfoldable pub countsOf : Sums → List ℕ
-countsOf s = cell countWidth (s .clear) ++ cell countWidth (s .race) ++ cell countWidth (s .doubt) ++ cell countWidth (allOf s) ++ bytes "\n"
+countsOf s = rightAligned countWidth (s .clear) ++ rightAligned countWidth (s .race) ++ rightAligned countWidth (s .doubt) ++ rightAligned countWidth (allOf s) ++ bytes "\n"
 
 -- the line of a variable with these totals; none where it was not accessed
 unfoldable pub variableLine : ℕ → Totals → List ℕ
-variableLine v t = let s = added nothingYet t in cond (eqb (allOf s) 0) [] (cell nameWidth v ++ countsOf s)
+variableLine v t = let s = added nothingYet t in cond (eqb (allOf s) 0) [] (rightAligned nameWidth v ++ countsOf s)
 
 -- those of the variables below v
 unfoldable pub linesBelow : List ℕ → ℕ → List ℕ
@@ -85,7 +85,7 @@ room = (variables + 2) * line
 
 -- F-13: under the profile of owned semaphores a line says how many takes were skipped
 unfoldable pub skippedLine : List ℕ → List ℕ
-skippedLine control = cond (underIn control) (bytes "skipped" ++ cell 0 (skippedIn control) ++ bytes "\n") []
+skippedLine control = cond (underIn control) (bytes "skipped" ++ rightAligned 0 (skippedIn control) ++ bytes "\n") []
 
 -- the table and that line, and as one of several an empty line, so that they can be told apart
 unfoldable pub shownOf : Bool → List ℕ → List ℕ

@@ -10,7 +10,7 @@ ghost use Prim.Native.Nat.{_-_, _^_};
 ghost use mathlib.Core.Path.{_≡_};
 ghost use mathlib.Core.Bool.{cond};
 ghost use lib.Dec.{ltb};
-ghost use Rattle.totals.specs.Argument.{due};
+ghost use Rattle.totals.specs.Argument.{tableDue};
 
 // Writes the table, as one of several where some are asked for on the way. Says whether it could be written.
 pub(crate) fn show(control: &Control, every: u32) -> bool {
@@ -21,7 +21,7 @@ pub(crate) fn show(control: &Control, every: u32) -> bool {
 
 // A table is due: a record was accepted, and their count is a multiple of what was asked for.
 fn is_due(every: u32, before: u32, count: u32) -> bool
-    ensures { λ r. ⌜ r ≡ due every before count ⌝ }
+    ensures { λ r. ⌜ r ≡ tableDue every before count ⌝ }
 {
     if every == 0 {
         return false;

@@ -16,7 +16,7 @@ ghost use lib.ListN.{length, getD};
 ghost use Rattle.theory.specs.order.Limits.{variables};
 ghost use Rattle.io.specs.Counts.{Counts};
 ghost use Rattle.text.specs.Wrote.{Wrote};
-ghost use Rattle.totals.specs.Table.{Small, line, sumsBelow, padded, cell, countsOf, variableLine, linesBelow, tableOf, room, skippedLine, shownOf};
+ghost use Rattle.totals.specs.Table.{Small, line, sumsBelow, padded, rightAligned, countsOf, variableLine, linesBelow, tableOf, room, skippedLine, shownOf};
 
 // The widths of the first column and of the others, with the space before each number.
 const NAME_WIDTH: usize = 3;
@@ -61,16 +61,16 @@ fn beside_digit(width: usize) -> usize
 }
 
 // A number at the right end of a column: the digits of its tenth, if it has one, in what is left of the column, and the last.
-fn put_cell(out: &mut [u8], at: usize, width: usize, n: u64) -> usize
-    requires { ⌜ at + length (cell width n) ≤ length (now out) ⌝ }
-    ensures { λ r. ⌜ Wrote (now (out .entry)) at (cell width n) (now (out .exit)) r ⌝ }
+fn put_aligned(out: &mut [u8], at: usize, width: usize, n: u64) -> usize
+    requires { ⌜ at + length (rightAligned width n) ≤ length (now out) ⌝ }
+    ensures { λ r. ⌜ Wrote (now (out .entry)) at (rightAligned width n) (now (out .exit)) r ⌝ }
 {
     let left = beside_digit(width);
     if n < 10 {
         let only = put_padded(out, at, left, b"");
         return put_digit(out, only, n);
     }
-    let last = put_cell(out, at, left, n / 10);
+    let last = put_aligned(out, at, left, n / 10);
     put_digit(out, last, n)
 }
 
@@ -79,10 +79,10 @@ fn put_counts(out: &mut [u8], at: usize, s: Sums) -> usize
     requires { ⌜ (at + length (countsOf s) ≤ length (now out)) × Small s ⌝ }
     ensures { λ r. ⌜ Wrote (now (out .entry)) at (countsOf s) (now (out .exit)) r ⌝ }
 {
-    let a = put_cell(out, at, COUNT_WIDTH, s.clear);
-    let b = put_cell(out, a, COUNT_WIDTH, s.race);
-    let c = put_cell(out, b, COUNT_WIDTH, s.doubt);
-    let d = put_cell(out, c, COUNT_WIDTH, all_of(s));
+    let a = put_aligned(out, at, COUNT_WIDTH, s.clear);
+    let b = put_aligned(out, a, COUNT_WIDTH, s.race);
+    let c = put_aligned(out, b, COUNT_WIDTH, s.doubt);
+    let d = put_aligned(out, c, COUNT_WIDTH, all_of(s));
     put_padded(out, d, 0, b"\n")
 }
 
@@ -95,7 +95,7 @@ fn put_variable(out: &mut [u8], at: usize, v: u32, t: Totals) -> usize
     if all_of(s) == 0 {
         return at;
     }
-    let a = put_cell(out, at, NAME_WIDTH, v as u64);
+    let a = put_aligned(out, at, NAME_WIDTH, v as u64);
     put_counts(out, a, s)
 }
 
@@ -143,7 +143,7 @@ fn put_skipped(out: &mut [u8], at: usize, control: &Control) -> usize
         return at;
     }
     let a = put_padded(out, at, 0, b"skipped");
-    let b = put_cell(out, a, 0, skipped(control) as u64);
+    let b = put_aligned(out, a, 0, skipped(control) as u64);
     put_padded(out, b, 0, b"\n")
 }
 

@@ -2,8 +2,8 @@
 use mathlib.Core.Path.{refl}
 use Rattle.theory.specs.tables.Turns.{turns}
 use Rattle.theory.specs.acceptance.Table.{standingRefusal}
-use Rattle.theory.specs.acceptance.Examples.{AllGet, lists}
+use Rattle.theory.specs.acceptance.Examples.{AllGet, refusalLists}
 
-pub all-get : AllGet lists
+pub all-get : AllGet refusalLists
 unfolding turns standingRefusal
 all-get = refl

@@ -14,7 +14,7 @@ use Rattle.theory.specs.order.Limits.{tasks, records}
 use Rattle.theory.specs.tables.Turns.{turns}
 use Rattle.theory.specs.order.Recording.{take, give, start, join, owned, kind, kinds, lossMark, kindSeries}
 use Rattle.theory.specs.fillings.Completion.{bit, names}
-use Rattle.theory.specs.acceptance.Table.{hasKind, anyBelow, Standing, Row, _when_, rows, lastRow, firstRow, standingRefusal, Fitting}
+use Rattle.theory.specs.acceptance.Table.{hasKind, anyBelow, Standing, Row, _when_, rows, lastRow, rowNumbers, isOneOf, OfRow, firstRow, standingRefusal, Fitting}
 use Rattle.theory.proofs.basics.Reflects.{Reflects, right, wrong, equal}
 
 -- The series of the kinds
@@ -68,10 +68,27 @@ row-bound n (x ∷ xs) h = decided (x .applies) (row-bound n xs (rows-after n x 
     decided true l = row-to-n n x xs h
     decided false l = l
 
--- a refusal's number is that of a row
 pub refusal-bound : (s : Standing) (r : Record) → standingRefusal s r ≤ lastRow
 unfolding standingRefusal
 refusal-bound s r = row-bound lastRow (rows s r) refl
+
+-- every row has one of the table's numbers: a test that computes likewise
+abbrev listed : List Row → Bool
+listed [] = true
+listed (x ∷ xs) = isOneOf rowNumbers (x .number) && listed xs
+
+first-listed : (xs : List Row) → listed xs ≡ true → 1 ≤ firstRow xs → OfRow (firstRow xs)
+first-listed [] h l = absurd (omega arith)
+first-listed (x ∷ xs) h l = decided (x .applies) (first-listed xs (and-elim-right (isOneOf rowNumbers (x .number)) _ h)) l
+  where
+    decided : (b : Bool) → (1 ≤ firstRow xs → OfRow (firstRow xs)) → 1 ≤ cond b (x .number) (firstRow xs) → OfRow (cond b (x .number) (firstRow xs))
+    decided true f l = and-elim-left (isOneOf rowNumbers (x .number)) _ h
+    decided false f l = f l
+
+-- a refusal's number is that of a row
+pub refusal-of-row : (s : Standing) (r : Record) → 1 ≤ standingRefusal s r → OfRow (standingRefusal s r)
+unfolding standingRefusal
+refusal-of-row s r = first-listed (rows s r) refl
 
 -- The rows of acts and of marks
 

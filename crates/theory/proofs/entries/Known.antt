@@ -24,7 +24,7 @@ use Rattle.theory.specs.feeding.Step.{nextNumber, freshControl, freshSta
 use Rattle.theory.specs.skipping.Demands.{plainStepOf}
 use Rattle.theory.specs.feeding.Feeding.{byClocks, afterAll}
 use Rattle.theory.specs.totals.Totals.{entriesAt}
-use Rattle.theory.specs.entries.Table.{pairedAt, takenIn, pairedWith, openTasks, excuseOf, excuseBy, excuse}
+use Rattle.theory.specs.entries.Table.{pairedAt, entryCount, pairedWith, openTasks, excuseOf, excuseBy, excuse}
 use Rattle.theory.specs.entries.Known.{Fault, AllFit, pairedFrom, paired, enteredAll, startWith, Reported, FaultsKnown}
 use Rattle.theory.specs.verdicts.Verdict.{Latest, ApartInAll}
 use Rattle.theory.proofs.basics.Reflects.{Reflects, right, wrong, equal, at-most}
@@ -138,7 +138,7 @@ module _ (fs : List Fault) (fit : AllFit fs) (some : 0 < length fs) (few : lengt
   start : TakenAll fs freshControl (enteredAll fs freshControl)
   start = taken-all fs fit freshControl (fresh-control .size) (omega (arith, fresh-taken))
     where
-      fresh-taken : takenIn freshControl ≡ 0
+      fresh-taken : entryCount freshControl ≡ 0
       fresh-taken = fresh-cell entriesAt (omega arith) (omega arith)
 
   abbrev s : State
@@ -271,10 +271,10 @@ module _ (fs : List Fault) (fit : AllFit fs) (some : 0 < length fs) (few : lengt
     unfolding excuseBy openTasks test
     reported w = rw (taken, access-tests o isa, lt-ltb t tasks ht, lt-ltb v variables hv) (decided (equal (maskOf test) 0))
       where
-        taken : ltb 0 (takenIn (after .control)) ≡ true
+        taken : ltb 0 (entryCount (after .control)) ≡ true
         taken =
-            let e : takenIn (after .control) ≡ takenIn freshControl + length fs = cell-kept s r entriesAt (omega arith) ∙ (all-kept rs (startWith fs) entriesAt (omega arith) ∙ start .taken) in
-            lt-ltb 0 (takenIn (after .control)) (omega arith)
+            let e : entryCount (after .control) ≡ entryCount freshControl + length fs = cell-kept s r entriesAt (omega arith) ∙ (all-kept rs (startWith fs) entriesAt (omega arith) ∙ start .taken) in
+            lt-ltb 0 (entryCount (after .control)) (omega arith)
 
         all-paired : maskOf test ≡ 0 → (u i : ℕ) → Latest (recording rs ++ (act o t v ∷ [])) u i (length (recording rs)) →
             ApartInAll (recording rs ++ (act o t v ∷ [])) (length (recording rs)) i → (b : Bool) → Paired u ≡ b → Paired u ≡ true

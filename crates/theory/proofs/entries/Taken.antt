@@ -14,7 +14,7 @@ use Rattle.theory.specs.fillings.Completion.{bit}
 use Rattle.theory.specs.acceptance.Control.{countAt}
 use Rattle.theory.specs.tables.Reckonings.{wordBits}
 use Rattle.theory.specs.totals.Totals.{entriesAt, controlCells}
-use Rattle.theory.specs.entries.Table.{pairedAt, takenIn, pairedWith, marked, pairs, entered, afterEntry}
+use Rattle.theory.specs.entries.Table.{pairedAt, entryCount, pairedWith, marked, pairs, entered, afterEntry}
 use Rattle.theory.specs.entries.Known.{Fault, Fits, AllFit, none-left, and-fits, concerns, pairedFrom, enteredAll}
 use Rattle.theory.proofs.basics.Reflects.{Reflects, right, wrong, equal}
 use Rattle.theory.proofs.acceptance.ControlTable.{ExactControl, exact-elsewhere}
@@ -42,20 +42,20 @@ module _ (f : Fault) (fits : Fits f) (control : List ℕ) (size : length control
   abbrev next : List ℕ
   next = entered (f .variable) (f .low) (f .high) (f .accepted) control
 
-  pub is-entered : takenIn control < entries → afterEntry (f .variable) (f .low) (f .high) (f .accepted) control ≡ next
+  pub is-entered : entryCount control < entries → afterEntry (f .variable) (f .low) (f .high) (f .accepted) control ≡ next
   is-entered room =
-      rw (lt-ltb (f .variable) variables (fits .variable-fits), lt-ltb (f .low) tasks low-fits, lt-ltb (f .high) tasks (fits .high-fits), lt-ltb (takenIn control) entries room)
+      rw (lt-ltb (f .variable) variables (fits .variable-fits), lt-ltb (f .low) tasks low-fits, lt-ltb (f .high) tasks (fits .high-fits), lt-ltb (entryCount control) entries room)
 
   second-size : length second ≡ controlCells
   second-size = pairs-size (f .accepted) (f .variable) (f .high) (f .low) first ∙ (pairs-size (f .accepted) (f .variable) (f .low) (f .high) control ∙ size)
 
   pub entered-size : length next ≡ controlCells
   unfolding entered
-  entered-size = length-set second entriesAt (takenIn control + 1) ∙ second-size
+  entered-size = length-set second entriesAt (entryCount control + 1) ∙ second-size
 
-  pub entered-taken : takenIn next ≡ suc (takenIn control)
+  pub entered-taken : entryCount next ≡ suc (entryCount control)
   unfolding entered
-  entered-taken = getD-set-same second entriesAt (takenIn control + 1) 0 (omega (arith, second-size)) ∙ omega arith
+  entered-taken = getD-set-same second entriesAt (entryCount control + 1) 0 (omega (arith, second-size)) ∙ omega arith
 
   entered-exact : {es : List Event} → ExactControl es control → ExactControl es next
   unfolding entered
@@ -77,7 +77,7 @@ module _ (f : Fault) (fits : Fits f) (control : List ℕ) (size : length control
 
     counted : bit (pairedWith next v t) u ≡ bit (pairedWith second v t) u
     unfolding entered
-    counted = ap (λ (x : ℕ). bit x u) (getD-set-other second entriesAt (pairedAt v t) (takenIn control + 1) 0 (λ e. omega arith))
+    counted = ap (λ (x : ℕ). bit x u) (getD-set-other second entriesAt (pairedAt v t) (entryCount control + 1) 0 (λ e. omega arith))
 
     first-size : length first ≡ controlCells
     first-size = pairs-size (f .accepted) (f .variable) (f .low) (f .high) control ∙ size
@@ -123,14 +123,14 @@ module _ (f : Fault) (fits : Fits f) (control : List ℕ) (size : length control
 -- the table after them
 pub record TakenAll (fs : List Fault) (control after : List ℕ) : Type 0 where
   pub size : length after ≡ controlCells
-  pub taken : takenIn after ≡ takenIn control + length fs
+  pub taken : entryCount after ≡ entryCount control + length fs
   pub exact : {es : List Event} → ExactControl es control → ExactControl es after
   pub pairing : (v t u : ℕ) → v < variables → t < tasks → u < tasks → bit (pairedWith after v t) u ≡ pairedFrom (bit (pairedWith control v t) u) fs v t u
 
-pub taken-all : (fs : List Fault) → AllFit fs → (control : List ℕ) → length control ≡ controlCells → takenIn control + length fs ≤ entries → TakenAll fs control (enteredAll fs control)
+pub taken-all : (fs : List Fault) → AllFit fs → (control : List ℕ) → length control ≡ controlCells → entryCount control + length fs ≤ entries → TakenAll fs control (enteredAll fs control)
 taken-all [] none-left control size room = record { size = size; taken = omega arith; exact = λ y. y; pairing = λ v t u hv ht hu. refl }
 taken-all (f ∷ fs) (and-fits x xs) control size room =
-    let taken : takenIn (entered (f .variable) (f .low) (f .high) (f .accepted) control) ≡ suc (takenIn control) = entered-taken f x control size in
+    let taken : entryCount (entered (f .variable) (f .low) (f .high) (f .accepted) control) ≡ suc (entryCount control) = entered-taken f x control size in
     let z = taken-all fs xs (entered (f .variable) (f .low) (f .high) (f .accepted) control) (entered-size f x control size) (omega arith) in
     let q = z .taken in
     rw (is-entered f x control size (omega arith))

@@ -16,7 +16,7 @@ use Rattle.theory.specs.fillings.Completion.{bit}
 use Rattle.theory.specs.acceptance.Table.{refusal, recording}
 use Rattle.theory.specs.tables.Reckonings.{maskOf, masksBy}
 use Rattle.theory.specs.feeding.Step.{freshState, freshSets}
-use Rattle.theory.specs.feeding.Paths.{Reckoning, clocks, sets, leftBy, Retained, FullestPath, RetainedApart, ExactBetween, acquiring, ExactPaths, ExactMasks, TellsPaths}
+use Rattle.theory.specs.feeding.Paths.{Reckoning, clockReckoning, setReckoning, leftBy, Retained, FullestPath, RetainedApart, ExactBetween, acquiring, ExactPaths, ExactMasks, TellsPaths}
 use Rattle.theory.proofs.basics.Reflects.{Reflects, right, wrong, by-test, is-true, fails, passed, passes}
 use Rattle.theory.proofs.order.Ops.{each-op, no-mark, opOf-kind, other-tests, on-series, access-on}
 use Rattle.theory.proofs.acceptance.ControlTable.{same-refusal}
@@ -77,10 +77,10 @@ pub record AsTested {S : Type 0} (x : Reckoning S) (rs : List Record) (r : Recor
       ≡ masksBy (maskOf (x .apartInFull (leftBy x rs) (r .kind) (r .task) (r .on))) (maskOf (x .apart (leftBy x rs) (r .kind) (r .task) (r .on)))
 
 module _ (rs : List Record) (r : Record) (e : refusal (recording rs) r ≡ 0) (q : accesses (r .kind) ≡ true) where
-  pub clocks-tested : AsTested clocks rs r
+  pub clocks-tested : AsTested clockReckoning rs r
   clocks-tested = record { told = rw (same-refusal (after-all clocks-simulate [] freshState rs (clocks-simulate .begins) .base .control-exact) r, e, q) }
 
-  pub sets-tested : AsTested sets rs r
+  pub sets-tested : AsTested setReckoning rs r
   sets-tested = record { told = rw (same-refusal (after-all sets-simulate [] freshSets rs (sets-simulate .begins) .base .control-exact) r, e, q) }
 
 -- so they say of each task what the tests say
@@ -110,8 +110,8 @@ module _ {S : Type 0} {x : Reckoning S} (exact : ExactPaths x) (rs : List Record
       of-op Ordered u {Q} z =
           subst (λ (p : Op). Q ↔ RetainedApart Ordered (recording rs) (eventOf (record { kind = kind o; task = t; on = n })) p n u) (sym (opOf-kind o)) z
 
-pub clocks-tell : TellsPaths clocks
+pub clocks-tell : TellsPaths clockReckoning
 clocks-tell rs r e q = masks-exact clock-paths rs (access-shape (recording rs) r e q) e (clocks-tested rs r e q)
 
-pub sets-tell : TellsPaths sets
+pub sets-tell : TellsPaths setReckoning
 sets-tell rs r e q = masks-exact set-paths rs (access-shape (recording rs) r e q) e (sets-tested rs r e q)

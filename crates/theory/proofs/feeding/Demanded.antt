@@ -10,7 +10,7 @@ use lib.ListN.{length}
 use Rattle.theory.specs.declared.record.Record.{Record}
 use Rattle.theory.specs.declared.answer.Answer.{Answer}
 use Rattle.theory.specs.order.Recording.{Event, act, eventOf, Unmarked, accesses, isAccess}
-use Rattle.theory.specs.acceptance.Table.{lastRow, standingRefusal, refusal, appendUnless, extended, recording}
+use Rattle.theory.specs.acceptance.Table.{lastRow, OfRow, standingRefusal, refusal, appendUnless, extended, recording}
 use Rattle.theory.specs.verdicts.Verdict.{Verdict, Race, Clear, AccessAt, Unordered, With}
 use Rattle.theory.specs.verdicts.Demands.{Firm}
 use Rattle.theory.specs.verdicts.Search.{judge, isAccessEvent}
@@ -29,7 +29,7 @@ use Rattle.theory.proofs.verdicts.Demands.{Ruling, judge-ruling, ruling
 use Rattle.theory.proofs.feeding.Simulation.{Simulates, fed-to, clocks-simulate, sets-simulate}
 use Rattle.theory.proofs.feeding.Cases.{judged-by}
 use Rattle.theory.proofs.feeding.Profile.{fed-profile, fed-owned}
-use Rattle.theory.proofs.acceptance.Rows.{refusal-bound}
+use Rattle.theory.proofs.acceptance.Rows.{refusal-bound, refusal-of-row}
 
 -- An accepted record's answer is no refusal
 
@@ -145,7 +145,7 @@ module _ {S : Type 0} (c : Checker S) (s : S) (r : Record) (refuse : (n : ℕ) �
       taken false q e = other-taken e q (take e q)
 
       decided : (n : ℕ) → checkerRefusal c s r ≤ lastRow → checkerRefusal c s r ≡ n → Handled c s r
-      decided (suc n) h e = let (a, b) = refuse n e in refused (suc n) e (omega arith) (omega arith) a b
+      decided (suc n) h e = let (a, b) = refuse n e in refused (suc n) e (omega arith) (omega arith) (subst OfRow e (refusal-of-row _ r (omega arith))) a b
       decided zero h e = taken (accesses (r .kind)) refl e
 
 -- the step, which goes by the clocks
@@ -168,7 +168,7 @@ pub gets-verdict : {S : Type 0} {c : Checker S} → Demand1 c → GetsVerdict c
 gets-verdict {c = c} d s r a z = by-cases (d s r)
   where
     by-cases : Handled c s r → Judged (c .answer s r) (numberFor c s)
-    by-cases (refused n e l h m q) = absurd (omega arith)
+    by-cases (refused n e l h k m q) = absurd (omega arith)
     by-cases (access-taken e q j) = j
     by-cases (other-taken e q m) = absurd (true≢false (sym a ∙ q))
 

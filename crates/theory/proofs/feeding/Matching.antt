@@ -20,7 +20,7 @@ use Rattle.theory.specs.feeding.Meaning.{meaning}
 use Rattle.theory.specs.totals.Totals.{totalled}
 use Rattle.theory.specs.feeding.Step.{nextNumber, answeredBy, masksUnless, apartByClocks, apartBySets, stepUnless, stepOf, setStepUnless, setStepOf, freshState, freshSets, clockAnswer, setAnswer}
 use Rattle.theory.specs.feeding.Feeding.{Checker, replies, afterAll, byClocks, bySets}
-use Rattle.theory.specs.feeding.Paths.{clocks, sets, leftBy, ExactPaths, ReckoningsMatch}
+use Rattle.theory.specs.feeding.Paths.{clockReckoning, setReckoning, leftBy, ExactPaths, ReckoningsMatch}
 use Rattle.theory.proofs.order.Ops.{no-mark, opOf-kind}
 use Rattle.theory.proofs.tables.Bits.{mask-ext}
 use Rattle.theory.proofs.acceptance.ControlTable.{same-refusal}
@@ -42,16 +42,16 @@ same-failing {a} {b} f g = decided a b f g
 
 -- The masks, from the two claims
 
-module _ (by-clocks : ExactPaths clocks) (by-sets : ExactPaths sets) (rs : List Record) where
+module _ (by-clocks : ExactPaths clockReckoning) (by-sets : ExactPaths setReckoning) (rs : List Record) where
   -- an access asks each task in turn: of a kept access both say whether there is a path, and where none is kept both tests fail
   same-tests : {r : Record} → AccessShape (recording rs) r → refusal (recording rs) r ≡ 0 → (u : ℕ) → u < tasks →
-      (clocks .apart (leftBy clocks rs) (r .kind) (r .task) (r .on) u ≡ sets .apart (leftBy sets rs) (r .kind) (r .task) (r .on) u)
-      × (clocks .apartInFull (leftBy clocks rs) (r .kind) (r .task) (r .on) u ≡ sets .apartInFull (leftBy sets rs) (r .kind) (r .task) (r .on) u)
-  same-tests (an-access o t n a hn) e u hu = decided (clocks .number (leftBy clocks rs) (kind o) n u) refl (sets .number (leftBy sets rs) (kind o) n u) refl
+      (clockReckoning .apart (leftBy clockReckoning rs) (r .kind) (r .task) (r .on) u ≡ setReckoning .apart (leftBy setReckoning rs) (r .kind) (r .task) (r .on) u)
+      × (clockReckoning .apartInFull (leftBy clockReckoning rs) (r .kind) (r .task) (r .on) u ≡ setReckoning .apartInFull (leftBy setReckoning rs) (r .kind) (r .task) (r .on) u)
+  same-tests (an-access o t n a hn) e u hu = decided (clockReckoning .number (leftBy clockReckoning rs) (kind o) n u) refl (setReckoning .number (leftBy setReckoning rs) (kind o) n u) refl
     where
-      decided : (i : ℕ) → clocks .number (leftBy clocks rs) (kind o) n u ≡ i → (j : ℕ) → sets .number (leftBy sets rs) (kind o) n u ≡ j →
-          (clocks .apart (leftBy clocks rs) (kind o) t n u ≡ sets .apart (leftBy sets rs) (kind o) t n u)
-          × (clocks .apartInFull (leftBy clocks rs) (kind o) t n u ≡ sets .apartInFull (leftBy sets rs) (kind o) t n u)
+      decided : (i : ℕ) → clockReckoning .number (leftBy clockReckoning rs) (kind o) n u ≡ i → (j : ℕ) → setReckoning .number (leftBy setReckoning rs) (kind o) n u ≡ j →
+          (clockReckoning .apart (leftBy clockReckoning rs) (kind o) t n u ≡ setReckoning .apart (leftBy setReckoning rs) (kind o) t n u)
+          × (clockReckoning .apartInFull (leftBy clockReckoning rs) (kind o) t n u ≡ setReckoning .apartInFull (leftBy setReckoning rs) (kind o) t n u)
       decided (suc i) q j q′ =
           let k = by-clocks rs .keeps o n u i a hn hu .0 q in
           let x = by-clocks rs .before (record { kind = kind o; task = t; on = n }) e (rw (no-mark o)) (rw (opOf-kind o) (access-alone o a)) o n u i k in
@@ -68,16 +68,16 @@ module _ (by-clocks : ExactPaths clocks) (by-sets : ExactPaths sets) (rs : List 
           absurd (omega arith)
 
   -- of whatever record comes next
-  same-apart : (r : Record) → apartByClocks (leftBy clocks rs) r ≡ apartBySets (leftBy sets rs) r
+  same-apart : (r : Record) → apartByClocks (leftBy clockReckoning rs) r ≡ apartBySets (leftBy setReckoning rs) r
   same-apart r = decided (refusal (recording rs) r) refl (accesses (r .kind)) refl
     where
-      clocks-refuse : controlRefusal ((leftBy clocks rs) .control) r ≡ refusal (recording rs) r
+      clocks-refuse : controlRefusal ((leftBy clockReckoning rs) .control) r ≡ refusal (recording rs) r
       clocks-refuse = same-refusal (after-all clocks-simulate [] freshState rs (clocks-simulate .begins) .base .control-exact) r
 
-      sets-refuse : controlRefusal ((leftBy sets rs) .control) r ≡ refusal (recording rs) r
+      sets-refuse : controlRefusal ((leftBy setReckoning rs) .control) r ≡ refusal (recording rs) r
       sets-refuse = same-refusal (after-all sets-simulate [] freshSets rs (sets-simulate .begins) .base .control-exact) r
 
-      decided : (n : ℕ) → refusal (recording rs) r ≡ n → (b : Bool) → accesses (r .kind) ≡ b → apartByClocks (leftBy clocks rs) r ≡ apartBySets (leftBy sets rs) r
+      decided : (n : ℕ) → refusal (recording rs) r ≡ n → (b : Bool) → accesses (r .kind) ≡ b → apartByClocks (leftBy clockReckoning rs) r ≡ apartBySets (leftBy setReckoning rs) r
       decided (suc n) e b q = rw (clocks-refuse, sets-refuse, e)
       decided zero e false q = rw (clocks-refuse, sets-refuse, e, q)
       decided zero e true q =
@@ -119,11 +119,11 @@ pub after-one-more : {S : Type 0} (c : Checker S) (s : S) (rs : List Record) (r 
 after-one-more c s [] r = refl
 after-one-more c s (x ∷ rs) r = after-one-more c (c .next s x) rs r
 
-module _ (by-clocks : ExactPaths clocks) (by-sets : ExactPaths sets) where
-  same-answers : (before rest : List Record) → Beside (leftBy clocks before) (leftBy sets before) → replies byClocks (leftBy clocks before) rest ≡ replies bySets (leftBy sets before) rest
+module _ (by-clocks : ExactPaths clockReckoning) (by-sets : ExactPaths setReckoning) where
+  same-answers : (before rest : List Record) → Beside (leftBy clockReckoning before) (leftBy setReckoning before) → replies byClocks (leftBy clockReckoning before) rest ≡ replies bySets (leftBy setReckoning before) rest
   same-answers before [] x = refl
   same-answers before (r ∷ rest) x =
-      let (a, y) = beside-step (leftBy clocks before) (leftBy sets before) r x (same-apart by-clocks by-sets before r) in
+      let (a, y) = beside-step (leftBy clockReckoning before) (leftBy setReckoning before) r x (same-apart by-clocks by-sets before r) in
       ap₂ (λ (a : Answer) (l : List Answer). a ∷ l) a
       (rw (after-one-more byClocks freshState before r, after-one-more bySets freshSets before r) at
       (same-answers (before ++ (r ∷ [])) rest (rw (after-one-more byClocks freshState before r, after-one-more bySets freshSets before r) y)))

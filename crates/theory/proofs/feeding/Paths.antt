@@ -20,7 +20,7 @@ use Rattle.theory.specs.fillings.Completion.{Filling, arrived, full, fil
 use Rattle.theory.specs.acceptance.Table.{isAct, hasKind, refusal, recording, appendUnless}
 use Rattle.theory.specs.tables.Rows.{cell}
 use Rattle.theory.specs.history.History.{asker, askAt, latestSlot, latestNumber}
-use Rattle.theory.specs.feeding.Paths.{Reckoning, clocks, sets, leftBy, Retained, inFullest, ExactBetween, SaysPaths, acquiring, ExactPaths}
+use Rattle.theory.specs.feeding.Paths.{Reckoning, clockReckoning, setReckoning, leftBy, Retained, inFullest, ExactBetween, SaysPaths, acquiring, ExactPaths}
 use Rattle.theory.proofs.basics.Reflects.{Reflects, right, wrong, by-test, equal, at-most, both, passed}
 use Rattle.theory.proofs.order.Leads.{Leads, leads-survives, leads-as-arrived, filled-with}
 use Rattle.theory.proofs.order.Tests.{none-every, every-none}
@@ -268,7 +268,7 @@ record Exactly {S : Type 0} (x : Reckoning S) (es : List Event) (s : S) : Type 0
   as-arrived : (p : Op) (t v u : ℕ) → T (isAccess p) → t < tasks → v < variables → u < tasks → Tells arrived es last p t v u (x .apart s (kind p) t v u)
   in-full : (p : Op) (t v u : ℕ) → T (isAccess p) → t < tasks → v < variables → u < tasks → Tells full es last p t v u (x .apartInFull s (kind p) t v u)
 
-clocks-exactly : {es : List Event} {s : State} → Represents es s → Exactly clocks es s
+clocks-exactly : {es : List Event} {s : State} → Represents es s → Exactly clockReckoning es s
 clocks-exactly {s = s} x =
     record {
       last = s .last;
@@ -280,7 +280,7 @@ clocks-exactly {s = s} x =
       in-full = λ p t v u a ht hv hu. clock-tells p (x .base .history) ht hv hu (x .clocks .in-full);
     }
 
-sets-exactly : {es : List Event} {s : SetState} → RepresentsSets es s → Exactly sets es s
+sets-exactly : {es : List Event} {s : SetState} → RepresentsSets es s → Exactly setReckoning es s
 sets-exactly {s = s} x =
     record {
       last = s .last;
@@ -349,8 +349,8 @@ module _ {S : Type 0} {x : Reckoning S} {R : List Event → S → Type 0} (simul
       after (an-act q t n a) b f z = rw (event-act q t n) (paths-after now q t n (a .fits .task-fits) f (rw (event-act q t n) at z))
       after (a-mark t n m) b f z = absurd (true≢false (sym b))
 
-pub clock-paths : ExactPaths clocks
+pub clock-paths : ExactPaths clockReckoning
 clock-paths = exact-paths clocks-simulate (λ es s. clocks-exactly)
 
-pub set-paths : ExactPaths sets
+pub set-paths : ExactPaths setReckoning
 set-paths = exact-paths sets-simulate (λ es s. sets-exactly)

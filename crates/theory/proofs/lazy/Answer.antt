@@ -18,7 +18,7 @@ use Rattle.theory.specs.fillings.Completion.{bit}
 use Rattle.theory.specs.acceptance.Table.{refusal, recording}
 use Rattle.theory.specs.verdicts.Verdict.{Latest}
 use Rattle.theory.specs.feeding.Step.{freshControl, freshSets}
-use Rattle.theory.specs.feeding.Paths.{sets, leftBy, Retained, RetainedApart}
+use Rattle.theory.specs.feeding.Paths.{setReckoning, leftBy, Retained, RetainedApart}
 use Rattle.theory.specs.lazy.Walk.{Walks, Counted, WalkOf, no-pair, no-walk, walk, Between, pair}
 use Rattle.theory.specs.lazy.Fold.{Lazy, wordAt, byEnd, column, pairsOf, walkBy, told, question, lazyAfter, freshLazy, lazyFollower, lazily}
 use Rattle.theory.specs.lazy.Answer.{Told, AnswersLazily}
@@ -120,7 +120,7 @@ module _ (rs : List Record) (p : Op) (t v : ℕ) (isa : T (isAccess p)) (hv : v 
     λ a. set-paths rs .keeps p v u i isa hv hu .0 (final-number (history .base .history) isa hv hu n a),
   )
     where
-      history : RepresentsSets (recording rs) (leftBy sets rs)
+      history : RepresentsSets (recording rs) (leftBy setReckoning rs)
       history = after-all sets-simulate [] freshSets rs (sets-simulate .begins)
 
   -- nobody's pair is one of its own
@@ -236,9 +236,9 @@ asked-itself : (o : Op) (t n : ℕ) → T (isAccess o) → t < tasks → n < var
 asked-itself o t n a ht hn = rw (access-tests o a, lt-ltb t tasks ht, lt-ltb n variables hn)
 
 access-told : (rs : List Record) {q : Record} → Shape (recording rs) q → accesses (q .kind) ≡ true → refusal (recording rs) q ≡ 0 → (before lazyFollower rs q) .refused ≡ 0 →
-    Told (recording rs ++ (eventOf q ∷ [])) (q .task) (q .on) (length (recording rs)) (sets .masks (leftBy sets rs) q) (told q ((before lazyFollower rs q) .kept))
+    Told (recording rs ++ (eventOf q ∷ [])) (q .task) (q .on) (length (recording rs)) (setReckoning .masks (leftBy setReckoning rs) q) (told q ((before lazyFollower rs q) .kept))
 access-told rs (a-mark t n m) e h z = absurd (true≢false (sym e))
-access-told rs (an-act o t n a) e h z = rw (event-act o t n) (told-of rs o t n isa ht hn _ (sets .masks (leftBy sets rs) r) (x .holds z .lazily) apart)
+access-told rs (an-act o t n a) e h z = rw (event-act o t n) (told-of rs o t n isa ht hn _ (setReckoning .masks (leftBy setReckoning rs) r) (x .holds z .lazily) apart)
   where
     r : Record
     r = record { kind = kind o; task = t; on = n }
@@ -258,10 +258,10 @@ access-told rs (an-act o t n a) e h z = rw (event-act o t n) (told-of rs o t n i
     x : Over (Holds o t n isa ht) [] rs (before lazyFollower rs r)
     x = follows-list keeps rs [] freshControl freshLazy (fresh-holds o t n isa ht)
 
-    apart : (u : ℕ) → u < tasks → T (bit ((sets .masks (leftBy sets rs) r) .arrived) u) ↔ RetainedApart HappensBefore (recording rs) (act o t n) o n u
+    apart : (u : ℕ) → u < tasks → T (bit ((setReckoning .masks (leftBy setReckoning rs) r) .arrived) u) ↔ RetainedApart HappensBefore (recording rs) (act o t n) o n u
     apart u hu =
-        subst (λ (f : Event). T (bit ((sets .masks (leftBy sets rs) r) .arrived) u) ↔ RetainedApart HappensBefore (recording rs) f o n u) (event-act o t n)
-        (subst (λ (p : Op). T (bit ((sets .masks (leftBy sets rs) r) .arrived) u) ↔ RetainedApart HappensBefore (recording rs) (eventOf r) p n u) (opOf-kind o)
+        subst (λ (f : Event). T (bit ((setReckoning .masks (leftBy setReckoning rs) r) .arrived) u) ↔ RetainedApart HappensBefore (recording rs) f o n u) (event-act o t n)
+        (subst (λ (p : Op). T (bit ((setReckoning .masks (leftBy setReckoning rs) r) .arrived) u) ↔ RetainedApart HappensBefore (recording rs) (eventOf r) p n u) (opOf-kind o)
         (sets-tell rs r h e .as-arrived u hu))
 
 pub answers-lazily : AnswersLazily lazily
@@ -270,6 +270,6 @@ answers-lazily =
       without = answers-without right-before;
       access-end = λ rs q e a.
           let x = accepted right-before rs q e in
-          subst (Told (recording rs ++ (eventOf q ∷ [])) (q .task) (q .on) (length (recording rs)) (sets .masks (leftBy sets rs) q)) (sym (x .answer ∙ rw a))
+          subst (Told (recording rs ++ (eventOf q ∷ [])) (q .task) (q .on) (length (recording rs)) (setReckoning .masks (leftBy setReckoning rs) q)) (sym (x .answer ∙ rw a))
           (access-told rs (shape-of (recording rs) q (x .last)) a (x .last) (x .through));
     }

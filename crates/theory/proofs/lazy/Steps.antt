@@ -19,7 +19,7 @@ use Rattle.theory.specs.history.History.{asker, askAt, kindClashes}
 use Rattle.theory.specs.tables.Rows.{hub, acquiredRow, releasedRow}
 use Rattle.theory.specs.tables.Reckonings.{withBit}
 use Rattle.theory.specs.lazy.Walk.{HandsOver, ShortCircuit}
-use Rattle.theory.specs.lazy.Fold.{Lazy, wordAt, byEnd, byWrite, column, askerOn, noted, shortened, accessed, emptied, flowed, stepped, walkedOver, ofVariable, acted, keepAnew, arrivedNow}
+use Rattle.theory.specs.lazy.Fold.{Lazy, wordAt, byEnd, byWrite, column, askerOn, noted, shortened, accessed, unfollowed, flowed, stepped, walkedOver, ofVariable, acted, keepAnew, arrivedNow}
 use Rattle.theory.proofs.basics.Reflects.{Reflects, right, wrong, by-test, equal, either}
 use Rattle.theory.proofs.acceptance.Rows.{ActAllowed}
 use Rattle.theory.proofs.order.Ops.{Plain, numberedKind-kind, same-op, access-kind}
@@ -194,7 +194,7 @@ module _ (p : Op) (t v : ℕ) (isa : T (isAccess p)) (ht : t < tasks) where
 
       -- A fresh of the variable
 
-      empties-all : Plain o → o ≡ fresh → n ≡ v → Lazily (es ++ (x ∷ [])) (emptied (noted k s))
+      empties-all : Plain o → o ≡ fresh → n ≡ v → Lazily (es ++ (x ∷ [])) (unfollowed (noted k s))
       empties-all z e d =
           record {
             whole = record { nodes = y .whole .nodes; counts = y .whole .counts };
@@ -426,7 +426,7 @@ module _ (p : Op) (t v : ℕ) (isa : T (isAccess p)) (ht : t < tasks) where
           -- an access or a fresh of the variable
           of-variable : Plain o → n ≡ v → {f : Bool} → Reflects (o ≡ fresh) f → {own : Bool} → Reflects (k ≡ t) own → {w : Bool} → Reflects (o ≡ write) w →
               Lazily (es ++ (x ∷ []))
-              (cond f (emptied (noted k s)) (cond own (cond w (shortened (wordAt (s .nodes) k) (noted k s)) (noted k s)) (keepAnew asked-for (kind o) k (noted k s))))
+              (cond f (unfollowed (noted k s)) (cond own (cond w (shortened (wordAt (s .nodes) k) (noted k s)) (noted k s)) (keepAnew asked-for (kind o) k (noted k s))))
           of-variable z e (right f) own w = empties-all z f e
           of-variable z e (wrong f) (wrong m) w = begins-own z (is-false f) e m
             where
@@ -445,7 +445,7 @@ module _ (p : Op) (t v : ℕ) (isa : T (isAccess p)) (ht : t < tasks) where
               Lazily (es ++ (x ∷ []))
               (cond a
               (cond b
-              (cond (o is fresh) (emptied (noted k s)) (cond (eqb k t) (cond (o is write) (shortened (wordAt (s .nodes) k) (noted k s)) (noted k s)) (keepAnew asked-for (kind o) k (noted k s))))
+              (cond (o is fresh) (unfollowed (noted k s)) (cond (eqb k t) (cond (o is write) (shortened (wordAt (s .nodes) k) (noted k s)) (noted k s)) (keepAnew asked-for (kind o) k (noted k s))))
               (noted k s))
               (noted k s))
           plain-act z (wrong m) b =

@@ -2,8 +2,8 @@
 use mathlib.Core.Path.{refl}
 use Rattle.theory.specs.tables.Turns.{turns}
 use Rattle.theory.specs.acceptance.Table.{standingRefusal}
-use Rattle.theory.specs.skipping.Examples.{AllSkip, lists}
+use Rattle.theory.specs.skipping.Examples.{AllSkip, skippedLists}
 
-pub all-skip : AllSkip lists
+pub all-skip : AllSkip skippedLists
 unfolding turns standingRefusal
 all-skip = refl

@@ -20,11 +20,11 @@ use Rattle.theory.specs.feeding.Meaning.{Meaning, refuses, judges, takes
 use Rattle.theory.specs.feeding.Feeding.{byClocks, fed, replies, afterAll, acceptedAnswer, answerUnless}
 use Rattle.theory.specs.feeding.Step.{freshState}
 use Rattle.theory.specs.totals.Totals.{entriesAt}
-use Rattle.theory.specs.entries.Table.{takenIn, excuse}
+use Rattle.theory.specs.entries.Table.{entryCount, excuse}
 use Rattle.theory.specs.entries.Known.{Fault, AllFit, paired, startWith, Reported}
 use Rattle.theory.specs.swapping.Unrelated.{UnrelatedRecords, MissedRecords}
 use Rattle.theory.specs.swapping.Swaps.{Swaps, no-swap, swap-then, movedBy}
-use Rattle.theory.specs.swapping.Compared.{judged, known, taskOf, said, linesOf, lines, excused, saidBeside, linesFrom, linesBeside, SameBeside}
+use Rattle.theory.specs.swapping.Compared.{judged, known, taskOf, said, linesAmong, lines, excused, toldBeside, linesFrom, linesBeside, SameBeside}
 use Rattle.theory.proofs.basics.Reflects.{Reflects, right, wrong, by-test, is-true}
 use Rattle.theory.proofs.order.Ops.{event-act, access-tests}
 use Rattle.theory.proofs.fillings.Bounds.{apart-in-all}
@@ -119,7 +119,7 @@ module _ (fs : List Fault) (fit : AllFit fs) (some-fault : 0 < length fs) (few :
       said-race : {x y : Option Found} (n : ℕ) → Outcome rounds (act o t v) 1 es x → Outcome nothing (act o t v) 1 es y →
           meaning (byClocks .answer s r) ≡ judges n (judgement x y .verdict) (judgement x y .partner) →
           Says (paired fs v t) (HasCandidate rounds (act o t v) es) (HasCandidate nothing (act o t v) es)
-          (saidBeside all (byClocks .next s r) r (judges n (judgement x y .verdict) (judgement x y .partner)))
+          (toldBeside all (byClocks .next s r) r (judges n (judgement x y .verdict) (judgement x y .partner)))
       said-race n (somebody {x = x} i c q low) y m =
           let number : x .number ≡ suc i = omega arith in
           said-excused (paired fs v t) all es rest begin o t v c number low (reported n (x .number) m)
@@ -129,20 +129,20 @@ module _ (fs : List Fault) (fit : AllFit fs) (some-fault : 0 < length fs) (few :
       said-race n (nobody k) (nobody l) m = says-clear (λ u h. k u _ (h .1)) (λ u h. l u _ (h .1))
 
       -- the access is told so
-      said-access : SaidTo (pairedOf fs) es (act o t v) (saidBeside all (byClocks .next s r) r (meaning (byClocks .answer s r)))
+      said-access : SaidTo (pairedOf fs) es (act o t v) (toldBeside all (byClocks .next s r) r (meaning (byClocks .answer s r)))
       unfolding judge
       said-access =
           let m : meaning (byClocks .answer s r) ≡ judges (suc (length es)) ((judge es (act o t v)) .verdict) ((judge es (act o t v)) .partner) = answered r z ∙ rw (event-act o t v, is-true (by-test (isAccess o)) isa) in
           rw m (to-access isa (said-race (suc (length es)) (partner-outcome 1 es) (partner-outcome 1 es) m))
 
     said-to : (rest : List Event) → map eventOf all ≡ es ++ rest → {r : Record} → Shape es r → refusal es r ≡ 0 →
-        SaidTo (pairedOf fs) es (eventOf r) (saidBeside all (byClocks .next s r) r (meaning (byClocks .answer s r)))
+        SaidTo (pairedOf fs) es (eventOf r) (toldBeside all (byClocks .next s r) r (meaning (byClocks .answer s r)))
     said-to rest begin (an-act o t n y) z = rw (event-act o t n) (decided (by-test (isAccess o)))
       where
         r : Record
         r = record { kind = kind o; task = t; on = n }
 
-        decided : {b : Bool} → Reflects (T (isAccess o)) b → SaidTo (pairedOf fs) es (act o t n) (saidBeside all (byClocks .next s r) r (meaning (byClocks .answer s r)))
+        decided : {b : Bool} → Reflects (T (isAccess o)) b → SaidTo (pairedOf fs) es (act o t n) (toldBeside all (byClocks .next s r) r (meaning (byClocks .answer s r)))
         decided (right a) = said-access rest begin o t n a z
         decided (wrong k) =
             let m : meaning (byClocks .answer s r) ≡ takes (suc (length es)) = answered r z ∙ rw (event-act o t n, bool-false {b = isAccess o} k) in
@@ -171,17 +171,17 @@ module _ (fs : List Fault) (fit : AllFit fs) (some-fault : 0 < length fs) (few :
 
 -- Without entries a Race is told as by document 01
 
-told-without : (all : List Record) (s : State) (r : Record) (m : Meaning) → takenIn (s .control) ≡ 0 → saidBeside all s r m ≡ said all m
+told-without : (all : List Record) (s : State) (r : Record) (m : Meaning) → entryCount (s .control) ≡ 0 → toldBeside all s r m ≡ said all m
 told-without all s r (refuses n) e = refl
 told-without all s r (takes n) e = refl
 told-without all s r (judges n Race w) e = rw (no-excuse s r w e)
 told-without all s r (judges n Clear w) e = refl
 told-without all s r (judges n Doubt w) e = refl
 
-lines-without : (all : List Record) (s : State) (rs : List Record) → takenIn (s .control) ≡ 0 → linesFrom all s rs ≡ linesOf all rs (map meaning (replies byClocks s rs))
+lines-without : (all : List Record) (s : State) (rs : List Record) → entryCount (s .control) ≡ 0 → linesFrom all s rs ≡ linesAmong all rs (map meaning (replies byClocks s rs))
 lines-without all s [] e = refl
 lines-without all s (r ∷ rs) e =
-    let z : takenIn ((byClocks .next s r) .control) ≡ 0 = taken-kept s r ∙ e in
+    let z : entryCount ((byClocks .next s r) .control) ≡ 0 = taken-kept s r ∙ e in
     rw (told-without all (byClocks .next s r) r (meaning (byClocks .answer s r)) z, lines-without all (byClocks .next s r) rs z)
 
 beside-none : (rs : List Record) → linesBeside [] rs ≡ lines fed rs

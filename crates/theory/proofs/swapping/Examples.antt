@@ -20,7 +20,7 @@ use Rattle.theory.specs.feeding.Meaning.{Meaning, isRefusal}
 use Rattle.theory.specs.feeding.Feeding.{answersFrom, eventRecord}
 use Rattle.theory.specs.swapping.Unrelated.{Series, task, semaphore, flag, variable, profile, seriesOf, Names, names, sharing, MayShare, may-share, Premise, two-acts, actors-differ, names-no-actor, names-no-same, no-semaphore, no-flag, no-variable, none-owned, Holds, first-misses, second-misses}
 use Rattle.theory.specs.swapping.Compared.{Accepted, none-left, and-accepted, Said, refused, taken, judged, known}
-use Rattle.theory.specs.swapping.Examples.{Related, logged, exchanged, newPlace, saidAt, Changes, AllChange, EachNeeded, related, Pair, AllUnrelated, unrelatedPairs, AllMissed, missedPairs, holding, EitherOrder, HeldPairs, NumbersShift}
+use Rattle.theory.specs.swapping.Examples.{Related, logged, exchanged, newPlace, toldAt, Changes, AllChange, EachNeeded, related, Pair, AllUnrelated, unrelatedPairs, AllMissed, missedPairs, holding, EitherOrder, HeldPairs, NumbersShift}
 use Rattle.theory.proofs.basics.Reflects.{fails, equal, passed}
 use Rattle.theory.proofs.order.Ops.{same-op}
 
@@ -229,7 +229,7 @@ abbrev allRows : List Related → Bool
 allRows [] = true
 allRows (x ∷ xs) = rowTest x && allRows xs
 
-row-changes : (x : Related) → rowTest x ≡ true → saidAt (logged x) (x .place) ≡ some (x .was) → saidAt (exchanged x) (newPlace x) ≡ some (x .becomes) → Changes x
+row-changes : (x : Related) → rowTest x ≡ true → toldAt (logged x) (x .place) ≡ some (x .was) → toldAt (exchanged x) (newPlace x) ≡ some (x .becomes) → Changes x
 row-changes x e b a =
     let met = and-elim-left (othersMet x) _ e in
     let rest = and-elim-right (othersMet x) _ e in
@@ -245,8 +245,8 @@ row-changes x e b a =
     of true e q = true≢false (sym e)
     of false e q = true≢false (sym q)
 
-rows-change : (xs : List Related) → allRows xs ≡ true → map (λ (x : Related). saidAt (logged x) (x .place)) xs ≡ map (λ (x : Related). some (x .was)) xs →
-    map (λ (x : Related). saidAt (exchanged x) (newPlace x)) xs ≡ map (λ (x : Related). some (x .becomes)) xs → AllChange xs
+rows-change : (xs : List Related) → allRows xs ≡ true → map (λ (x : Related). toldAt (logged x) (x .place)) xs ≡ map (λ (x : Related). some (x .was)) xs →
+    map (λ (x : Related). toldAt (exchanged x) (newPlace x)) xs ≡ map (λ (x : Related). some (x .becomes)) xs → AllChange xs
 rows-change [] e b a = tt
 rows-change (x ∷ xs) e b a =
     (row-changes x (and-elim-left (rowTest x) (allRows xs) e) (head-eq-of-cons-eq b) (head-eq-of-cons-eq a), rows-change xs (and-elim-right (rowTest x) (allRows xs) e) (tail-eq-of-cons-eq b) (tail-eq-of-cons-eq a))

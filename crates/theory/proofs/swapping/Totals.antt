@@ -17,7 +17,7 @@ use Rattle.theory.specs.totals.Totals.{verdictPlace, total, anyRace}
 use Rattle.theory.specs.totals.Counting.{counts, given, isRace, SomeRace, KeepsTotals}
 use Rattle.theory.specs.swapping.Unrelated.{UnrelatedRecords, MissedRecords}
 use Rattle.theory.specs.swapping.Swaps.{Swapped, these, later, Swaps, no-swap, swap-then}
-use Rattle.theory.specs.swapping.Compared.{Said, refused, taken, judged, known, said, Line, linesOf, lines, controlAfterAll, SameTotals}
+use Rattle.theory.specs.swapping.Compared.{Said, refused, taken, judged, known, said, Line, linesAmong, lines, controlAfterAll, SameTotals}
 use Rattle.theory.proofs.totals.Kept.{raceCount, some-race, clocks-keep-totals, sets-keep-totals}
 use Rattle.theory.proofs.feeding.Demanded.{clocks-demanded, sets-demanded}
 use Rattle.theory.proofs.swapping.Acceptance.{Taken, taken-swapped}
@@ -66,7 +66,7 @@ counted w v all r (refuses n) = refl
 counted w v all r (takes n) = refl
 counted w v all r (judges n x p) = refl
 
-given-sum : (w : Verdict) (v : ℕ) (all rs : List Record) (answers : List Meaning) → given w v rs answers ≡ sum (weighs w v) (linesOf all rs answers)
+given-sum : (w : Verdict) (v : ℕ) (all rs : List Record) (answers : List Meaning) → given w v rs answers ≡ sum (weighs w v) (linesAmong all rs answers)
 given-sum w v all [] answers = refl
 given-sum w v all (r ∷ rs) [] = refl
 given-sum w v all (r ∷ rs) (m ∷ answers) = rw (counted w v all r m, given-sum w v all rs answers)
@@ -77,7 +77,7 @@ counted-race all (takes n) = refl
 counted-race all (judges n x p) = refl
 
 module _ {S : Type 0} (c : Checker S) where
-  races-sum : (all : List Record) (s : S) (rs : List Record) → raceCount (map meaning (replies c s rs)) ≡ sum weighsRace (linesOf all rs (map meaning (replies c s rs)))
+  races-sum : (all : List Record) (s : S) (rs : List Record) → raceCount (map meaning (replies c s rs)) ≡ sum weighsRace (linesAmong all rs (map meaning (replies c s rs)))
   races-sum all s [] = refl
   races-sum all s (r ∷ rs) = rw (counted-race all (meaning (c .answer s r)), races-sum all (c .next s r) rs)
 

@@ -17,7 +17,7 @@ use Rattle.theory.specs.feeding.Meaning.{judges, takes, meaning}
 use Rattle.theory.specs.feeding.Feeding.{acceptedAnswer, answerUnless, answersFrom, AnswersByTable, fed, setFed}
 use Rattle.theory.specs.swapping.Unrelated.{UnrelatedRecords, MissedRecords}
 use Rattle.theory.specs.swapping.Swaps.{Swaps, no-swap, swap-then, movedBy}
-use Rattle.theory.specs.swapping.Compared.{Accepted, none-left, and-accepted, judged, taskOf, said, linesOf, lines, SameVerdicts}
+use Rattle.theory.specs.swapping.Compared.{Accepted, none-left, and-accepted, judged, taskOf, said, linesAmong, lines, SameVerdicts}
 use Rattle.theory.proofs.basics.Reflects.{Reflects, right, wrong, by-test}
 use Rattle.theory.proofs.order.Places.{Occurs, first, next}
 use Rattle.theory.proofs.verdicts.Search.{Candidate, Outcome, nobody, somebody, partner-outcome}
@@ -89,7 +89,7 @@ module _ (all : List Record) (es : List Event) (rest : List Event) (begin : map 
       decided (right a) = to-access a (said-judged (partner-outcome 1 es) (partner-outcome 1 es))
       decided (wrong n) = to-other n
 
-said-lines : (all : List Record) {es : List Event} {rs : List Record} → Taken es rs → map eventOf all ≡ es ++ map eventOf rs → SaidAll unpaired es rs (linesOf all rs (answersFrom es rs))
+said-lines : (all : List Record) {es : List Event} {rs : List Record} → Taken es rs → map eventOf all ≡ es ++ map eventOf rs → SaidAll unpaired es rs (linesAmong all rs (answersFrom es rs))
 said-lines all no-record-left b = said-none
 said-lines all {es} (and-taken {r = r} {rs = rs} e k) b =
     rw e (said-next (said-answer all es (map eventOf (r ∷ rs)) b (eventOf r)) (said-lines all k (b ∙ sym (append-assoc es (eventOf r ∷ []) (map eventOf rs)))))

@@ -4,6 +4,7 @@ use Prim.Native.Nat.{ℕ}
 use mathlib.Core.Path.{_≡_}
 use mathlib.Core.List.{List, [], _∷_, map}
 use Rattle.theory.specs.order.Recording.{Event, act, lost, read, take, give, look, set, start, join, miss, owned}
+use Rattle.theory.specs.verdicts.Examples.{own}
 use Rattle.theory.specs.feeding.Feeding.{eventRecord, refusalsAfter}
 
 -- a record as it is fed, and its refusal; 0 where it is accepted
@@ -21,15 +22,11 @@ AllGet lists =
     map (λ (l : List Fed). refusalsAfter [] (map (λ (x : Fed). eventRecord (x .event)) l)) lists
     ≡ map (λ (l : List Fed). map (λ (x : Fed). x .refusal) l) lists
 
--- "`op=owned task=0 on=0`"
-abbrev pub own : Event
-own = act owned 0 0
-
 abbrev pub start1 : Event
 start1 = act start 0 1
 
-abbrev pub lists : List (List Fed)
-lists =
+abbrev pub refusalLists : List (List Fed)
+refusalLists =
     -- "A recording whose first record is `op=owned task=0 on=0`", and "all are free at the start"
     (own gets 0 ∷ act take 0 4 gets 0 ∷ act take 0 31 gets 0 ∷ [])
     -- the same after refused records

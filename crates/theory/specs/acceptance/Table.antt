@@ -124,6 +124,18 @@ rows s r =
 abbrev pub lastRow : ℕ
 lastRow = 16
 
+-- the numbers of the rows; 10 to 13 are none: 10 is not given, 11 is of a whole text, 12 and 13 are of entries
+abbrev pub rowNumbers : List ℕ
+rowNumbers = 1 ∷ 2 ∷ 3 ∷ 4 ∷ 5 ∷ 6 ∷ 7 ∷ 8 ∷ 9 ∷ 14 ∷ 15 ∷ 16 ∷ []
+
+abbrev pub isOneOf : List ℕ → ℕ → Bool
+isOneOf [] n = false
+isOneOf (m ∷ ms) n = eqb m n || isOneOf ms n
+
+-- n is the number of a row
+abbrev pub OfRow : ℕ → Type 0
+OfRow n = isOneOf rowNumbers n ≡ true
+
 -- the number of the first row that applies; 0 where none does
 abbrev pub firstRow : List Row → ℕ
 firstRow [] = zero

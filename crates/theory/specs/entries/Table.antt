@@ -22,8 +22,8 @@ abbrev pub pairedAt : ℕ → ℕ → ℕ
 pairedAt v t = entriesAt + 1 + (v * tasks + t)
 
 -- how many entries were taken in
-abbrev pub takenIn : List ℕ → ℕ
-takenIn control = getD control entriesAt 0
+abbrev pub entryCount : List ℕ → ℕ
+entryCount control = getD control entriesAt 0
 
 -- the tasks that are paired with task t as accepted for variable v
 abbrev pub pairedWith : List ℕ → ℕ → ℕ → ℕ
@@ -38,13 +38,13 @@ abbrev pub pairs : Bool → ℕ → ℕ → ℕ → List ℕ → List ℕ
 pairs accepted v t u control = set control (pairedAt v t) (marked accepted u (pairedWith control v t))
 
 -- "13 for an entry when 200 have been taken in"
-abbrev pub full : List ℕ → Bool
-full control = not (ltb (takenIn control) entries)
+abbrev pub entriesFull : List ℕ → Bool
+entriesFull control = not (ltb (entryCount control) entries)
 
 -- an entry that is taken in: the pair is accepted or open, whichever of the two acts
 unfoldable pub entered : ℕ → ℕ → ℕ → Bool → List ℕ → List ℕ
 entered v low high accepted control =
-    set (pairs accepted v high low (pairs accepted v low high control)) entriesAt (takenIn control + 1)
+    set (pairs accepted v high low (pairs accepted v low high control)) entriesAt (entryCount control + 1)
 
 -- numbers of a variable and of two tasks
 abbrev pub pairInRange : ℕ → ℕ → ℕ → Bool
@@ -52,7 +52,7 @@ pairInRange v low high = ltb v variables && (ltb low tasks && ltb high tasks)
 
 -- an entry of any numbers is taken in where they are in their ranges and there is room; else the table stays as it was
 abbrev pub enters : ℕ → ℕ → ℕ → List ℕ → Bool
-enters v low high control = pairInRange v low high && not (full control)
+enters v low high control = pairInRange v low high && not (entriesFull control)
 
 abbrev pub afterEntry : ℕ → ℕ → ℕ → Bool → List ℕ → List ℕ
 afterEntry v low high accepted control = cond (enters v low high control) (entered v low high accepted control) control
@@ -77,7 +77,7 @@ excuseOpen last k on mask w = cond (eqb mask 0) (excuseOf true w) (excuseOf fals
 -- by the tables that are looked at
 unfoldable pub excuseBy : List ℕ → List ℕ → List ℕ → Record → ℕ → Excuse
 excuseBy control last fullclocks r w =
-    cond (ltb 0 (takenIn control) && accessInRange r)
+    cond (ltb 0 (entryCount control) && accessInRange r)
     (excuseOpen last (r .kind) (r .on) (openTasks control last fullclocks (r .kind) (r .task) (r .on)) w)
     (excuseOf false w)
 

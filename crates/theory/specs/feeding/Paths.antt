@@ -34,8 +34,8 @@ pub record Reckoning (S : Type 0) : Type 0 where
   -- the masks that a host gets which asks about a record before it is fed
   pub masks : S → Record → Masks
 
-abbrev pub clocks : Reckoning State
-clocks =
+abbrev pub clockReckoning : Reckoning State
+clockReckoning =
     record {
       checker = byClocks;
       number = λ s. latestNumber (s .last);
@@ -44,8 +44,8 @@ clocks =
       masks = apartByClocks;
     }
 
-abbrev pub sets : Reckoning SetState
-sets =
+abbrev pub setReckoning : Reckoning SetState
+setReckoning =
     record {
       checker = bySets;
       number = λ s. latestNumber (s .last);

@@ -16,7 +16,7 @@ use Rattle.theory.specs.fillings.Completion.{bit}
 use Rattle.theory.specs.acceptance.Table.{recording}
 use Rattle.theory.specs.verdicts.Verdict.{Latest}
 use Rattle.theory.specs.feeding.Following.{fedRefusal, AnswersWithout}
-use Rattle.theory.specs.feeding.Paths.{sets, leftBy}
+use Rattle.theory.specs.feeding.Paths.{setReckoning, leftBy}
 use Rattle.theory.specs.lazy.Walk.{WalkedInAll, BetweenInAll}
 use Rattle.theory.specs.lazy.Fold.{pairsOf}
 
@@ -39,4 +39,4 @@ pub record AnswersLazily (answer : List Record → Pairs) : Type 0 where
   -- "gets no pairs and a count of 0", or the refusal
   pub without : AnswersWithout (λ n. pairsOf n 0 0 0) answer
   pub access-end : (rs : List Record) (q : Record) → fedRefusal (rs ++ (q ∷ [])) ≡ 0 → accesses (q .kind) ≡ true →
-      Told (recording rs ++ (eventOf q ∷ [])) (q .task) (q .on) (length (recording rs)) (sets .masks (leftBy sets rs) q) (answer (rs ++ (q ∷ [])))
+      Told (recording rs ++ (eventOf q ∷ [])) (q .task) (q .on) (length (recording rs)) (setReckoning .masks (leftBy setReckoning rs) q) (answer (rs ++ (q ∷ [])))

@@ -90,8 +90,8 @@ accessed q k task s =
 
 -- A fresh of the variable: nothing is followed any more
 
-abbrev pub emptied : Lazy → Lazy
-emptied s = lazyOf (s .nodes) (s .counts) (walkOf 0 (s .walk .acted) 0 (s .walk .walked))
+abbrev pub unfollowed : Lazy → Lazy
+unfollowed s = lazyOf (s .nodes) (s .counts) (walkOf 0 (s .walk .acted) 0 (s .walk .walked))
 
 -- A record that a walk counts
 
@@ -123,7 +123,7 @@ abbrev pub noted : ℕ → Lazy → Lazy
 noted task s = lazyOf (s .nodes) (s .counts) (walkOf (s .walk .pairs) (withBit task (s .walk .acted)) (s .walk .known) (s .walk .walked))
 
 abbrev pub ofVariable : Record → ℕ → ℕ → ℕ → Lazy → Lazy
-ofVariable q k task on s = cond (eqb on (q .on)) (cond (eqb k (kind fresh)) (emptied s) (accessed q k task s)) s
+ofVariable q k task on s = cond (eqb on (q .on)) (cond (eqb k (kind fresh)) (unfollowed s) (accessed q k task s)) s
 
 -- a fresh and an access concern a variable; what else is no record of a walk does nothing but that its task has acted
 unfoldable pub acted : Record → ℕ → ℕ → ℕ → Lazy → Lazy

@@ -3,8 +3,10 @@
 use Prim.Native.Nat.{ℕ}
 use mathlib.Core.Path.{_≡_}
 use mathlib.Core.List.{List, [], _∷_, map}
-use Rattle.theory.specs.order.Recording.{Event, act, lost, read, write, take, give, set, start, join, miss, owned}
+use Rattle.theory.specs.order.Recording.{Event, act, lost, read, write, take, give, set, join, miss, owned}
+use Rattle.theory.specs.verdicts.Examples.{own}
 use Rattle.theory.specs.acceptance.Table.{recording}
+use Rattle.theory.specs.acceptance.Examples.{start1}
 use Rattle.theory.specs.feeding.Feeding.{eventRecord}
 use Rattle.theory.specs.skipping.Skipping.{skippedTakes}
 
@@ -21,14 +23,8 @@ es skip n = record { fed = es; skipped = n }
 abbrev pub AllSkip : List Skipped → Type 0
 AllSkip lists = map (λ (x : Skipped). skippedTakes (recording (map eventRecord (x .fed)))) lists ≡ map (λ (x : Skipped). x .skipped) lists
 
-abbrev pub own : Event
-own = act owned 0 0
-
-abbrev pub start1 : Event
-start1 = act start 0 1
-
-abbrev pub lists : List Skipped
-lists =
+abbrev pub skippedLists : List Skipped
+skippedLists =
     -- the first take of a semaphore never is: nobody has given it
     (own ∷ act take 0 4 ∷ []) skip 0
     -- "if the last give of that semaphore was by the same task", each time anew

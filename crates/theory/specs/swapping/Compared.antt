@@ -53,13 +53,13 @@ pub record Line : Type 0 where
   pub said : Said
 
 -- the lines of the records `left` of a list rs, by their answers
-abbrev pub linesOf : List Record → List Record → List Meaning → List Line
-linesOf rs [] answers = []
-linesOf rs (r ∷ left) [] = []
-linesOf rs (r ∷ left) (m ∷ answers) = record { of = r; said = said rs m } ∷ linesOf rs left answers
+abbrev pub linesAmong : List Record → List Record → List Meaning → List Line
+linesAmong rs [] answers = []
+linesAmong rs (r ∷ left) [] = []
+linesAmong rs (r ∷ left) (m ∷ answers) = record { of = r; said = said rs m } ∷ linesAmong rs left answers
 
 abbrev pub lines : (List Record → List Answer) → List Record → List Line
-lines answers rs = linesOf rs rs (map meaning (answers rs))
+lines answers rs = linesAmong rs rs (map meaning (answers rs))
 
 -- The claim, of whatever answers lists of records, for swaps of neighbours as R has them: of unrelated ones
 
@@ -94,18 +94,18 @@ abbrev pub excused : List Record → Excuse → Said
 excused rs x = cond (x .known) (known (taskOf rs (x .partner .0))) (judged Race (taskOf rs (x .partner .0)))
 
 -- what the record r is told that left the state s
-abbrev pub saidBeside : List Record → State → Record → Meaning → Said
-saidBeside rs s r (refuses n) = refused n
-saidBeside rs s r (takes n) = taken
-saidBeside rs s r (judges n Race w) = excused rs (excuse s r w)
-saidBeside rs s r (judges n Clear w) = judged Clear (taskOf rs w)
-saidBeside rs s r (judges n Doubt w) = judged Doubt (taskOf rs w)
+abbrev pub toldBeside : List Record → State → Record → Meaning → Said
+toldBeside rs s r (refuses n) = refused n
+toldBeside rs s r (takes n) = taken
+toldBeside rs s r (judges n Race w) = excused rs (excuse s r w)
+toldBeside rs s r (judges n Clear w) = judged Clear (taskOf rs w)
+toldBeside rs s r (judges n Doubt w) = judged Doubt (taskOf rs w)
 
 -- the lines of the records `left` of a list rs, from the state s on
 abbrev pub linesFrom : List Record → State → List Record → List Line
 linesFrom rs s [] = []
 linesFrom rs s (r ∷ left) =
-    record { of = r; said = saidBeside rs (byClocks .next s r) r (meaning (byClocks .answer s r)) } ∷ linesFrom rs (byClocks .next s r) left
+    record { of = r; said = toldBeside rs (byClocks .next s r) r (meaning (byClocks .answer s r)) } ∷ linesFrom rs (byClocks .next s r) left
 
 abbrev pub linesBeside : List Fault → List Record → List Line
 linesBeside fs rs = linesFrom rs (startWith fs) rs

@@ -14,7 +14,7 @@ use Rattle.theory.specs.verdicts.Examples.{_∶_with_, w0, w1, r0, r1, b
 use Rattle.theory.specs.feeding.Feeding.{answersFrom, eventRecord, verdictsOf}
 use Rattle.theory.specs.swapping.Unrelated.{Premise, two-acts, actors-differ, names-no-actor, names-no-same, no-semaphore, no-flag, no-variable, none-owned, Holds, Unrelated, UnrelatedByMiss}
 use Rattle.theory.specs.swapping.Swaps.{Swapped, these, later, moved}
-use Rattle.theory.specs.swapping.Compared.{Accepted, Said, refused, taken, judged, linesOf}
+use Rattle.theory.specs.swapping.Compared.{Accepted, Said, refused, taken, judged, linesAmong}
 
 -- two neighbours in a recording that fail a premise; and a record of it, by its place, which is told one thing, and another when the two are swapped
 pub record Related : Type 0 where
@@ -45,10 +45,10 @@ newPlace x = moved (anySwap (x .one) (x .other) (x .behind) (x .ahead)) (x .plac
 
 -- what the record at a place of a recording is told when it is fed
 abbrev pub saidOf : List Record → ℕ → Option Said
-saidOf rs k = Option·map (λ l. l .said) (getElem? (linesOf rs rs (answersFrom [] rs)) k)
+saidOf rs k = Option·map (λ l. l .said) (getElem? (linesAmong rs rs (answersFrom [] rs)) k)
 
-abbrev pub saidAt : List Event → ℕ → Option Said
-saidAt es k = saidOf (map eventRecord es) k
+abbrev pub toldAt : List Event → ℕ → Option Said
+toldAt es k = saidOf (map eventRecord es) k
 
 pub record Changes (x : Related) : Type 0 where
   -- the two meet every other premise
@@ -56,8 +56,8 @@ pub record Changes (x : Related) : Type 0 where
   -- every record of the recording is accepted
   pub accepted : Accepted (answersFrom [] (map eventRecord (logged x)))
   -- what the record is told as it is, and with the two swapped
-  pub before : saidAt (logged x) (x .place) ≡ some (x .was)
-  pub after : saidAt (exchanged x) (newPlace x) ≡ some (x .becomes)
+  pub before : toldAt (logged x) (x .place) ≡ some (x .was)
+  pub after : toldAt (exchanged x) (newPlace x) ≡ some (x .becomes)
   pub differ : x .was ≢ x .becomes
 
 -- every row of a table does

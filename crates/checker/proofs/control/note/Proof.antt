@@ -7,14 +7,14 @@ use borrow.Author.Needs.{needs}
 use Rattle.checker.proofs.control.note.Statement.{statement}
 use Rattle.checker.proofs.control.note.Tie as tie
 
-enter-requires : tie.Need-enter-requires
-enter-requires c κs =
+note-value-requires : tie.Need-note-value-requires
+note-value-requires c κs =
     let p = c .before .before .pre in
     let f = fits-of (p .0) Op.start (c .before .match .keys1) .on-fits in
     (omega arith, λ q. omega arith, p .1)
 
-enter-requires-2 : tie.Need-enter-requires-2
-enter-requires-2 c κs =
+note-value-requires-2 : tie.Need-note-value-requires-2
+note-value-requires-2 c κs =
     let p = c .before .before .pre in
     let f = fits-of (p .0) Op.join (c .before .match .keys2) .on-fits in
     (omega arith, λ q. omega arith, p .1)
@@ -32,10 +32,10 @@ note-give-requires c κs =
     (f .on-fits, f .task-fits, p .1)
 
 returns : tie.Need-returns
-returns c = rw (c .before .before .match .keys1) (c .enter .ensures)
+returns c = rw (c .before .before .match .keys1) (c .note-value .ensures)
 
 returns-2 : tie.Need-returns-2
-returns-2 c = rw (c .before .before .match .keys2) (c .enter2 .ensures)
+returns-2 c = rw (c .before .before .match .keys2) (c .note-value2 .ensures)
 
 returns-3 : tie.Need-returns-3
 returns-3 c = rw (c .before .before .match .keys3) (c .note-take .ensures)
@@ -44,7 +44,7 @@ returns-4 : tie.Need-returns-4
 returns-4 c = rw (c .before .before .match .keys4) (c .note-give .ensures)
 
 returns-5 : tie.Need-returns-5
-returns-5 c = rw (c .before .before .match .keys5) (c .enter3 .ensures)
+returns-5 c = rw (c .before .before .match .keys5) (c .note-value3 .ensures)
 
 returns-6 : tie.Need-returns-6
 returns-6 c =
@@ -53,5 +53,5 @@ returns-6 c =
 
 pub note-spec : {M : Type 1} → statement M
 note-spec = tie.close (tie.spec
-    enter-requires enter-requires-2 note-take-requires note-give-requires (λ c κs. search needs) (λ c κs. search needs)
+    note-value-requires note-value-requires-2 note-take-requires note-give-requires (λ c κs. search needs) (λ c κs. search needs)
     returns returns-2 returns-3 returns-4 returns-5 returns-6)

@@ -14,14 +14,14 @@ use Rattle.checker.proofs.control.note_give.Tie as tie
 kept : (control : List ℕ) (s : ℕ) → countIn control < records → countIn (set control (holderAt s) 0) < records
 kept control s n = rw (getD-set-other control (holderAt s) countAt 0 0 (λ e. omega arith)) n
 
-enter-requires : tie.Need-enter-requires
-enter-requires c κs =
+note-value-requires : tie.Need-note-value-requires
+note-value-requires c κs =
     let start = c .before .before .before .before .before .before .before in
     let p = start .pre in
     (omega (arith, p .0), λ q. omega arith, kept (start .args .control .now) (start .args .s .0) (p .2))
 
 returns : tie.Need-returns
-returns c = let at-if1 = c .before .before .before .before .before in rw (← at-if1 .before .is-under .ensures, at-if1 .if1 .taken) (c .enter .ensures)
+returns c = let at-if1 = c .before .before .before .before .before in rw (← at-if1 .before .is-under .ensures, at-if1 .if1 .taken) (c .note-value .ensures)
 
 returns-2 : tie.Need-returns-2
 returns-2 c = let at-if1 = c .before .before in rw (← at-if1 .before .is-under .ensures, at-if1 .if1 .left) (c .count .ensures)
@@ -29,4 +29,4 @@ returns-2 c = let at-if1 = c .before .before in rw (← at-if1 .before .is-under
 pub note-give-spec : {M : Type 1} → statement M
 note-give-spec = tie.close (tie.spec
     (λ c κs. search needs) (λ c. search needs) (λ c. search needs) (λ c. search needs) (λ c. search needs) (λ c. search needs) (λ c. search needs) (λ c. search needs)
-    enter-requires returns (λ c κs. search needs) returns-2)
+    note-value-requires returns (λ c κs. search needs) returns-2)

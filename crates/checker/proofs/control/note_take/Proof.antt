@@ -19,8 +19,8 @@ kept control n = rw (raise-other skippedAt countAt control (λ e. omega arith)) 
 returns : tie.Need-returns
 returns c = let at-if1 = c .before .before in rw (sym (at-if1 .before .is-under .ensures) ∙ not-true _ (at-if1 .if1 .taken)) (c .count .ensures)
 
-enter-requires : tie.Need-enter-requires
-enter-requires c κs =
+note-value-requires : tie.Need-note-value-requires
+note-value-requires c κs =
     let at-raise = c .before .before .before in
     let start = at-raise .before .before .before .before .before .before .before .before in
     let p = start .pre in
@@ -31,15 +31,15 @@ returns-2 c =
     let at-raise = c .before .before .before .before in
     let at-if2 = at-raise .before .before in
     let at-if1 = at-if2 .before .before .before in
-    rw (sym (at-if1 .before .is-under .ensures) ∙ not-false _ (at-if1 .if1 .left), ← at-if2 .before .gave .ensures, at-if2 .if2 .taken, ← at-raise .raise .ensures) (c .enter .ensures)
+    rw (sym (at-if1 .before .is-under .ensures) ∙ not-false _ (at-if1 .if1 .left), ← at-if2 .before .gave .ensures, at-if2 .if2 .taken, ← at-raise .raise .ensures) (c .note-value .ensures)
 
 returns-3 : tie.Need-returns-3
 returns-3 c =
     let at-if2 = c .before .before .before .before in
     let at-if1 = at-if2 .before .before .before in
-    rw (sym (at-if1 .before .is-under .ensures) ∙ not-false _ (at-if1 .if1 .left), ← at-if2 .before .gave .ensures, at-if2 .if2 .left) (c .enter2 .ensures)
+    rw (sym (at-if1 .before .is-under .ensures) ∙ not-false _ (at-if1 .if1 .left), ← at-if2 .before .gave .ensures, at-if2 .if2 .left) (c .note-value2 .ensures)
 
 pub note-take-spec : {M : Type 1} → statement M
 note-take-spec = tie.close (tie.spec
     (λ c κs. search needs) (λ c κs. search needs) returns (λ c κs. search needs) (λ c κs. search needs) (λ c. search needs) (λ c. search needs) (λ c. search needs)
-    enter-requires returns-2 (λ c. search needs) (λ c. search needs) (λ c. search needs) (λ c κs. search needs) returns-3)
+    note-value-requires returns-2 (λ c. search needs) (λ c. search needs) (λ c. search needs) (λ c κs. search needs) returns-3)

@@ -7,7 +7,7 @@ use mathlib.Core.List.{List}
 use borrow.Author.Tests.{ltb-true}
 use lib.Dec.{ltb}
 use Rattle.theory.specs.order.Limits.{tasks, variables, entries}
-use Rattle.theory.specs.entries.Table.{takenIn, full, pairInRange, enters}
+use Rattle.theory.specs.entries.Table.{entryCount, entriesFull, pairInRange, enters}
 use borrow.Author.Needs.{needs}
 use Rattle.checker.proofs.entries.enter.Statement.{statement}
 use Rattle.checker.proofs.entries.enter.Tie as tie
@@ -16,14 +16,14 @@ tested : (c : tie.After-both) → let a = c .before .before .before .before .arg
 tested c = rw (c .both .ensures, c .before .entries-full .ensures, c .before .before .before .pair-in-range .ensures)
 
 -- what the test says of the numbers and of the room
-fit : (v low high : ℕ) (control : List ℕ) → enters v low high control ≡ true → (v < variables) × (low < tasks) × (high < tasks) × (takenIn control < entries)
+fit : (v low high : ℕ) (control : List ℕ) → enters v low high control ≡ true → (v < variables) × (low < tasks) × (high < tasks) × (entryCount control < entries)
 fit v low high control e =
-    let p = and-elim-left (pairInRange v low high) (not (full control)) e in
+    let p = and-elim-left (pairInRange v low high) (not (entriesFull control)) e in
     let q = and-elim-right (ltb v variables) (ltb low tasks && ltb high tasks) p in (
       ltb-true v variables (and-elim-left (ltb v variables) (ltb low tasks && ltb high tasks) p),
       ltb-true low tasks (and-elim-left (ltb low tasks) (ltb high tasks) q),
       ltb-true high tasks (and-elim-right (ltb low tasks) (ltb high tasks) q),
-      ltb-true (takenIn control) entries (room (ltb (takenIn control) entries) (and-elim-right (pairInRange v low high) (not (full control)) e)),
+      ltb-true (entryCount control) entries (room (ltb (entryCount control) entries) (and-elim-right (pairInRange v low high) (not (entriesFull control)) e)),
     )
   where
     room : (b : Bool) → not (not b) ≡ true → b ≡ true

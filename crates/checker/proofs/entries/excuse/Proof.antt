@@ -8,7 +8,7 @@ use lib.Dec.{ltb}
 use Rattle.theory.specs.order.Limits.{tasks, variables}
 use Rattle.theory.specs.order.Recording.{accesses}
 use Rattle.theory.specs.declared.record.Record.{Record}
-use Rattle.theory.specs.entries.Table.{takenIn, accessInRange, excuseBy}
+use Rattle.theory.specs.entries.Table.{entryCount, accessInRange, excuseBy}
 use Rattle.theory.proofs.history.Accesses.{OfAccess}
 use borrow.Author.Needs.{needs}
 use Rattle.checker.proofs.entries.excuse.Statement.{statement}
@@ -38,8 +38,8 @@ excuse-open-requires c κs =
     (o .is-access, o .variable-fits)
 
 -- an entry was taken in
-some : (c : tie.Else1) → ltb 0 (takenIn (c .before .before .args .control .now)) ≡ true
-some c = lt-ltb 0 (takenIn (c .before .before .args .control .now)) (omega arith)
+some : (c : tie.Else1) → ltb 0 (entryCount (c .before .before .args .control .now)) ≡ true
+some c = lt-ltb 0 (entryCount (c .before .before .args .control .now)) (omega arith)
 
 returns-2 : tie.Need-returns-2
 unfolding excuseBy

@@ -13,7 +13,7 @@ returns : tie.Need-returns
 returns c = let k = c .before .before .args .kind in simp (ne-eqb _ _ (c .if1 .taken)) (either-same (accesses k || eqb k (kind Op.fresh)) _)
 
 returns-2 : tie.Need-returns-2
-returns-2 c = rw (eq-eqb _ _ (c .before .before .if1 .left), c .before .if2 .taken, c .emptied .ensures)
+returns-2 c = rw (eq-eqb _ _ (c .before .before .if1 .left), c .before .if2 .taken, c .unfollowed .ensures)
 
 returns-3 : tie.Need-returns-3
 returns-3 c =

@@ -1,13 +1,13 @@
 -- `report::entry_form::parse_entry`: the entry is made of what the fields say. Assumes nothing.
 use mathlib.Core.Path.{_≡_, refl, sym, ap, _∙_}
 use borrow.Author.Needs.{needs}
-use Rattle.text.specs.EntryForm.{wordAfter, recordOf, markedBy}
+use Rattle.text.specs.EntryForm.{wordAfter, recordField, markedBy}
 use Rattle.text.proofs.EntryForm.{fields-read}
 use Rattle.report.proofs.entry_form.parse_entry.Statement.{statement}
 use Rattle.report.proofs.entry_form.parse_entry.Tie as tie
 
-record-read : (c : tie.After-record-number) → recordOf (wordAfter 0 (c .before .before .before .args .line .now)) ≡ c .record-number .result
-record-read c = ap recordOf (sym (c .before .word-after .ensures)) ∙ sym (c .record-number .ensures)
+record-read : (c : tie.After-record-number) → recordField (wordAfter 0 (c .before .before .before .args .line .now)) ≡ c .record-number .result
+record-read c = ap recordField (sym (c .before .word-after .ensures)) ∙ sym (c .record-number .ensures)
 
 returns : tie.Need-returns
 returns c = sym (fields-read _ (record-read (c .before .before) ∙ c .enum-told .given .1) refl refl refl)

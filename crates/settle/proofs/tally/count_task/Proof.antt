@@ -5,7 +5,7 @@ use Rattle.settle.proofs.tally.count_task.Statement.{statement}
 use Rattle.settle.proofs.tally.count_task.Tie as tie
 
 returns : tie.Need-returns
-returns c = rw (sym (c .before .before .before .has .ensures) ∙ c .before .before .if1 .taken) (c .raise-at .ensures)
+returns c = rw (sym (c .before .before .before .has .ensures) ∙ c .before .before .if1 .taken) (c .raise .ensures)
 
 returns-2 : tie.Need-returns-2
 returns-2 c = rw (sym (c .before .has .ensures) ∙ c .if1 .left)

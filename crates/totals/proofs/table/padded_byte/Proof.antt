@@ -1,7 +1,7 @@
 -- A space, or a byte of the text.
 use mathlib.Core.Path.{sym}
 use borrow.Author.Needs.{needs}
-use Rattle.totals.proofs.Cells.{padded-before, padded-after}
+use Rattle.totals.proofs.Aligned.{padded-before, padded-after}
 use Rattle.totals.proofs.table.padded_byte.Statement.{statement}
 use Rattle.totals.proofs.table.padded_byte.Tie as tie
 

@@ -5,22 +5,22 @@ use native.Mathlib.Omega.{arith}
 use lib.ListN.{length}
 use borrow.Author.Needs.{needs}
 use Rattle.text.proofs.Wrote.{_then_}
-use Rattle.totals.specs.Table.{countWidth, cell, countsOf}
+use Rattle.totals.specs.Table.{countWidth, rightAligned, countsOf}
 use Rattle.totals.proofs.Lines.{length-counts}
 use Rattle.totals.proofs.table.put_counts.Statement.{statement}
 use Rattle.totals.proofs.table.put_counts.Tie as tie
 
-put-cell-requires : tie.Need-put-cell-requires
-put-cell-requires c κs = omega (arith, length-counts (c .before .before .args .s))
+put-aligned-requires : tie.Need-put-aligned-requires
+put-aligned-requires c κs = omega (arith, length-counts (c .before .before .args .s))
 
-put-cell-requires-2 : tie.Need-put-cell-requires-2
-put-cell-requires-2 c κs = omega (arith, length-counts (c .before .before .before .before .before .before .args .s))
+put-aligned-requires-2 : tie.Need-put-aligned-requires-2
+put-aligned-requires-2 c κs = omega (arith, length-counts (c .before .before .before .before .before .before .args .s))
 
-put-cell-requires-3 : tie.Need-put-cell-requires-3
-put-cell-requires-3 c κs = omega (arith, length-counts (c .before .before .before .before .before .before .before .before .before .before .args .s))
+put-aligned-requires-3 : tie.Need-put-aligned-requires-3
+put-aligned-requires-3 c κs = omega (arith, length-counts (c .before .before .before .before .before .before .before .before .before .before .args .s))
 
-put-cell-requires-4 : tie.Need-put-cell-requires-4
-put-cell-requires-4 c κs =
+put-aligned-requires-4 : tie.Need-put-aligned-requires-4
+put-aligned-requires-4 c κs =
     let a = c .before .before .before .before .before .before .before .before .before .before .before .before .before .before .before .args in
     rw (c .all-of .ensures) (omega (arith, length-counts (a .s)))
 
@@ -35,11 +35,11 @@ put-padded-requires c κs =
       arith,
       s .pre .0,
       length-counts (s .args .s),
-      ap (λ (n : ℕ). length (cell countWidth n)) (d .before .all-of .ensures),
-      z .put-cell .ensures .place,
-      a .put-cell2 .ensures .place,
-      b .put-cell3 .ensures .place,
-      d .put-cell4 .ensures .place,
+      ap (λ (n : ℕ). length (rightAligned countWidth n)) (d .before .all-of .ensures),
+      z .put-aligned .ensures .place,
+      a .put-aligned2 .ensures .place,
+      b .put-aligned3 .ensures .place,
+      d .put-aligned4 .ensures .place,
     )
 
 returns : tie.Need-returns
@@ -50,11 +50,11 @@ returns c =
     let b = d .before .before .before .before .before in
     let a = b .before .before .before .before in
     let z = a .before .before .before .before in
-    z .put-cell .ensures then a .put-cell2 .ensures then b .put-cell3 .ensures
-    then (rw (d .before .all-of .ensures) at (d .put-cell4 .ensures)) then e .put-padded .ensures
+    z .put-aligned .ensures then a .put-aligned2 .ensures then b .put-aligned3 .ensures
+    then (rw (d .before .all-of .ensures) at (d .put-aligned4 .ensures)) then e .put-padded .ensures
 
 pub put-counts-spec : {M : Type 1} → statement M
 put-counts-spec =
     tie.close (tie.spec
-    put-cell-requires put-cell-requires-2 put-cell-requires-3 (λ c κs. search needs) put-cell-requires-4 (λ c. search needs)
+    put-aligned-requires put-aligned-requires-2 put-aligned-requires-3 (λ c κs. search needs) put-aligned-requires-4 (λ c. search needs)
     put-padded-requires (λ c. search needs) returns)

@@ -7,7 +7,7 @@ use lib.ListN.{length, take}
 use Rattle.text.specs.Wrote.{Wrote}
 use Rattle.text.proofs.Wrote.{wrote-none, one-more, wrote-all}
 use Rattle.totals.specs.Table.{padded}
-use Rattle.totals.proofs.Cells.{length-padded}
+use Rattle.totals.proofs.Aligned.{length-padded}
 use Rattle.totals.proofs.table.put_padded.Statement.{statement}
 use Rattle.totals.proofs.table.put_padded.Tie as tie
 

@@ -6,7 +6,7 @@ use borrow.Author.Needs.{needs}
 use Rattle.text.proofs.Wrote.{_then_, wrote-nothing}
 use Rattle.totals.specs.declared.sums.Sums.{Sums}
 use Rattle.totals.specs.Table.{Small, nothingYet, added, allOf, nameWidth, countsOf}
-use Rattle.totals.proofs.Cells.{cell-fits}
+use Rattle.totals.proofs.Aligned.{aligned-fits}
 use Rattle.totals.proofs.Lines.{one-variable, line-none, line-some, counts-fit}
 use Rattle.totals.proofs.table.put_variable.Statement.{statement}
 use Rattle.totals.proofs.table.put_variable.Tie as tie
@@ -24,8 +24,8 @@ returns c =
     let e = one-variable (a .v) (a .t) (x .before .nothing-yet .ensures) (x .added-to .ensures) in
     rw (line-none (a .v) (a .t) (sym (ap allOf e) ∙ sym (c .before .all-of .ensures) ∙ c .if1 .taken)) (wrote-nothing, omega arith)
 
-put-cell-requires : tie.Need-put-cell-requires
-put-cell-requires c κs = omega (arith, cell-fits nameWidth (c .before .before .before .before .before .before .args .v) (omega arith) (omega arith))
+put-aligned-requires : tie.Need-put-aligned-requires
+put-aligned-requires c κs = omega (arith, aligned-fits nameWidth (c .before .before .before .before .before .before .args .v) (omega arith) (omega arith))
 
 put-counts-requires : tie.Need-put-counts-requires
 put-counts-requires c κs =
@@ -39,8 +39,8 @@ put-counts-requires c κs =
       omega (
         arith,
         s .pre,
-        p .put-cell .ensures .place,
-        cell-fits nameWidth (s .args .v) (omega arith) (omega (arith, s .fits .v)),
+        p .put-aligned .ensures .place,
+        aligned-fits nameWidth (s .args .v) (omega arith) (omega (arith, s .fits .v)),
         counts-fit (added nothingYet (s .args .t)) small,
       ),
       small,
@@ -55,14 +55,14 @@ returns-2 c =
     let s = x .before .before .before in
     let g = s .good in
     let e = one-variable (s .args .v) (s .args .t) (x .before .nothing-yet .ensures) (x .added-to .ensures) in
-    let w = p .put-cell .ensures then (rw e at (q .put-counts .ensures)) in (
+    let w = p .put-aligned .ensures then (rw e at (q .put-counts .ensures)) in (
       rw (line-some (s .args .v) (s .args .t) (λ h. n .if1 .left (n .before .all-of .ensures ∙ ap allOf e ∙ h))) w,
       omega (
         arith,
         g,
-        p .put-cell .ensures .place,
+        p .put-aligned .ensures .place,
         q .put-counts .ensures .place,
-        cell-fits nameWidth (s .args .v) (omega arith) (omega (arith, s .fits .v)),
+        aligned-fits nameWidth (s .args .v) (omega arith) (omega (arith, s .fits .v)),
         ap (λ (r : Sums). length (countsOf r)) e,
         counts-fit (added nothingYet (s .args .t)) (record { clear = omega (arith, g); race = omega (arith, g); doubt = omega (arith, g) }),
       ),
@@ -71,4 +71,4 @@ returns-2 c =
 pub put-variable-spec : {M : Type 1} → statement M
 put-variable-spec =
     tie.close (tie.spec
-    (λ c κs. search needs) added-to-requires all-of-requires returns put-cell-requires put-counts-requires (λ c. search needs) returns-2)
+    (λ c κs. search needs) added-to-requires all-of-requires returns put-aligned-requires put-counts-requires (λ c. search needs) returns-2)

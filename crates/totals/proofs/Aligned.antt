@@ -11,7 +11,7 @@ use borrow.Author.Tests.{ltb-true, ltb-false}
 use Rattle.text.specs.LineForm.{space}
 use Rattle.text.specs.Printing.{lastDigit, decimal}
 use Rattle.text.proofs.Digits.{decimal-small, decimal-more, length-small, length-more, decimal-fits}
-use Rattle.totals.specs.Table.{padded, cell}
+use Rattle.totals.specs.Table.{padded, rightAligned}
 
 module _ (spaces : ℕ) (s : List ℕ) where
   pub length-padded : length (padded spaces s) ≡ spaces + length s
@@ -36,26 +36,26 @@ decimal-some n = picked (ltb n 10) refl
 -- A number beside its last digit: `left` is what the column has left there
 module _ (width left n : ℕ) (e : left ≡ max 1 (width - 1)) where
   -- one of one digit
-  pub cell-small : n < 10 → cell width n ≡ padded left [] ++ (lastDigit n ∷ [])
-  unfolding cell
-  cell-small h = rw (length-small n h, decimal-small n h, ← e) (sym (append-assoc (replicate left space) [] (lastDigit n ∷ [])))
+  pub aligned-small : n < 10 → rightAligned width n ≡ padded left [] ++ (lastDigit n ∷ [])
+  unfolding rightAligned
+  aligned-small h = rw (length-small n h, decimal-small n h, ← e) (sym (append-assoc (replicate left space) [] (lastDigit n ∷ [])))
 
   -- one of more: its tenth, and its last digit
-  pub cell-more : 10 ≤ n → cell width n ≡ cell left (n / 10) ++ (lastDigit n ∷ [])
-  unfolding cell
-  cell-more h =
+  pub aligned-more : 10 ≤ n → rightAligned width n ≡ rightAligned left (n / 10) ++ (lastDigit n ∷ [])
+  unfolding rightAligned
+  aligned-more h =
       let some : 0 < length (decimal (n / 10)) = decimal-some (n / 10) in
       let same : max 1 (width - (length (decimal (n / 10)) + 1)) ≡ max 1 (left - length (decimal (n / 10))) = omega arith in
       rw (length-more n h, decimal-more n h, same)
       (sym (append-assoc (replicate (max 1 (left - length (decimal (n / 10)))) space) (decimal (n / 10)) (lastDigit n ∷ [])))
 
-  pub length-cell-small : n < 10 → length (cell width n) ≡ length (padded left []) + 1
-  length-cell-small h = ap length (cell-small h) ∙ length-append (padded left []) (lastDigit n ∷ [])
+  pub length-aligned-small : n < 10 → length (rightAligned width n) ≡ length (padded left []) + 1
+  length-aligned-small h = ap length (aligned-small h) ∙ length-append (padded left []) (lastDigit n ∷ [])
 
-  pub length-cell-more : 10 ≤ n → length (cell width n) ≡ length (cell left (n / 10)) + 1
-  length-cell-more h = ap length (cell-more h) ∙ length-append (cell left (n / 10)) (lastDigit n ∷ [])
+  pub length-aligned-more : 10 ≤ n → length (rightAligned width n) ≡ length (rightAligned left (n / 10)) + 1
+  length-aligned-more h = ap length (aligned-more h) ∙ length-append (rightAligned left (n / 10)) (lastDigit n ∷ [])
 
 -- a number of 64 bits has 20 digits at most, and a space before it
-pub cell-fits : (width n : ℕ) → width ≤ 21 → n < 2 ^ 64 → length (cell width n) ≤ 21
-unfolding cell
-cell-fits width n h g = omega (arith, length-padded (max 1 (width - length (decimal n))) (decimal n), decimal-fits 19 n (omega arith))
+pub aligned-fits : (width n : ℕ) → width ≤ 21 → n < 2 ^ 64 → length (rightAligned width n) ≤ 21
+unfolding rightAligned
+aligned-fits width n h g = omega (arith, length-padded (max 1 (width - length (decimal n))) (decimal n), decimal-fits 19 n (omega arith))
