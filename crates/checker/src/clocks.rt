@@ -9,13 +9,12 @@ use crate::history::slot;
 use crate::masks::Words;
 use crate::masks::added_weight;
 use crate::masks::lower_half;
+use crate::masks::lowest;
 use crate::rows::acquired_row;
 use crate::rows::acted_after;
 use crate::rows::has_bit;
 use crate::rows::is_release;
-use crate::rows::named_row;
 use crate::rows::object_row;
-use crate::rows::released_by;
 use crate::rows::released_row;
 use crate::rows::semaphore_row;
 use crate::rows::task_row;
@@ -36,7 +35,8 @@ use theory::Task;
 use theory::Variable;
 ghost use mathlib.Core.Path.{_≡_};
 ghost use mathlib.Core.Bool.{true, false};
-ghost use Prim.Native.Nat.{_<_, _≤_, _+_, max};
+ghost use Prim.Native.Nat.{_<_, _≤_, _+_, _-_, max};
+ghost use lib.Bits.{bitAnd};
 ghost use lib.Dec.{ltb};
 ghost use lib.ListN.{getD};
 ghost use Rattle.theory.specs.order.Limits.{tasks};
@@ -157,31 +157,41 @@ fn acquired_with(cells: &Clocks, from: usize, row: &[u32; COLUMNS]) -> [u32; COL
     next
 }
 
-// What a mark's lost records can acquire comes to the hub, by way of a row that stays in registers.
+// A mask without the lowest task that it names.
+fn without_lowest(mask: u16) -> u16
+    requires { ⌜ (mask ≡ 0 → ⊥) ⌝ }
+    ensures { λ r. ⌜ (r ≡ bitAnd mask (mask - 1)) × (r < mask) ⌝ }
+{
+    mask & (mask - 1)
+}
+
+// What a mark's lost records can acquire comes to the hub, by way of a row that stays in registers. The loop is over the named tasks alone, lowest
+// first: for any other the hub would be joined with itself.
 fn gather(cells: &mut Clocks, mask: u32)
     ensures { λ _. ⌜ now (cells .exit) ≡ gather max tasks mask (now (cells .entry)) ⌝ }
 {
     let mut known = [0u32; COLUMNS];
-    let mut t = 0;
-    while t < TASKS {
-        let next = acquired_with(cells, named_row(mask, Task(t)), &known);
+    let mut left = lower_half(mask);
+    while left != 0 {
+        let next = acquired_with(cells, task_row(lowest(left)), &known);
         known = next;
-        t += 1;
+        left = without_lowest(left);
     }
     join_with(cells, HUB, &known);
 }
 
-// What the hub knows, all that they can release to knows, from a copy that stays in the processor's registers. Every object is released to, so that
-// nothing is asked of the rows after the tasks'.
+// What the hub knows, all that they can release to knows, from a copy that stays in the processor's registers: the named tasks, and every object, so
+// that nothing is asked of the rows after the tasks'.
 fn spread(cells: &mut Clocks, mask: u32)
     ensures { λ _. ⌜ now (cells .exit) ≡ spread tasks mask (now (cells .entry)) ⌝ }
 {
     let hub = row_of(cells, HUB);
-    let mut r = 0;
-    while r < FIRST_SEMAPHORE {
-        put_row(cells, released_by(mask, r), &hub);
-        r += 1;
+    let mut left = lower_half(mask);
+    while left != 0 {
+        put_row(cells, task_row(lowest(left)), &hub);
+        left = without_lowest(left);
     }
+    let mut r = FIRST_SEMAPHORE;
     while r < HUB {
         put_row(cells, r, &hub);
         r += 1;

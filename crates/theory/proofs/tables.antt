@@ -9,6 +9,7 @@ pub mod Acts
 pub mod Marks
 pub mod Nodes
 pub mod NamedRows
+pub mod NamedTurns
 pub mod Follows
 pub mod Exact
 pub mod ClockTables
