@@ -13,7 +13,7 @@ use Rattle.theory.specs.declared.answer.Answer.{Answer}
 use Rattle.theory.specs.declared.answer.Answer.the-variants.{Refused, Accepted, Clear, Race, Doubt}
 use Rattle.theory.specs.declared.excuse.Excuse.{Excuse}
 use Rattle.theory.specs.declared.record.Record.{Record}
-use Rattle.theory.specs.entries.Table.{takenIn, excuseOf, excuseBy}
+use Rattle.theory.specs.entries.Table.{entryCount, excuseOf, excuseBy}
 use Rattle.theory.specs.feeding.Meaning.{meaning}
 use Rattle.theory.specs.feeding.Step.{answerNumbers}
 use Rattle.theory.proofs.answer.Answer.{the-type}
@@ -87,7 +87,7 @@ no-race-line line r x (Race n w) h = absurd (h refl)
 no-race-line line r x (Doubt n w) h = refl
 
 -- nothing is excused
-pub none-taken : (control last fullclocks : List ℕ) (r : Record) (w : ℕ) → takenIn control ≡ 0 → excuseBy control last fullclocks r w ≡ excuseOf false w
+pub none-taken : (control last fullclocks : List ℕ) (r : Record) (w : ℕ) → entryCount control ≡ 0 → excuseBy control last fullclocks r w ≡ excuseOf false w
 unfolding excuseBy
 none-taken control last fullclocks r w h = rw h
 
