@@ -9,10 +9,7 @@ use crate::history::slot;
 use crate::masks::Words;
 use crate::masks::added_weight;
 use crate::masks::lower_half;
-use crate::masks::lowest;
 use crate::rows::acquired_row;
-use crate::rows::acted_after;
-use crate::rows::has_bit;
 use crate::rows::is_release;
 use crate::rows::object_row;
 use crate::rows::released_row;
@@ -35,15 +32,14 @@ use theory::Task;
 use theory::Variable;
 ghost use mathlib.Core.Path.{_≡_};
 ghost use mathlib.Core.Bool.{true, false};
-ghost use Prim.Native.Nat.{_<_, _≤_, _+_, _-_, max};
-ghost use lib.Bits.{bitAnd};
+ghost use Prim.Native.Nat.{_<_, _≤_, _+_, max};
 ghost use lib.Dec.{ltb};
 ghost use lib.ListN.{getD};
 ghost use Rattle.theory.specs.order.Limits.{tasks};
 ghost use Rattle.theory.specs.order.Recording.{Op, kind as number};
 ghost use Rattle.theory.specs.acceptance.Table.{Fitting};
 ghost use Rattle.theory.specs.history.History.{slots};
-ghost use Rattle.theory.specs.tables.Rows.{anyNewer, actedRow, cellCount, cell, joinRow, rowOf, joinWith, acquiredWith, putRow, flow, joinsActed, onward, gather, spread, noteNamed, mix, mark};
+ghost use Rattle.theory.specs.tables.Rows.{anyNewer, actedRow, cellCount, cell, joinRow, rowOf, joinWith, putRow, flow, joinsActed, onward};
 ghost use Rattle.theory.specs.tables.Joining.{acquiredBy, afterAcquiring};
 ghost use Rattle.theory.specs.tables.Reckonings.{clockOwn, maskOf, clockMask, masksBy};
 ghost use Rattle.theory.proofs.history.Accesses.{OfAccess};
@@ -51,9 +47,9 @@ ghost use Rattle.theory.proofs.tables.Bits.{twice};
 ghost use Rattle.theory.proofs.tables.HandOver.{HandsOver};
 
 // Where the row of what has acted begins.
-const FIRST_ACTED: usize = ACTED * COLUMNS;
+pub(crate) const FIRST_ACTED: usize = ACTED * COLUMNS;
 
-fn greater(a: u32, b: u32) -> u32
+pub(crate) fn greater(a: u32, b: u32) -> u32
     ensures { λ r. ⌜ r ≡ max a b ⌝ }
 {
     if a < b { b } else { a }
@@ -87,7 +83,7 @@ fn join_row(cells: &mut Clocks, to: usize, from: usize)
 }
 
 // A row by itself.
-fn row_of(cells: &Clocks, from: usize) -> [u32; COLUMNS]
+pub(crate) fn row_of(cells: &Clocks, from: usize) -> [u32; COLUMNS]
     requires { ⌜ from ≤ actedRow ⌝ }
     ensures { λ r. ⌜ r ≡ rowOf tasks from (now (cells .entry)) ⌝ }
 {
@@ -101,7 +97,7 @@ fn row_of(cells: &Clocks, from: usize) -> [u32; COLUMNS]
 }
 
 // What a row that stands by itself knows is known to row `to` as well.
-fn join_with(cells: &mut Clocks, to: usize, row: &[u32; COLUMNS])
+pub(crate) fn join_with(cells: &mut Clocks, to: usize, row: &[u32; COLUMNS])
     requires { ⌜ to ≤ actedRow ⌝ }
     ensures { λ _. ⌜ now (cells .exit) ≡ joinWith max tasks to (now (row .entry)) (now (cells .entry)) ⌝ }
 {
@@ -113,7 +109,7 @@ fn join_with(cells: &mut Clocks, to: usize, row: &[u32; COLUMNS])
 }
 
 // Row `to` with the cells of a row that stands by itself.
-fn put_row(cells: &mut Clocks, to: usize, row: &[u32; COLUMNS])
+pub(crate) fn put_row(cells: &mut Clocks, to: usize, row: &[u32; COLUMNS])
     requires { ⌜ to ≤ actedRow ⌝ }
     ensures { λ _. ⌜ now (cells .exit) ≡ putRow tasks to (now (row .entry)) (now (cells .entry)) ⌝ }
 {
@@ -141,91 +137,6 @@ fn flow(cells: &mut Clocks, asked: bool, acquired: usize, released: usize, task:
         return;
     }
     join_with(cells, HUB, &row);
-}
-
-// A row by itself with what row `from` knows, too.
-fn acquired_with(cells: &Clocks, from: usize, row: &[u32; COLUMNS]) -> [u32; COLUMNS]
-    requires { ⌜ from ≤ actedRow ⌝ }
-    ensures { λ r. ⌜ r ≡ acquiredWith max tasks from (now (row .entry)) (now (cells .entry)) ⌝ }
-{
-    let mut next = [0u32; COLUMNS];
-    let mut c = 0;
-    while c < COLUMNS {
-        next[c] = greater(row[c], cells[from * COLUMNS + c]);
-        c += 1;
-    }
-    next
-}
-
-// A mask without the lowest task that it names.
-fn without_lowest(mask: u16) -> u16
-    requires { ⌜ (mask ≡ 0 → ⊥) ⌝ }
-    ensures { λ r. ⌜ (r ≡ bitAnd mask (mask - 1)) × (r < mask) ⌝ }
-{
-    mask & (mask - 1)
-}
-
-// What a mark's lost records can acquire comes to the hub, by way of a row that stays in registers. The loop is over the named tasks alone, lowest
-// first: for any other the hub would be joined with itself.
-fn gather(cells: &mut Clocks, mask: u32)
-    ensures { λ _. ⌜ now (cells .exit) ≡ gather max tasks mask (now (cells .entry)) ⌝ }
-{
-    let mut known = [0u32; COLUMNS];
-    let mut left = lower_half(mask);
-    while left != 0 {
-        let next = acquired_with(cells, task_row(lowest(left)), &known);
-        known = next;
-        left = without_lowest(left);
-    }
-    join_with(cells, HUB, &known);
-}
-
-// What the hub knows, all that they can release to knows, from a copy that stays in the processor's registers: the named tasks, and every object, so
-// that nothing is asked of the rows after the tasks'.
-fn spread(cells: &mut Clocks, mask: u32)
-    ensures { λ _. ⌜ now (cells .exit) ≡ spread tasks mask (now (cells .entry)) ⌝ }
-{
-    let hub = row_of(cells, HUB);
-    let mut left = lower_half(mask);
-    while left != 0 {
-        put_row(cells, task_row(lowest(left)), &hub);
-        left = without_lowest(left);
-    }
-    let mut r = FIRST_SEMAPHORE;
-    while r < HUB {
-        put_row(cells, r, &hub);
-        r += 1;
-    }
-}
-
-// The tasks that the mask names have acted. The loop is over the columns of one row, which are the tasks by their numbers.
-fn note_named(cells: &mut Clocks, mask: u32)
-    ensures { λ _. ⌜ now (cells .exit) ≡ noteNamed tasks mask (now (cells .entry)) ⌝ }
-{
-    let mut c = 0;
-    while c < COLUMNS {
-        cells[FIRST_ACTED + c] = acted_after(has_bit(mask, Task(c as u32)), cells[FIRST_ACTED + c]);
-        c += 1;
-    }
-}
-
-// The fullest filling of a mark.
-pub(crate) fn mix(cells: &mut Clocks, mask: u32)
-    ensures { λ _. ⌜ now (cells .exit) ≡ mix max tasks mask (now (cells .entry)) ⌝ }
-{
-    gather(cells, mask);
-    spread(cells, mask);
-    note_named(cells, mask);
-}
-
-// A mark of which the lost records of these tasks are filled in; where they are nobody's, nothing is released.
-pub(crate) fn mark(cells: &mut Clocks, mask: u32)
-    ensures { λ _. ⌜ now (cells .exit) ≡ mark max tasks mask (now (cells .entry)) ⌝ }
-{
-    if mask == 0 {
-        return;
-    }
-    mix(cells, mask);
 }
 
 // Whether a task has acted.

@@ -11,6 +11,7 @@ mod fast_steps;
 mod following;
 mod history;
 mod lazy;
+mod marks;
 mod masks;
 mod refusals;
 mod rows;

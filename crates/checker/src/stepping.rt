@@ -2,13 +2,13 @@
 use crate::acting::act_by_clocks;
 use crate::acting::act_by_sets;
 use crate::bools::both;
-use crate::clocks;
 use crate::control::clock_kind;
 use crate::control::is_under;
 use crate::control::note;
 use crate::fast_steps::step_access;
 use crate::fast_steps::step_hand_over;
 use crate::history::is_access;
+use crate::marks;
 use crate::refusals::refusal;
 use crate::rows::hands_over;
 use crate::sets;
@@ -53,7 +53,7 @@ fn step_other(
     note(control, kind, r.task, r.on);
     match kind {
         LOST => {
-            clocks::mix(fullclocks, r.on);
+            marks::mix(fullclocks, r.on);
             Answer::Accepted(number)
         }
         _ => {

@@ -23,7 +23,7 @@ use Rattle.text.specs.ReportLines.{accessLine, raceWord, reportLine, excusedFor
 use Rattle.text.specs.Words.{Opens}
 use Rattle.text.proofs.Bytes.{allBelow}
 use Rattle.text.proofs.Words.{opens-with}
-use Rattle.report.specs.declared.writing.Judged.{Judged}
+use Rattle.report.specs.declared.telling.Judged.{Judged}
 use Rattle.report.specs.Verdicts.{Tells}
 
 pub told-so : (verdict rest : List ℕ) (j : Judged) (number partner : ℕ)

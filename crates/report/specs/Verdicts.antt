@@ -5,7 +5,7 @@ use Prim.Native.Nat.{ℕ, _≤_}
 use Rattle.text.specs.Printing.{bytes}
 use Rattle.text.specs.ReportLines.{accessLine}
 use Rattle.text.specs.Words.{Opens}
-use Rattle.report.specs.declared.writing.Judged.{Judged}
+use Rattle.report.specs.declared.telling.Judged.{Judged}
 
 -- the line is that of an access, with a verdict's word of two to five letters
 pub record Tells (line : List ℕ) (task on : ℕ) (j : Judged) : Type 0 where

@@ -6,8 +6,8 @@ use Rattle.theory.specs.tables.Rows.{cell, acquiredWith}
 use Rattle.theory.proofs.basics.Turns.{Turned, no-turn, one-turn, all-turns}
 use Rattle.theory.specs.order.Limits.{tasks}
 use borrow.Author.Needs.{needs}
-use Rattle.checker.proofs.clocks.acquired_with.Statement.{statement}
-use Rattle.checker.proofs.clocks.acquired_with.Tie as tie
+use Rattle.checker.proofs.marks.acquired_with.Statement.{statement}
+use Rattle.checker.proofs.marks.acquired_with.Tie as tie
 
 abbrev Inv-loop : tie.InvT-loop
 Inv-loop cells from row next₀ c₀ next c = (c ≤ tasks) × Turned (λ k x. set x k (max (getD row k 0) (cell tasks cells from k))) next₀ c next

@@ -1,8 +1,8 @@
 -- Gathered, then spread, and the named tasks noted.
 use Rattle.theory.specs.tables.Rows.{mix}
 use borrow.Author.Needs.{needs}
-use Rattle.checker.proofs.clocks.mix.Statement.{statement}
-use Rattle.checker.proofs.clocks.mix.Tie as tie
+use Rattle.checker.proofs.marks.mix.Statement.{statement}
+use Rattle.checker.proofs.marks.mix.Tie as tie
 
 returns : tie.Need-returns
 unfolding mix

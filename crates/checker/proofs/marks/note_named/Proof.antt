@@ -8,8 +8,8 @@ use Rattle.theory.specs.tables.Rows.{actedRow, cell, noteNamed}
 use Rattle.theory.proofs.basics.Turns.{Turned, no-turn, one-turn, all-turns}
 use Rattle.theory.specs.order.Limits.{tasks}
 use borrow.Author.Needs.{needs}
-use Rattle.checker.proofs.clocks.note_named.Statement.{statement}
-use Rattle.checker.proofs.clocks.note_named.Tie as tie
+use Rattle.checker.proofs.marks.note_named.Statement.{statement}
+use Rattle.checker.proofs.marks.note_named.Tie as tie
 
 abbrev Inv-loop : tie.InvT-loop
 Inv-loop cells₀ mask t₀ cells t = (t ≤ tasks) × Turned (λ u b. set b (actedRow * tasks + u) (cond (bit mask u) 1 (cell tasks b actedRow u))) cells₀ t cells

@@ -1,8 +1,8 @@
 -- Nobody, or some.
 use borrow.Author.Needs.{needs}
 use borrow.Author.Tests.{eq-eqb, ne-eqb}
-use Rattle.checker.proofs.clocks.mark.Statement.{statement}
-use Rattle.checker.proofs.clocks.mark.Tie as tie
+use Rattle.checker.proofs.marks.mark.Statement.{statement}
+use Rattle.checker.proofs.marks.mark.Tie as tie
 
 returns : tie.Need-returns
 returns c = rw (eq-eqb _ _ (c .if1 .taken))

@@ -4,8 +4,8 @@ use Prim.Native.Nat.{_-_}
 use native.Mathlib.Omega.{arith}
 use lib.Bits.{and-le-r}
 use borrow.Author.Needs.{needs}
-use Rattle.checker.proofs.clocks.without_lowest.Statement.{statement}
-use Rattle.checker.proofs.clocks.without_lowest.Tie as tie
+use Rattle.checker.proofs.marks.without_lowest.Statement.{statement}
+use Rattle.checker.proofs.marks.without_lowest.Tie as tie
 
 returns : tie.Need-returns
 returns c =

@@ -4,8 +4,8 @@ use borrow.Author.Needs.{needs}
 use Rattle.text.specs.Printing.{bytes}
 use Rattle.text.proofs.Bytes.{allBelow}
 use Rattle.report.proofs.Judging.{told-so}
-use Rattle.report.proofs.writing.told_race.Statement.{statement}
-use Rattle.report.proofs.writing.told_race.Tie as tie
+use Rattle.report.proofs.telling.told_race.Statement.{statement}
+use Rattle.report.proofs.telling.told_race.Tie as tie
 
 returns : tie.Need-returns
 unfolding allBelow

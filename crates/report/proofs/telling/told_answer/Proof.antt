@@ -2,8 +2,8 @@
 use mathlib.Core.List.{[], _∷_}
 use borrow.Author.Needs.{needs}
 use Rattle.report.proofs.Judging.{not-case, none-taken, plain-line, no-race-line, tells-race}
-use Rattle.report.proofs.writing.told_answer.Statement.{statement}
-use Rattle.report.proofs.writing.told_answer.Tie as tie
+use Rattle.report.proofs.telling.told_answer.Statement.{statement}
+use Rattle.report.proofs.telling.told_answer.Tie as tie
 
 returns : tie.Need-returns
 returns c =

@@ -10,8 +10,8 @@ use Rattle.theory.proofs.tables.NamedRows.{released-at-object}
 use Rattle.theory.proofs.tables.NamedTurns.{NamedTurned, no-named-turn, one-named-turn, all-named-turns, idle-spread, row-put}
 use Rattle.theory.specs.order.Limits.{tasks}
 use borrow.Author.Needs.{needs}
-use Rattle.checker.proofs.clocks.spread.Statement.{statement}
-use Rattle.checker.proofs.clocks.spread.Tie as tie
+use Rattle.checker.proofs.marks.spread.Statement.{statement}
+use Rattle.checker.proofs.marks.spread.Tie as tie
 
 -- one turn: a copy of the hub for row q, if it is released to
 abbrev released : ℕ → List ℕ → ℕ → List ℕ → List ℕ

@@ -1,8 +1,8 @@
 -- Each part by the call that gave it. Assumes nothing.
 use borrow.Author.Needs.{needs}
 use Rattle.report.proofs.Judging.{tells-plainly}
-use Rattle.report.proofs.writing.told_plain.Statement.{statement}
-use Rattle.report.proofs.writing.told_plain.Tie as tie
+use Rattle.report.proofs.telling.told_plain.Statement.{statement}
+use Rattle.report.proofs.telling.told_plain.Tie as tie
 
 returns : tie.Need-returns
 returns c =

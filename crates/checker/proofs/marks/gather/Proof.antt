@@ -9,8 +9,8 @@ use Rattle.theory.proofs.tables.Rows.{join-nothing, join-acquired}
 use Rattle.theory.proofs.tables.NamedTurns.{NamedTurned, no-named-turn, one-named-turn, all-named-turns, idle-gather}
 use Rattle.theory.specs.order.Limits.{tasks}
 use borrow.Author.Needs.{needs}
-use Rattle.checker.proofs.clocks.gather.Statement.{statement}
-use Rattle.checker.proofs.clocks.gather.Tie as tie
+use Rattle.checker.proofs.marks.gather.Statement.{statement}
+use Rattle.checker.proofs.marks.gather.Tie as tie
 
 abbrev Inv-loop : tie.InvT-loop
 Inv-loop cells mask known₀ left₀ known left =
