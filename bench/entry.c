@@ -46,7 +46,7 @@ int main(int argc, char **argv) {
     for (size_t i = 0; i < len; i++) lines += text[i] == '\n';
     lines += len && text[len - 1] != '\n';
     uint8_t *report = malloc(64 * lines + 1);
-    memset(report, 0, 64 * lines + 1);
+    memset(report, '?', 64 * lines + 1); /* so that it is there before the first call; zeros would come with the first touch of each page */
 
     static uint64_t took[100000];
     size_t calls = 0;

@@ -6,12 +6,17 @@
 
 enum { READ, WRITE, TAKE, GIVE, LOOK, SET, START, JOIN, LOST, FRESH, MISS, BUMP, OWNED, KINDS };
 
+typedef struct {
+    uint32_t clear[64], race[64], doubt[64], races; /* verdicts of each variable, and the Races anywhere */
+} Totals;
+
 /* rows: 16 tasks' next acts, 16 tasks' having acted, 32 semaphores, 32 flags */
 typedef struct {
     uint32_t clock[2][96][16];
     uint32_t last[3][64][16]; /* reads, writes, bumps */
     uint8_t phase[16];
     uint32_t count, owned, skipped;
+    Totals totals;
     uint8_t holder[32], giver[32]; /* with owned semaphores: a task and one more, 0 for nobody */
 } State;
 
@@ -108,8 +113,16 @@ static uint8_t *feed(State *s, uint8_t *o, uint64_t line, int kind, uint32_t tas
     uint32_t number = ++s->count, with = 0;
     if (kind <= WRITE || kind == BUMP) {
         const char *verdict = " verdict=clear with=";
-        if (apart(s, 1, kind, task, on, &with) >= 0) verdict = " verdict=race with=";
-        else if (apart(s, 0, kind, task, on, &with) >= 0) verdict = " verdict=doubt with=";
+        if (apart(s, 1, kind, task, on, &with) >= 0) {
+            verdict = " verdict=race with=";
+            s->totals.race[on]++;
+            s->totals.races++;
+        } else if (apart(s, 0, kind, task, on, &with) >= 0) {
+            verdict = " verdict=doubt with=";
+            s->totals.doubt[on]++;
+        } else {
+            s->totals.clear[on]++;
+        }
         o = put_seven(put(o, "rec="), number);
         o = put_decimal(put(o, " task="), task);
         o = put_decimal(put(o, " var="), on);
@@ -173,6 +186,9 @@ static int record(const uint8_t *p, const uint8_t *end, uint32_t *task, uint32_t
     return p == end ? kind : -1;
 }
 
+Totals order_totals; /* of the last report */
+uint32_t order_skipped;
+
 uint64_t order_report(const uint8_t *text, size_t text_len, uint8_t *report, size_t report_len) {
     size_t lines = 0;
     for (size_t i = 0; i < text_len; i++) lines += text[i] == '\n';
@@ -192,5 +208,7 @@ uint64_t order_report(const uint8_t *text, size_t text_len, uint8_t *report, siz
         o = kind < 0 ? put_refused(o, line, 1) : feed(&s, o, line, kind, task, on);
         p = lf + 1;
     }
+    order_totals = s.totals;
+    order_skipped = s.skipped;
     return (uint64_t)(o - report);
 }

@@ -1,10 +1,12 @@
 // What an accepted act does to the history and to the tables of a reckoning, and its answer: by the clocks, and the same by the sets. The
 // number of an access is a variable; that of any other act goes on with its kind, which says in clocks.rt, sets.rt and rows.rt what it is.
 use crate::clocks;
-use crate::clocks::clock_masks;
+use crate::clocks::clock_words;
 use crate::history::is_access;
 use crate::history::keep;
 use crate::history::renew;
+use crate::masks::Words;
+use crate::masks::as_words;
 use crate::masks::judged;
 use crate::sets;
 use crate::sets::note_acted;
@@ -14,23 +16,26 @@ use theory::Answer;
 use theory::Clocks;
 use theory::Control;
 use theory::History;
-use theory::Masks;
 use theory::RecordNumber;
 use theory::Sets;
 use theory::Task;
 use theory::Variable;
 ghost use mathlib.Core.Path.{_≡_};
+ghost use mathlib.Core.Bool.{false};
 ghost use mathlib.Core.Logic.{_≢_};
-ghost use Rattle.theory.specs.order.Recording.{lossMark};
+ghost use Prim.Native.Nat.{_%_, _^_};
+ghost use Rattle.theory.specs.order.Limits.{tasks};
+ghost use Rattle.theory.specs.order.Recording.{lossMark, accesses};
 ghost use Rattle.theory.specs.acceptance.Table.{Fitting};
 ghost use Rattle.theory.specs.fillings.Completion.{arrived, full};
 ghost use Rattle.theory.specs.history.History.{lastAfter};
-ghost use Rattle.theory.specs.tables.Reckonings.{clockOwn, nextClocks, setOwn, nextSets, clockMask, clockMasks, setMask, setMasks};
+ghost use Rattle.theory.specs.tables.Reckonings.{clockOwn, nextClocks, setOwn, nextSets, clockMask, setMask, setMasks};
 ghost use Rattle.theory.specs.feeding.Step.{answerByMasks, answeredBy};
 ghost use Rattle.theory.specs.feeding.Meaning.{meaning};
 ghost use Rattle.theory.specs.totals.Totals.{totalled};
 ghost use Rattle.theory.specs.feeding.Lent.{seen};
 ghost use Rattle.theory.proofs.history.Accesses.{OfAccess};
+ghost use Rattle.theory.proofs.tables.Bits.{Halved};
 
 // An access is judged by what was kept before it, counted by its verdict, then kept itself.
 fn take_in(
@@ -40,22 +45,22 @@ fn take_in(
     task: Task,
     v: Variable,
     number: RecordNumber,
-    masks: Masks,
+    words: Words,
 ) -> Answer
-    requires { ⌜ OfAccess kind (task .0) (v .0) ⌝ }
+    requires { ⌜ OfAccess kind (task .0) (v .0) × Halved (words .full) × Halved (words .arrived) ⌝ }
     ensures { λ a. let c = seen control in let l = seen last in
-        ⌜ (a ≡ answerByMasks (l .entry) kind (v .0) (number .0) (masks .full) (masks .arrived))
+        ⌜ (a ≡ answerByMasks (l .entry) kind (v .0) (number .0) (words .full % 2 ^ tasks) (words .arrived % 2 ^ tasks))
         × (c .exit ≡ totalled (meaning a) (v .0) (c .entry))
         × (l .exit ≡ lastAfter kind (task .0) (v .0) (number .0) (l .entry)) ⌝ }
 {
-    let answer = judged(last, kind, v, number, masks);
-    total(control, v, answer);
+    let answer = judged(last, kind, v, number, words);
+    total(control, v, words.full != 0, words.arrived != 0);
     keep(last, kind, task, v, number);
     answer
 }
 
 // An access, by the clocks: its own cells are all that changes there, since it acquires from and releases to no other row.
-fn access_by_clocks(
+pub(crate) fn access_by_clocks(
     control: &mut Control,
     last: &mut History,
     clocks: &mut Clocks,
@@ -74,15 +79,14 @@ fn access_by_clocks(
         × (c .exit ≡ clockOwn (task .0) (number .0) (c .entry))
         × (f .exit ≡ clockOwn (task .0) (number .0) (f .entry)) ⌝ }
 {
-    let masks = clock_masks(clocks, fullclocks, last, kind, task, v);
+    let words = clock_words(clocks, fullclocks, last, kind, task, v);
     clocks::own(clocks, task, number);
     clocks::own(fullclocks, task, number);
-    take_in(control, last, kind, task, v, number, masks)
+    take_in(control, last, kind, task, v, number, words)
 }
 
-// An act, by the clocks. One that is no access is kept nowhere, may empty the history of a variable, and passes order on.
+// An act that is no access, by the clocks: it is kept nowhere, may empty the history of a variable, and passes order on.
 pub(crate) fn act_by_clocks(
-    control: &mut Control,
     last: &mut History,
     clocks: &mut Clocks,
     fullclocks: &mut Clocks,
@@ -90,33 +94,18 @@ pub(crate) fn act_by_clocks(
     task: Task,
     on: u32,
     number: RecordNumber,
-) -> Answer
-    requires { ⌜ Fitting kind (task .0) on × (kind ≢ lossMark) ⌝ }
-    ensures { λ a. let t = seen control in let l = seen last in let c = seen clocks in let f = seen fullclocks in
-        ⌜ (a ≡ answeredBy (l .entry) kind on (number .0) (clockMasks (c .entry) (f .entry) (l .entry) kind (task .0) on))
-        × (t .exit ≡ totalled (meaning a) on (t .entry))
-        × (l .exit ≡ lastAfter kind (task .0) on (number .0) (l .entry))
+)
+    requires { ⌜ Fitting kind (task .0) on × (kind ≢ lossMark) × (accesses kind ≡ false) ⌝ }
+    ensures { λ _. let l = seen last in let c = seen clocks in let f = seen fullclocks in
+        ⌜ (l .exit ≡ lastAfter kind (task .0) on (number .0) (l .entry))
         × (c .exit ≡ nextClocks arrived kind (task .0) on (number .0) (c .entry))
         × (f .exit ≡ nextClocks full kind (task .0) on (number .0) (f .entry)) ⌝ }
 {
-    if is_access(kind) {
-        return access_by_clocks(
-            control,
-            last,
-            clocks,
-            fullclocks,
-            kind,
-            task,
-            Variable(on),
-            number,
-        );
-    }
     renew(last, kind, on);
     clocks::own(clocks, task, number);
     clocks::own(fullclocks, task, number);
     clocks::pass_on(clocks, false, kind, task, on);
     clocks::pass_on(fullclocks, true, kind, task, on);
-    Answer::Accepted(number)
 }
 
 // An access, by the sets: it takes its slots anew.
@@ -142,7 +131,7 @@ fn access_by_sets(
     let masks = set_masks(sets, fullsets, last, kind, task, v);
     sets::own(sets, kind, task, v);
     sets::own(fullsets, kind, task, v);
-    take_in(control, last, kind, task, v, number, masks)
+    take_in(control, last, kind, task, v, number, as_words(masks))
 }
 
 // An act, by the sets.

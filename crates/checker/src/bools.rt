@@ -1,6 +1,6 @@
 // `||` and `&&` as calls, so that no branches are left to join where they stand.
 ghost use mathlib.Core.Path.{_≡_};
-ghost use mathlib.Core.Bool.{_&&_, _||_};
+ghost use mathlib.Core.Bool.{cond, _&&_, _||_};
 
 pub(crate) fn either(a: bool, b: bool) -> bool
     ensures { λ r. ⌜ r ≡ (a || b) ⌝ }
@@ -12,4 +12,11 @@ pub(crate) fn both(a: bool, b: bool) -> bool
     ensures { λ r. ⌜ r ≡ (a && b) ⌝ }
 {
     if a { b } else { false }
+}
+
+// The one number or the other, by a conditional move where an `if` would be a branch.
+pub(crate) fn picked(first: bool, one: usize, other: usize) -> usize
+    ensures { λ r. ⌜ r ≡ cond first one other ⌝ }
+{
+    if first { one } else { other }
 }

@@ -3,15 +3,15 @@
 // fullest filling.
 use crate::bools::both;
 use crate::bools::either;
-use crate::history::ask_at;
+use crate::bools::picked;
+use crate::history::asks_of;
 use crate::history::slot;
+use crate::masks::Words;
 use crate::masks::added_weight;
 use crate::masks::lower_half;
 use crate::rows::acquired_row;
-use crate::rows::acted_after;
-use crate::rows::has_bit;
-use crate::rows::named_row;
-use crate::rows::released_by;
+use crate::rows::is_release;
+use crate::rows::object_row;
 use crate::rows::released_row;
 use crate::rows::semaphore_row;
 use crate::rows::task_row;
@@ -31,22 +31,25 @@ use theory::TASKS;
 use theory::Task;
 use theory::Variable;
 ghost use mathlib.Core.Path.{_≡_};
-ghost use Prim.Native.Nat.{_<_, _≤_, _+_, _%_, _^_, max};
+ghost use mathlib.Core.Bool.{true, false};
+ghost use Prim.Native.Nat.{_<_, _≤_, _+_, max};
 ghost use lib.Dec.{ltb};
 ghost use lib.ListN.{getD};
 ghost use Rattle.theory.specs.order.Limits.{tasks};
 ghost use Rattle.theory.specs.order.Recording.{Op, kind as number};
 ghost use Rattle.theory.specs.acceptance.Table.{Fitting};
 ghost use Rattle.theory.specs.history.History.{slots};
-ghost use Rattle.theory.specs.tables.Rows.{anyNewer, actedRow, cellCount, cell, joinRow, rowOf, joinWith, acquiredWith, putRow, flow, joinsActed, onward, gather, spread, noteNamed, mix, mark};
+ghost use Rattle.theory.specs.tables.Rows.{anyNewer, actedRow, cellCount, cell, joinRow, rowOf, joinWith, putRow, flow, joinsActed, onward};
 ghost use Rattle.theory.specs.tables.Joining.{acquiredBy, afterAcquiring};
 ghost use Rattle.theory.specs.tables.Reckonings.{clockOwn, maskOf, clockMask, masksBy};
 ghost use Rattle.theory.proofs.history.Accesses.{OfAccess};
+ghost use Rattle.theory.proofs.tables.Bits.{twice};
+ghost use Rattle.theory.proofs.tables.HandOver.{HandsOver};
 
 // Where the row of what has acted begins.
-const FIRST_ACTED: usize = ACTED * COLUMNS;
+pub(crate) const FIRST_ACTED: usize = ACTED * COLUMNS;
 
-fn greater(a: u32, b: u32) -> u32
+pub(crate) fn greater(a: u32, b: u32) -> u32
     ensures { λ r. ⌜ r ≡ max a b ⌝ }
 {
     if a < b { b } else { a }
@@ -80,7 +83,7 @@ fn join_row(cells: &mut Clocks, to: usize, from: usize)
 }
 
 // A row by itself.
-fn row_of(cells: &Clocks, from: usize) -> [u32; COLUMNS]
+pub(crate) fn row_of(cells: &Clocks, from: usize) -> [u32; COLUMNS]
     requires { ⌜ from ≤ actedRow ⌝ }
     ensures { λ r. ⌜ r ≡ rowOf tasks from (now (cells .entry)) ⌝ }
 {
@@ -94,7 +97,7 @@ fn row_of(cells: &Clocks, from: usize) -> [u32; COLUMNS]
 }
 
 // What a row that stands by itself knows is known to row `to` as well.
-fn join_with(cells: &mut Clocks, to: usize, row: &[u32; COLUMNS])
+pub(crate) fn join_with(cells: &mut Clocks, to: usize, row: &[u32; COLUMNS])
     requires { ⌜ to ≤ actedRow ⌝ }
     ensures { λ _. ⌜ now (cells .exit) ≡ joinWith max tasks to (now (row .entry)) (now (cells .entry)) ⌝ }
 {
@@ -106,7 +109,7 @@ fn join_with(cells: &mut Clocks, to: usize, row: &[u32; COLUMNS])
 }
 
 // Row `to` with the cells of a row that stands by itself.
-fn put_row(cells: &mut Clocks, to: usize, row: &[u32; COLUMNS])
+pub(crate) fn put_row(cells: &mut Clocks, to: usize, row: &[u32; COLUMNS])
     requires { ⌜ to ≤ actedRow ⌝ }
     ensures { λ _. ⌜ now (cells .exit) ≡ putRow tasks to (now (row .entry)) (now (cells .entry)) ⌝ }
 {
@@ -134,81 +137,6 @@ fn flow(cells: &mut Clocks, asked: bool, acquired: usize, released: usize, task:
         return;
     }
     join_with(cells, HUB, &row);
-}
-
-// A row by itself with what row `from` knows, too.
-fn acquired_with(cells: &Clocks, from: usize, row: &[u32; COLUMNS]) -> [u32; COLUMNS]
-    requires { ⌜ from ≤ actedRow ⌝ }
-    ensures { λ r. ⌜ r ≡ acquiredWith max tasks from (now (row .entry)) (now (cells .entry)) ⌝ }
-{
-    let mut next = [0u32; COLUMNS];
-    let mut c = 0;
-    while c < COLUMNS {
-        next[c] = greater(row[c], cells[from * COLUMNS + c]);
-        c += 1;
-    }
-    next
-}
-
-// What a mark's lost records can acquire comes to the hub, by way of a row that stays in registers.
-fn gather(cells: &mut Clocks, mask: u32)
-    ensures { λ _. ⌜ now (cells .exit) ≡ gather max tasks mask (now (cells .entry)) ⌝ }
-{
-    let mut known = [0u32; COLUMNS];
-    let mut t = 0;
-    while t < TASKS {
-        let next = acquired_with(cells, named_row(mask, Task(t)), &known);
-        known = next;
-        t += 1;
-    }
-    join_with(cells, HUB, &known);
-}
-
-// What the hub knows, all that they can release to knows, from a copy that stays in the processor's registers. Every object is released to, so that
-// nothing is asked of the rows after the tasks'.
-fn spread(cells: &mut Clocks, mask: u32)
-    ensures { λ _. ⌜ now (cells .exit) ≡ spread tasks mask (now (cells .entry)) ⌝ }
-{
-    let hub = row_of(cells, HUB);
-    let mut r = 0;
-    while r < FIRST_SEMAPHORE {
-        put_row(cells, released_by(mask, r), &hub);
-        r += 1;
-    }
-    while r < HUB {
-        put_row(cells, r, &hub);
-        r += 1;
-    }
-}
-
-// The tasks that the mask names have acted. The loop is over the columns of one row, which are the tasks by their numbers.
-fn note_named(cells: &mut Clocks, mask: u32)
-    ensures { λ _. ⌜ now (cells .exit) ≡ noteNamed tasks mask (now (cells .entry)) ⌝ }
-{
-    let mut c = 0;
-    while c < COLUMNS {
-        cells[FIRST_ACTED + c] = acted_after(has_bit(mask, Task(c as u32)), cells[FIRST_ACTED + c]);
-        c += 1;
-    }
-}
-
-// The fullest filling of a mark.
-pub(crate) fn mix(cells: &mut Clocks, mask: u32)
-    ensures { λ _. ⌜ now (cells .exit) ≡ mix max tasks mask (now (cells .entry)) ⌝ }
-{
-    gather(cells, mask);
-    spread(cells, mask);
-    note_named(cells, mask);
-}
-
-// A mark of which the lost records of these tasks are filled in; where they are nobody's, nothing is released.
-pub(crate) fn mark(cells: &mut Clocks, mask: u32)
-    ensures { λ _. ⌜ now (cells .exit) ≡ mark max tasks mask (now (cells .entry)) ⌝ }
-{
-    if mask == 0 {
-        return;
-    }
-    mix(cells, mask);
 }
 
 // Whether a task has acted.
@@ -245,6 +173,23 @@ pub(crate) fn pass_on(cells: &mut Clocks, asked: bool, kind: u8, task: Task, on:
     );
 }
 
+// Order over a take, give, look or set, in both tables: of the task's row and its object's the one is joined with the other, and what is released in the
+// fullest filling comes to the hub as well. Which row is which is picked without a branch; where nothing is released, the hub is joined with itself.
+pub(crate) fn hand_over(clocks: &mut Clocks, fullclocks: &mut Clocks, kind: u8, task: Task, on: u32)
+    requires { ⌜ HandsOver kind × Fitting kind (task .0) on ⌝ }
+    ensures { λ _. ⌜ (now (clocks .exit) ≡ onward max tasks false kind (task .0) on (now (clocks .entry)))
+        × (now (fullclocks .exit) ≡ onward max tasks true kind (task .0) on (now (fullclocks .entry))) ⌝ }
+{
+    let own = task_row(task);
+    let object = object_row(kind, on);
+    let releases = is_release(kind);
+    let to = picked(releases, object, own);
+    let from = picked(releases, own, object);
+    join_newer(clocks, to, from);
+    join_newer(fullclocks, to, from);
+    join_newer(fullclocks, HUB, picked(releases, own, HUB));
+}
+
 // An act's own part: the task's own cell is the act's number, and the task has acted.
 pub(crate) fn own(cells: &mut Clocks, task: Task, number: RecordNumber)
     requires { ⌜ task .0 < tasks ⌝ }
@@ -259,7 +204,7 @@ pub(crate) fn own(cells: &mut Clocks, task: Task, number: RecordNumber)
 // does: the tasks whose latest conflicting access the row does not know. The loop is over columns, which are the tasks by their numbers.
 fn mask(cells: &Clocks, last: &History, row: usize, from: usize) -> u32
     requires { ⌜ (row + tasks ≤ cellCount tasks) × (from + tasks ≤ slots) ⌝ }
-    ensures { λ r. ⌜ r % 2 ^ tasks ≡ maskOf (λ u. ltb (getD (now (cells .entry)) (row + u) 0) (getD (now (last .entry)) (from + u) 0)) ⌝ }
+    ensures { λ r. ⌜ r ≡ twice (maskOf (λ u. ltb (getD (now (cells .entry)) (row + u) 0) (getD (now (last .entry)) (from + u) 0))) ⌝ }
 {
     let mut x: u32 = 0;
     let mut c: usize = 0;
@@ -270,7 +215,28 @@ fn mask(cells: &Clocks, last: &History, row: usize, from: usize) -> u32
     x
 }
 
-// The masks of the tasks whose latest conflicting access has no path to this access.
+// The masks of the tasks whose latest conflicting access has no path to this access, as words.
+pub(crate) fn clock_words(
+    clocks: &Clocks,
+    fullclocks: &Clocks,
+    last: &History,
+    kind: u8,
+    task: Task,
+    v: Variable,
+) -> Words
+    requires { ⌜ OfAccess kind (task .0) (v .0) ⌝ }
+    ensures { λ r. ⌜ (r .full ≡ twice (clockMask (now (fullclocks .entry)) (now (last .entry)) kind (task .0) (v .0)))
+        × (r .arrived ≡ twice (clockMask (now (clocks .entry)) (now (last .entry)) kind (task .0) (v .0))) ⌝ }
+{
+    let row = task_row(task) * COLUMNS;
+    let from = slot(asks_of(kind), v, Task(0));
+    Words {
+        full: mask(fullclocks, last, row, from),
+        arrived: mask(clocks, last, row, from),
+    }
+}
+
+// The same as masks.
 pub(crate) fn clock_masks(
     clocks: &Clocks,
     fullclocks: &Clocks,
@@ -283,11 +249,10 @@ pub(crate) fn clock_masks(
     ensures { λ r. ⌜ r ≡ masksBy (clockMask (now (fullclocks .entry)) (now (last .entry)) kind (task .0) (v .0))
         (clockMask (now (clocks .entry)) (now (last .entry)) kind (task .0) (v .0)) ⌝ }
 {
-    let row = task_row(task) * COLUMNS;
-    let from = slot(ask_at(kind), v, Task(0));
+    let words = clock_words(clocks, fullclocks, last, kind, task, v);
     Masks {
-        full: lower_half(mask(fullclocks, last, row, from)),
-        arrived: lower_half(mask(clocks, last, row, from)),
+        full: lower_half(words.full),
+        arrived: lower_half(words.arrived),
     }
 }
 
@@ -297,7 +262,7 @@ pub(crate) fn clock_mask(cells: &Clocks, last: &History, kind: u8, task: Task, v
     ensures { λ r. ⌜ r ≡ clockMask (now (cells .entry)) (now (last .entry)) kind (task .0) (v .0) ⌝ }
 {
     let row = task_row(task) * COLUMNS;
-    let from = slot(ask_at(kind), v, Task(0));
+    let from = slot(asks_of(kind), v, Task(0));
     lower_half(mask(cells, last, row, from))
 }
 

@@ -1,5 +1,6 @@
 // The control table: each task's phase, the count of accepted records, the profile, each semaphore's holder and last giver, and the skipped
 // takes. crates/theory/specs/acceptance/Control.antt says the same of the table as a list.
+use crate::bools::both;
 use crate::counters::raise;
 use theory::COUNT;
 use theory::Control;
@@ -81,14 +82,14 @@ fn gave(control: &Control, s: Semaphore, t: Task) -> bool
     control[GIVERS + s.0 as usize] == t.0 + 1
 }
 
-// The kind by which a record moves the clocks: a take that is skipped does so as a miss does, which makes no step.
+// The kind by which a record moves the clocks: under the profile a take that is skipped does so as a miss does, which makes no step.
 pub(crate) fn clock_kind(control: &Control, kind: u8, task: u32, on: u32) -> u8
     requires { ⌜ Proper kind task on ⌝ }
     ensures { λ r. ⌜ r ≡ clockKind (now (control .entry)) kind task on ⌝ }
 {
     match kind {
         TAKE => {
-            if gave(control, Semaphore(on), Task(task)) {
+            if both(is_under(control), gave(control, Semaphore(on), Task(task))) {
                 return MISS;
             }
             TAKE
@@ -98,7 +99,7 @@ pub(crate) fn clock_kind(control: &Control, kind: u8, task: u32, on: u32) -> u8
 }
 
 // One more accepted record. The bound keeps the sum within its type.
-fn count(control: &mut Control)
+pub(crate) fn count(control: &mut Control)
     requires { ⌜ countIn (now control) < records ⌝ }
     ensures { λ _. ⌜ now (control .exit) ≡ counted (now (control .entry)) ⌝ }
 {

@@ -9,7 +9,7 @@ ghost use Rattle.theory.specs.totals.Totals.{controlCells};
 const LAST: u32 = 4_294_967_295;
 
 // One more; at the end of its range a counter stays.
-fn one_more(n: u32) -> u32
+pub(crate) fn one_more(n: u32) -> u32
     ensures { λ r. ⌜ r ≡ oneMore n ⌝ }
 {
     if n < LAST { n + 1 } else { n }

@@ -14,7 +14,7 @@ use theory::VARIABLES;
 use theory::Variable;
 use theory::WRITE;
 ghost use mathlib.Core.Path.{_≡_};
-ghost use mathlib.Core.Bool.{cond};
+ghost use mathlib.Core.Bool.{true, cond};
 ghost use Prim.Native.Nat.{_<_};
 ghost use lib.Dec.{ltb, eqb};
 ghost use lib.ListN.{set, length};
@@ -22,7 +22,7 @@ ghost use Rattle.theory.specs.order.Limits.{tasks, variables};
 ghost use Rattle.theory.specs.order.Recording.{Op, kind as number, accesses, numberedKind};
 ghost use Rattle.theory.specs.acceptance.Table.{Proper};
 ghost use Rattle.theory.specs.history.History.{askers, asker, askAt, kindClashes, slot, slots, latestNumber, withAccess, emptiedUnder, emptied, lastAfter};
-ghost use Rattle.theory.proofs.history.Accesses.{OfAccess};
+ghost use Rattle.theory.proofs.history.Accesses.{OfAccess, keptUnder};
 
 // The number of a kind of access among those that ask, and ASKERS for any other kind.
 pub(crate) fn ask_at(kind: u8) -> usize
@@ -33,6 +33,18 @@ pub(crate) fn ask_at(kind: u8) -> usize
         WRITE => 1,
         BUMP => 2,
         _ => ASKERS,
+    }
+}
+
+// The same for a kind that is known to be one of access, by its own number and without a branch on which it is.
+pub(crate) fn asks_of(kind: u8) -> usize
+    requires { ⌜ accesses kind ≡ true ⌝ }
+    ensures { λ r. ⌜ (r ≡ askAt kind) × (r < length askers) ⌝ }
+{
+    if kind < BUMP {
+        kind as usize
+    } else {
+        ASKERS - 1
     }
 }
 
@@ -64,28 +76,34 @@ pub(crate) fn latest_number(last: &History, kind: u8, v: Variable, u: Task) -> R
     requires { ⌜ OfAccess kind (u .0) (v .0) ⌝ }
     ensures { λ r. ⌜ r .0 ≡ latestNumber (now (last .entry)) kind (v .0) (u .0) ⌝ }
 {
-    RecordNumber(last[slot(ask_at(kind), v, u)])
+    RecordNumber(last[slot(asks_of(kind), v, u)])
 }
 
-// An access kept under the kind of access with number a, if it clashes with that.
-fn keep_under(last: &mut History, a: usize, kind: u8, task: Task, v: Variable, number: RecordNumber)
-    requires { ⌜ (a < length askers) × (task .0 < tasks) × (v .0 < variables) ⌝ }
-    ensures { λ _. ⌜ now (last .exit)
-        ≡ cond (kindClashes (numberedKind kind) (asker a)) (set (now (last .entry)) (slot a (v .0) (task .0)) (number .0)) (now (last .entry)) ⌝ }
+// The number of a write among the kinds of access.
+const WRITES: usize = 1;
+
+// Where an access of the kind with number `asks` is kept when that with number a is at hand: under a, or, where it does not clash with its own kind, under
+// a write once more, with which every access clashes. So there is no branch on what it is.
+fn kept_under(asks: usize, a: usize) -> usize
+    requires { ⌜ a < length askers ⌝ }
+    ensures { λ r. ⌜ (r ≡ keptUnder asks a) × (r < length askers) ⌝ }
 {
-    if clashes(kind, a) {
-        last[slot(a, v, task)] = number.0;
+    if both(asks == a, a != WRITES) {
+        WRITES
+    } else {
+        a
     }
 }
 
 // The history after an access: it is kept under each kind that it clashes with.
 pub(crate) fn keep(last: &mut History, kind: u8, task: Task, v: Variable, number: RecordNumber)
-    requires { ⌜ (task .0 < tasks) × (v .0 < variables) ⌝ }
+    requires { ⌜ OfAccess kind (task .0) (v .0) ⌝ }
     ensures { λ _. ⌜ now (last .exit) ≡ withAccess kind (task .0) (v .0) (number .0) (now (last .entry)) ⌝ }
 {
+    let asks = asks_of(kind);
     let mut a = 0;
     while a < ASKERS {
-        keep_under(last, a, kind, task, v, number);
+        last[slot(kept_under(asks, a), v, task)] = number.0;
         a += 1;
     }
 }

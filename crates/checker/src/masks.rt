@@ -1,4 +1,5 @@
 // The tasks that are apart from an access, as masks, and the verdict that they make.
+use crate::bools::either;
 use crate::history::latest_number;
 use theory::Answer;
 use theory::History;
@@ -8,12 +9,13 @@ use theory::TASKS;
 use theory::Task;
 use theory::Variable;
 ghost use mathlib.Core.Path.{_≡_};
-ghost use mathlib.Core.Bool.{true};
+ghost use mathlib.Core.Bool.{true, cond, _||_};
 ghost use Prim.Native.Nat.{_<_, _+_, _*_, _-_, _%_, _^_};
 ghost use Rattle.theory.specs.order.Limits.{tasks, variables};
 ghost use Rattle.theory.specs.order.Recording.{accesses};
 ghost use Rattle.theory.specs.tables.Reckonings.{wordBits, indicator, lowestTask, masksBy};
 ghost use Rattle.theory.specs.feeding.Step.{answerByMasks};
+ghost use Rattle.theory.proofs.tables.Bits.{Halved};
 
 // Every mask is below this: it has a bit for each task.
 pub(crate) const MASKS: u32 = 1 << TASKS;
@@ -72,24 +74,66 @@ pub(crate) fn lowest(mask: u16) -> Task
     Task(u16::trailing_zeros(mask))
 }
 
-// The answer to an accepted access.
+// The masks of an access as words: the lower half of each is the mask, and the word is 0 only where that is.
+pub(crate) struct Words {
+    pub(crate) full: u32,
+    pub(crate) arrived: u32,
+}
+
+pub(crate) fn as_words(masks: Masks) -> Words
+    ensures { λ r. ⌜ (r .full ≡ masks .full) × (r .arrived ≡ masks .arrived) ⌝ }
+{
+    Words {
+        full: masks.full as u32,
+        arrived: masks.arrived as u32,
+    }
+}
+
+fn either_mask(first: bool, one: u16, other: u16) -> u16
+    ensures { λ r. ⌜ r ≡ cond first one other ⌝ }
+{
+    if first { one } else { other }
+}
+
+// The lowest-numbered task of a mask, and 0 for an empty one.
+fn lowest_or_0(mask: u16) -> Task
+    ensures { λ r. ⌜ ((mask ≡ 0 → ⊥) → r .0 ≡ lowestTask mask) × (r .0 < tasks) ⌝ }
+{
+    Task(u16::trailing_zeros(mask) % TASKS)
+}
+
+fn unordered(race: bool, number: RecordNumber, partner: RecordNumber) -> Answer
+    ensures { λ r. ⌜ r ≡ cond race (Answer.Race number partner) (Answer.Doubt number partner) ⌝ }
+{
+    if race {
+        return Answer::Race(number, partner);
+    }
+    Answer::Doubt(number, partner)
+}
+
+// Two functions and not one: where all three verdicts are made in one, the compiler branches on which it is.
+fn answer_by(race: bool, doubt: bool, number: RecordNumber, partner: RecordNumber) -> Answer
+    ensures { λ r. ⌜ r ≡ cond (race || doubt) (cond race (Answer.Race number partner) (Answer.Doubt number partner)) (Answer.Clear number) ⌝ }
+{
+    if either(race, doubt) {
+        return unordered(race, number, partner);
+    }
+    Answer::Clear(number)
+}
+
+// The answer to an accepted access. Its partner is looked up whatever the verdict is, so that no branch on the one decides about the other.
 pub(crate) fn judged(
     last: &History,
     kind: u8,
     v: Variable,
     number: RecordNumber,
-    masks: Masks,
+    words: Words,
 ) -> Answer
-    requires { ⌜ (accesses kind ≡ true) × (v .0 < variables) ⌝ }
-    ensures { λ r. ⌜ r ≡ answerByMasks (now (last .entry)) kind (v .0) (number .0) (masks .full) (masks .arrived) ⌝ }
+    requires { ⌜ (accesses kind ≡ true) × (v .0 < variables) × Halved (words .full) × Halved (words .arrived) ⌝ }
+    ensures { λ r. ⌜ r ≡ answerByMasks (now (last .entry)) kind (v .0) (number .0) (words .full % 2 ^ tasks) (words .arrived % 2 ^ tasks) ⌝ }
 {
-    let full = masks.full;
-    let arrived = masks.arrived;
-    if full != 0 {
-        return Answer::Race(number, latest_number(last, kind, v, lowest(full)));
-    }
-    if arrived != 0 {
-        return Answer::Doubt(number, latest_number(last, kind, v, lowest(arrived)));
-    }
-    Answer::Clear(number)
+    let race = words.full != 0;
+    let mask = either_mask(race, lower_half(words.full), lower_half(words.arrived));
+    let partner = latest_number(last, kind, v, lowest_or_0(mask));
+    answer_by(race, words.arrived != 0, number, partner)
 }

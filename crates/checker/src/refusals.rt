@@ -38,8 +38,9 @@ ghost use Rattle.theory.specs.order.Limits.{tasks, semaphores, flags, variables
 ghost use Rattle.theory.specs.order.Recording.{lossMark, kindSeries};
 ghost use Rattle.theory.proofs.acceptance.Rows.{OfAct};
 ghost use Rattle.theory.specs.fillings.Completion.{names};
-ghost use Rattle.theory.specs.acceptance.Table.{anyBelow};
-ghost use Rattle.theory.specs.acceptance.Control.{liveIn, unseenIn, countIn, underIn, heldIn, holdsIn, controlRefusal};
+ghost use Rattle.theory.specs.acceptance.Table.{anyBelow, firstRow};
+ghost use Rattle.theory.specs.acceptance.Control.{liveIn, unseenIn, countIn, underIn, heldIn, holdsIn, controlStanding, controlRefusal};
+ghost use Rattle.theory.proofs.acceptance.Plain.{commonRows};
 
 // The last number of a kind, and the last mask.
 const LAST_KIND: u8 = KINDS - 1;
@@ -74,7 +75,7 @@ fn no_flag(on: u32) -> bool
     }
 }
 
-fn no_variable(on: u32) -> bool
+pub(crate) fn no_variable(on: u32) -> bool
     ensures { λ r. ⌜ r ≡ leb variables on ⌝ }
 {
     match on {
@@ -90,7 +91,7 @@ fn no_profile(on: u32) -> bool
 }
 
 // Row 3: the number is none of the kind's series.
-fn outside(kind: u8, on: u32) -> bool
+pub(crate) fn outside(kind: u8, on: u32) -> bool
     ensures { λ r. ⌜ r ≡ leb (kindSeries kind) on ⌝ }
 {
     match kind {
@@ -221,24 +222,35 @@ fn mark_refusal(control: &Control, r: Record) -> u32
     0
 }
 
-// The rows that can apply to an act. Rows 2 and 3 come first, so that those after them find the tasks in the table.
-fn act_refusal(control: &Control, r: Record) -> u32
-    requires { ⌜ OfAct r ⌝ }
-    ensures { λ n. ⌜ n ≡ controlRefusal (now (control .entry)) r ⌝ }
+// The rows that every act has: of its task, its number, which is outside its series or not, the limit, and whether the task is live.
+pub(crate) fn common_refusal(control: &Control, task: u32, outside: bool) -> u32
+    ensures { λ n. ⌜ n ≡ firstRow (commonRows (controlStanding (now (control .entry))) task outside) ⌝ }
 {
-    if no_task(r.task) {
+    if no_task(task) {
         return 2;
     }
-    if outside(r.kind, r.on) {
+    if outside {
         return 3;
     }
     if full(control) {
         return 5;
     }
-    let task = Task(r.task);
-    if !is_live(control, task) {
+    if !is_live(control, Task(task)) {
         return 6;
     }
+    0
+}
+
+// The rows that can apply to an act. Those of every act come first, so that those after them find the tasks in the table.
+fn act_refusal(control: &Control, r: Record) -> u32
+    requires { ⌜ OfAct r ⌝ }
+    ensures { λ n. ⌜ n ≡ controlRefusal (now (control .entry)) r ⌝ }
+{
+    let refused = common_refusal(control, r.task, outside(r.kind, r.on));
+    if refused != 0 {
+        return refused;
+    }
+    let task = Task(r.task);
     let kind = r.kind;
     match kind {
         START => start_refusal(control, Task(r.on)),

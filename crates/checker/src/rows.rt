@@ -17,6 +17,7 @@ ghost use Prim.Native.Nat.{_<_};
 ghost use Rattle.theory.specs.order.Limits.{tasks};
 ghost use Rattle.theory.specs.order.Recording.{Op, kind as number};
 ghost use Rattle.theory.specs.fillings.Completion.{bit};
+ghost use Rattle.theory.proofs.tables.HandOver.{handsOver, releases, objectRow};
 ghost use Rattle.theory.specs.tables.Rows.{taskRow, semaphoreRow, flagRow, hub, rowCount, acquiredRow, releasedRow, isReleased, rowOrHub};
 
 pub(crate) fn task_row(t: Task) -> usize
@@ -70,6 +71,41 @@ pub(crate) fn released_row(kind: u8, task: Task, on: u32) -> usize
         SET => flag_row(Flag(on)),
         START => task_row(Task(on)),
         _ => task_row(task),
+    }
+}
+
+// Whether a kind is a take, give, look or set.
+pub(crate) fn hands_over(kind: u8) -> bool
+    ensures { λ r. ⌜ r ≡ handsOver kind ⌝ }
+{
+    match kind {
+        TAKE => true,
+        GIVE => true,
+        LOOK => true,
+        SET => true,
+        _ => false,
+    }
+}
+
+// The row of its semaphore or flag.
+pub(crate) fn object_row(kind: u8, on: u32) -> usize
+    ensures { λ r. ⌜ r ≡ objectRow kind on ⌝ }
+{
+    match kind {
+        LOOK => flag_row(Flag(on)),
+        SET => flag_row(Flag(on)),
+        _ => semaphore_row(Semaphore(on)),
+    }
+}
+
+// Whether it releases; else it acquires.
+pub(crate) fn is_release(kind: u8) -> bool
+    ensures { λ r. ⌜ r ≡ releases kind ⌝ }
+{
+    match kind {
+        GIVE => true,
+        SET => true,
+        _ => false,
     }
 }
 

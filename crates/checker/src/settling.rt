@@ -6,6 +6,7 @@ use crate::control::note;
 use crate::following::record_at;
 use crate::history::is_access;
 use crate::history::keep_record;
+use crate::marks;
 use crate::masks::MASKS;
 use crate::masks::added_weight;
 use crate::masks::lower_half;
@@ -56,7 +57,7 @@ fn fill_by(cells: &mut Clocks, home: u32, r: Record, number: RecordNumber)
     ensures { λ _. ⌜ now (cells .exit) ≡ nextClocks (homeOnly home) (r .kind) (r .task) (r .on) (number .0) (now (cells .entry)) ⌝ }
 {
     if r.kind == LOST {
-        clocks::mark(cells, r.on & home);
+        marks::mark(cells, r.on & home);
         return;
     }
     clocks::own(cells, Task(r.task), number);

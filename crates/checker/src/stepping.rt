@@ -1,10 +1,16 @@
 // The step over all kinds of records, by the clocks, and the same by the sets. In place, on tables that the caller lends, and by value.
 use crate::acting::act_by_clocks;
 use crate::acting::act_by_sets;
-use crate::clocks;
+use crate::bools::both;
 use crate::control::clock_kind;
+use crate::control::is_under;
 use crate::control::note;
+use crate::fast_steps::step_access;
+use crate::fast_steps::step_hand_over;
+use crate::history::is_access;
+use crate::marks;
 use crate::refusals::refusal;
+use crate::rows::hands_over;
 use crate::sets;
 use theory::Answer;
 use theory::COUNT;
@@ -21,18 +27,20 @@ use theory::State;
 use theory::Stepped;
 use theory::Task;
 ghost use mathlib.Core.Path.{_≡_};
+ghost use mathlib.Core.Bool.{false};
+ghost use Rattle.theory.specs.order.Recording.{accesses};
 ghost use Rattle.theory.specs.feeding.Step.{stepOf, setStepOf};
 ghost use Rattle.theory.specs.feeding.Lent.{tables, setTables};
 
-// Feeds a record. A refused record leaves every table as it was. An accepted one gets its number; the kind says what its other numbers are:
-// an act has an acting task, and a mark none, but a mask. A take that is skipped is an act as a miss is, and is noted as a take.
-pub fn step_in_place(
+// A record that is no access, of any other kind and none.
+fn step_other(
     control: &mut Control,
     last: &mut History,
     clocks: &mut Clocks,
     fullclocks: &mut Clocks,
     r: Record,
 ) -> Answer
+    requires { ⌜ accesses (r .kind) ≡ false ⌝ }
     ensures { λ a. let state = tables control last clocks fullclocks in ⌜ record { state = state .exit; answer = a } ≡ stepOf (state .entry) r ⌝ }
 {
     let refused = refusal(control, r);
@@ -45,20 +53,36 @@ pub fn step_in_place(
     note(control, kind, r.task, r.on);
     match kind {
         LOST => {
-            clocks::mix(fullclocks, r.on);
+            marks::mix(fullclocks, r.on);
             Answer::Accepted(number)
         }
-        _ => act_by_clocks(
-            control,
-            last,
-            clocks,
-            fullclocks,
-            moved,
-            Task(r.task),
-            r.on,
-            number,
-        ),
+        _ => {
+            act_by_clocks(last, clocks, fullclocks, moved, Task(r.task), r.on, number);
+            Answer::Accepted(number)
+        }
     }
+}
+
+// Feeds a record. A refused record leaves every table as it was. An accepted one gets its number; the kind says what its other numbers are:
+// an act has an acting task, and a mark none, but a mask. A take that is skipped is an act as a miss is, and is noted as a take. The two sorts that nearly
+// all records are of come first.
+pub fn step_in_place(
+    control: &mut Control,
+    last: &mut History,
+    clocks: &mut Clocks,
+    fullclocks: &mut Clocks,
+    r: Record,
+) -> Answer
+    ensures { λ a. let state = tables control last clocks fullclocks in ⌜ record { state = state .exit; answer = a } ≡ stepOf (state .entry) r ⌝ }
+{
+    let kind = r.kind;
+    if is_access(kind) {
+        return step_access(control, last, clocks, fullclocks, r);
+    }
+    if both(hands_over(kind), !is_under(control)) {
+        return step_hand_over(control, clocks, fullclocks, r);
+    }
+    step_other(control, last, clocks, fullclocks, r)
 }
 
 // The same by the sets, on their own state.

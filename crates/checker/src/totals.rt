@@ -1,6 +1,7 @@
 // Totals of verdicts, in the control table: read at any moment, and raised by the step.
+use crate::bools::picked;
+use crate::counters::one_more;
 use crate::counters::raise;
-use theory::Answer;
 use theory::CLEAR_TOTALS;
 use theory::Control;
 use theory::DOUBT_TOTALS;
@@ -10,10 +11,12 @@ use theory::Totals;
 use theory::VARIABLES;
 use theory::Variable;
 ghost use mathlib.Core.Path.{_≡_};
+ghost use mathlib.Core.Bool.{cond};
 ghost use Prim.Native.Nat.{_<_};
 ghost use Rattle.theory.specs.order.Limits.{variables};
-ghost use Rattle.theory.specs.feeding.Meaning.{meaning};
-ghost use Rattle.theory.specs.totals.Totals.{totalsOf, anyRace, totalled};
+ghost use Rattle.theory.specs.tables.Counters.{oneMore};
+ghost use Rattle.theory.specs.totals.Totals.{totalsOf, anyRace, withVerdict};
+ghost use Rattle.theory.proofs.totals.Counted.{verdictBy};
 
 // How many accesses of a variable were answered by each verdict so far.
 pub fn totals_of(control: &Control, v: u32) -> Totals
@@ -43,24 +46,18 @@ pub fn any_race(control: &Control) -> bool
     0 < control[RACES]
 }
 
-// The answer to an access of the variable is counted. Any other is no verdict, and counts nowhere.
-pub(crate) fn total(control: &mut Control, v: Variable, answer: Answer)
-    requires { ⌜ v .0 < variables ⌝ }
-    ensures { λ _. ⌜ now (control .exit) ≡ totalled (meaning answer) (v .0) (now (control .entry)) ⌝ }
+fn one_more_if(counts: bool, n: u32) -> u32
+    ensures { λ r. ⌜ r ≡ cond counts (oneMore n) n ⌝ }
 {
-    let place = v.0 as usize;
-    match answer {
-        Answer::Clear(_) => {
-            raise(control, CLEAR_TOTALS + place);
-        }
-        Answer::Race(_, _) => {
-            raise(control, RACE_TOTALS + place);
-            raise(control, RACES);
-        }
-        Answer::Doubt(_, _) => {
-            raise(control, DOUBT_TOTALS + place);
-        }
-        Answer::Refused(_) => {}
-        Answer::Accepted(_) => {}
-    }
+    if counts { one_more(n) } else { n }
+}
+
+// The verdict on an access of the variable is counted: a Race, else a Doubt, else Clear. Each total is found by its place, without a branch.
+pub(crate) fn total(control: &mut Control, v: Variable, race: bool, doubt: bool)
+    requires { ⌜ v .0 < variables ⌝ }
+    ensures { λ _. ⌜ now (control .exit) ≡ withVerdict (verdictBy race doubt) (v .0) (now (control .entry)) ⌝ }
+{
+    let place = picked(race, RACE_TOTALS, picked(doubt, DOUBT_TOTALS, CLEAR_TOTALS));
+    raise(control, place + v.0 as usize);
+    control[RACES] = one_more_if(race, control[RACES]);
 }

@@ -12,6 +12,7 @@ mod scan;
 mod short;
 mod sizes;
 mod streaming;
+mod telling;
 mod words;
 mod writing;
 

@@ -1,12 +1,12 @@
 // Report lines, written into lent memory. Each function writes at a place and returns the place after what it wrote.
 use crate::fast_writing::put_eight;
 use crate::fast_writing::put_number;
-use crate::words::eight;
+use crate::telling::Judged;
+use crate::telling::told_answer;
 use checker::excuse;
 use theory::Answer;
 use theory::Clocks;
 use theory::Control;
-use theory::Excuse;
 use theory::History;
 use theory::Record;
 ghost use Prim.Native.Nat.{ℕ, _+_, _/_, _<_, _≤_, _^_};
@@ -20,8 +20,7 @@ ghost use Rattle.text.specs.Lines.{lineRoom};
 ghost use Rattle.text.specs.Printing.{bytes, lastDigit, decimal, recordDigits, recordText};
 ghost use Rattle.theory.specs.feeding.Meaning.{meaning};
 ghost use Rattle.theory.specs.entries.Table.{excuseBy};
-ghost use Rattle.text.specs.ReportLines.{accessPart, accessLine, refusedAs, refusedLine, raceWord, excusedFor, partnerIn};
-ghost use Rattle.text.specs.Bytes.{little};
+ghost use Rattle.text.specs.ReportLines.{accessPart, accessLine, refusedAs, refusedLine, excusedFor, partnerIn};
 ghost use Rattle.text.specs.Words.{Opens};
 ghost use Rattle.text.specs.Wrote.{Wrote};
 
@@ -132,36 +131,6 @@ fn put_access_part(out: &mut [u8], at: usize, number: u32, task: u32, variable: 
     put_decimal(out, e, variable as u64)
 }
 
-// What an accepted access's line says of its verdict: the access's record number, `=` and the verdict's word as eight bytes, how many of them these are,
-// and the partner's record number.
-struct Judged {
-    number: u32,
-    word: u64,
-    len: usize,
-    partner: u32,
-}
-
-fn told(number: u32, word: &[u8; 8], len: usize, partner: u32) -> Judged
-    ensures { λ r. ⌜ r ≡ record { number = number; word = little (now (word .entry)); len = len; partner = partner } ⌝ }
-{
-    Judged {
-        number,
-        word: eight(word, 0),
-        len,
-        partner,
-    }
-}
-
-// A Race as it is excused.
-fn told_race(number: u32, x: Excuse) -> Judged
-    ensures { λ r. ⌜ (r .number ≡ number) × Opens (bytes "=" ++ raceWord (x .known)) (r .word) (r .len) × (r .partner ≡ x .partner .0) ⌝ }
-{
-    if x.known {
-        return told(number, b"=known  ", 6, x.partner.0);
-    }
-    told(number, b"=race   ", 5, x.partner.0)
-}
-
 // The line of an accepted access. The bytes after the verdict's word are written over.
 fn put_access_line(out: &mut [u8], at: usize, r: Record, j: Judged) -> usize
     requires { ⌜ (at + 44 + length (decimal (r .task)) + length (decimal (r .on)) + j .len ≤ length (now out)) × (3 ≤ j .len) × (j .len ≤ 8) ⌝ }
@@ -211,19 +180,11 @@ pub(crate) fn put_answer(
     ensures { λ to. let excused = excuseBy (now (control .entry)) (now (last .entry)) (now (fullclocks .entry)) r (partnerIn (meaning a)) in
         ⌜ Wrote (now (out .entry)) at (excusedFor line r excused (meaning a)) (now (out .exit)) to × (to ≤ at + lineRoom) ⌝ }
 {
-    let j = match a {
-        Answer::Refused(number) => {
-            return put_refused(out, at, line, number);
-        }
-        Answer::Accepted(_) => {
-            return at;
-        }
-        Answer::Clear(number) => told(number.0, b"=clear  ", 6, 0),
-        Answer::Race(number, partner) => {
-            let x = excuse(control, last, fullclocks, r, partner);
-            told_race(number.0, x)
-        }
-        Answer::Doubt(number, partner) => told(number.0, b"=doubt  ", 6, partner.0),
-    };
-    put_access_line(out, at, r, j)
+    if let Answer::Refused(number) = a {
+        return put_refused(out, at, line, number);
+    }
+    if let Answer::Accepted(_) = a {
+        return at;
+    }
+    put_access_line(out, at, r, told_answer(r, a, control, last, fullclocks))
 }

@@ -9,3 +9,4 @@ pub mod Matching
 pub mod Unused
 pub mod Following
 pub mod Listed
+pub mod FastSteps

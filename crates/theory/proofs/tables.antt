@@ -9,12 +9,14 @@ pub mod Acts
 pub mod Marks
 pub mod Nodes
 pub mod NamedRows
+pub mod NamedTurns
 pub mod Follows
 pub mod Exact
 pub mod ClockTables
 pub mod SetTables
 pub mod Ranges
 pub mod Onward
+pub mod HandOver
 pub mod Reckoned
 pub mod Masked
 pub mod Finds

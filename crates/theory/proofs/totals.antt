@@ -2,3 +2,4 @@
 pub mod Raised
 pub mod Moved
 pub mod Kept
+pub mod Counted

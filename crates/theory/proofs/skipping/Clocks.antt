@@ -1,6 +1,7 @@
 -- A take of a semaphore that its task gave last does to the clocks what a miss does: its own entry, and nothing else. Assumes nothing.
 use mathlib.Core.Path.{_≡_, refl, sym, _∙_, ap, subst}
 use mathlib.Core.Bool.{Bool, true, false, cond, _&&_}
+use mathlib.Mathlib.Data.Bool.Basic.{and-elim-right}
 use mathlib.Core.List.{List}
 use Prim.Native.Nat.{ℕ, zero, suc, _+_, _*_, _≤_, _<_, max}
 use native.Mathlib.Omega.{arith}
@@ -9,7 +10,7 @@ use lib.Seq.{set-getD}
 use Rattle.theory.specs.order.Limits.{tasks, semaphores}
 use Rattle.theory.specs.order.Recording.{Op, Event, kind, kindSeries}
 use Rattle.theory.specs.acceptance.Table.{Fitting}
-use Rattle.theory.specs.acceptance.Control.{gaveIn}
+use Rattle.theory.specs.acceptance.Control.{underIn, gaveIn}
 use Rattle.theory.specs.skipping.Skipping.{giver}
 use Rattle.theory.specs.feeding.Step.{nextNumber, clockKind}
 use Rattle.theory.specs.fillings.Completion.{Filling, fills}
@@ -108,10 +109,10 @@ module _ {w : Filling} {es : List Event} {control b : List ℕ} (c : ExactContro
       moved : ℕ → List ℕ
       moved m = nextClocks w m t n (nextNumber control) b
 
-      by-giver : k ≡ kind Op.take → n < semaphores → (g : Bool) → gaveIn control n t ≡ g → moved (cond g (kind Op.miss) k) ≡ moved k
-      by-giver e h true q = take-as-miss x l (gave (is-by (giver es n) t (sym (gave-same c n t h) ∙ q))) h (f .task-fits) number ∙ sym (ap moved e)
+      by-giver : k ≡ kind Op.take → n < semaphores → (g : Bool) → (underIn control && gaveIn control n t) ≡ g → moved (cond g (kind Op.miss) k) ≡ moved k
+      by-giver e h true q = take-as-miss x l (gave (is-by (giver es n) t (sym (gave-same c n t h) ∙ and-elim-right (underIn control) (gaveIn control n t) q))) h (f .task-fits) number ∙ sym (ap moved e)
       by-giver e h false q = refl
 
-      decided : {a : Bool} → Reflects (k ≡ kind Op.take) a → moved (cond (a && gaveIn control n t) (kind Op.miss) k) ≡ moved k
-      decided (right e) = by-giver e (subst (λ (k : ℕ). n < kindSeries k) e (f .on-fits)) (gaveIn control n t) refl
+      decided : {a : Bool} → Reflects (k ≡ kind Op.take) a → moved (cond (a && (underIn control && gaveIn control n t)) (kind Op.miss) k) ≡ moved k
+      decided (right e) = by-giver e (subst (λ (k : ℕ). n < kindSeries k) e (f .on-fits)) (underIn control && gaveIn control n t) refl
       decided (wrong _) = refl

@@ -9,9 +9,9 @@ use native.Mathlib.Omega.{arith}
 use borrow.Author.Tests.{eqb-true}
 use lib.Dec.{eqb}
 use lib.ListN.{set}
-use Rattle.theory.specs.order.Recording.{Op, kind, lossMark}
+use Rattle.theory.specs.order.Recording.{Op, kind, lossMark, accesses}
 use Rattle.theory.specs.acceptance.Table.{Fitting}
-use Rattle.theory.specs.acceptance.Control.{gaveIn, skipsIn}
+use Rattle.theory.specs.acceptance.Control.{underIn, gaveIn, skipsIn}
 use Rattle.theory.specs.history.History.{lastAfter}
 use Rattle.theory.specs.tables.Reckonings.{clockMasks}
 use Rattle.theory.specs.feeding.Step.{answeredBy, clockKind}
@@ -23,7 +23,7 @@ module _ (control : List ℕ) (k task on : ℕ) where
   moved P p q = decided (skipsIn control k task on) refl
     where
       decided : (b : Bool) → skipsIn control k task on ≡ b → P (cond b (kind Op.miss) k)
-      decided true e = q (eqb-true k (kind Op.take) (and-elim-left (eqb k (kind Op.take)) (gaveIn control on task) e))
+      decided true e = q (eqb-true k (kind Op.take) (and-elim-left (eqb k (kind Op.take)) (underIn control && gaveIn control on task) e))
       decided false e = p
 
   pub moved-fits : Fitting k task on → Fitting (clockKind control k task on) task on
@@ -31,6 +31,9 @@ module _ (control : List ℕ) (k task on : ℕ) where
 
   pub moved-act : k ≢ lossMark → clockKind control k task on ≢ lossMark
   moved-act n = moved (λ m. m ≢ lossMark) n (λ e q. omega arith)
+
+  pub moved-plain : accesses k ≡ false → accesses (clockKind control k task on) ≡ false
+  moved-plain n = moved (λ m. accesses m ≡ false) n (λ e. refl)
 
   pub moved-answer : (clocks fullclocks last : List ℕ) (n : ℕ) →
       answeredBy last (clockKind control k task on) on n (clockMasks clocks fullclocks last (clockKind control k task on) task on)

@@ -37,12 +37,20 @@ use Rattle.theory.proofs.totals.Kept.{Keeps, clocks-keep, sets-keep, fr
 
 -- Which takes are skipped
 
+-- outside the profile nobody gave a semaphore
+take-skips : {es : List Event} {control : List ℕ} → ExactControl es control → (t n : ℕ) → n < semaphores → (underIn control && gaveIn control n t) ≡ isBy (giver es n) t
+take-skips {es} x t n h = rw (x .profile, gave-same x n t h) (decided (under es) refl)
+  where
+    decided : (b : Bool) → under es ≡ b → (b && isBy (giver es n) t) ≡ isBy (giver es n) t
+    decided true q = refl
+    decided false q = rw (who-none nextGiver es n q)
+
 -- those that the recording says
 skips-same : {es : List Event} {control : List ℕ} {r : Record} → ExactControl es control → Shape es r → skipsIn control (r .kind) (r .task) (r .on) ≡ skips es (eventOf r)
 skips-same {es} {control} x (an-act o t n a) = rw (event-act o t n) (decided (equal (kind o) (kind Op.take)))
   where
-    decided : {b : Bool} → Reflects (kind o ≡ kind Op.take) b → (b && gaveIn control n t) ≡ (b && isBy (giver es n) t)
-    decided (right q) = gave-same x n t (subst (λ (k : ℕ). n < kindSeries k) q (a .fits .on-fits))
+    decided : {b : Bool} → Reflects (kind o ≡ kind Op.take) b → (b && (underIn control && gaveIn control n t)) ≡ (b && isBy (giver es n) t)
+    decided (right q) = take-skips x t n (subst (λ (k : ℕ). n < kindSeries k) q (a .fits .on-fits))
     decided (wrong d) = refl
 skips-same x (a-mark t n m) = refl
 
@@ -117,14 +125,6 @@ total-uncounted (judges n w p) v control = verdict-uncounted w v control
 -- One accepted record
 
 module _ {es : List Event} {control : List ℕ} (x : ExactControl es control) (same : skippedIn control ≡ skippedTakes es) (few : length es < records) where
-  -- outside the profile nobody gave a semaphore
-  take-skips : (t n : ℕ) → n < semaphores → (underIn control && gaveIn control n t) ≡ skips es (act Op.take t n)
-  take-skips t n h = rw (x .profile, gave-same x n t h) (decided (under es) refl)
-    where
-      decided : (b : Bool) → under es ≡ b → (b && isBy (giver es n) t) ≡ isBy (giver es n) t
-      decided true q = refl
-      decided false q = rw (who-none nextGiver es n q)
-
   counted-other : (c : List ℕ) → skippedIn (counted c) ≡ skippedIn c
   counted-other c = getD-set-other c countAt skippedAt _ 0 (λ q. omega arith)
 
@@ -141,7 +141,7 @@ module _ {es : List Event} {control : List ℕ} (x : ExactControl es control) (s
       taken q =
           let h : n < semaphores = fits-of proper Op.take q .on-fits in
           ap (λ (k : ℕ). skippedIn (updated k t n control)) q
-          ∙ (taken-counted t n control h (omega (arith, x .size)) room ∙ ap (λ (b : Bool). skippedIn control + indicator b) (take-skips t n h))
+          ∙ (taken-counted t n control h (omega (arith, x .size)) room ∙ ap (λ (b : Bool). skippedIn control + indicator b) (take-skips x t n h))
 
       decided : {b : Bool} → Reflects (kind o ≡ kind Op.take) b → skippedIn (updated (kind o) t n control) ≡ skippedIn control + indicator (b && isBy (giver es n) t)
       decided (right q) = taken q

@@ -1,5 +1,5 @@
 -- Masks of 16 tasks, built from the highest bit down or summed from the lowest up. Assumes nothing.
-use mathlib.Core.Path.{_≡_, refl, sym, _∙_}
+use mathlib.Core.Path.{_≡_, refl, sym, _∙_, ap}
 use mathlib.Core.Bool.{Bool, true, false, not, _&&_}
 use Prim.Native.Nat.{ℕ, zero, suc, _+_, _*_, _-_, _^_, _/_, _%_, _≤_, _<_, zero-le, suc-le-suc, min}
 use native.Mathlib.Nat.{pow-suc, add-mul, mul-assoc, zero-mul}
@@ -8,11 +8,13 @@ use native.Mathlib.Omega.{arith}
 use lib.Count.{trailingZeros, under, trailing-of-zero}
 use lib.Bits.{bitAnd, bitOr, and-step, and-le-l, and-mod, or-block, or-shifted-r, or-zero-r}
 use lib.Dec.{eqb}
+use borrow.Author.Tests.{eq-eqb, ne-eqb}
 use lib.Pow.{pow-mono, pow-lt, shr-shr}
 use Rattle.theory.specs.fillings.Completion.{bit}
 use Rattle.theory.specs.tables.Turns.{turns}
 use Rattle.theory.specs.tables.Reckonings.{indicator, maskOf, lowestTask}
 use Rattle.theory.specs.order.Limits.{tasks}
+use Rattle.theory.proofs.basics.Reflects.{Reflects, right, wrong, equal}
 
 -- a mask of i bits with one more
 mask-next : (i m b : ℕ) → m < 2 ^ i → b ≤ 1 → b + 2 * m < 2 ^ (i + 1)
@@ -208,6 +210,29 @@ all-sums {p} {u} s h l = s .is ∙ sums-all p u (omega arith)
 -- The mask as an "or" of weights that stand twice in a word, which the compiler makes vector code of: as a sum, or with single bits, it
 -- does not
 
+-- a mask in both halves of a word
+abbrev pub twice : ℕ → ℕ
+twice m = m * 2 ^ tasks + m
+
+-- a word that is 0 only where its lower half is
+pub record Halved (x : ℕ) : Type 0 where
+  pub empty : x % 2 ^ tasks ≡ 0 → x ≡ 0
+
+pub halved-twice : {x m : ℕ} → x ≡ twice m → m < 2 ^ tasks → (x % 2 ^ tasks ≡ m) × Halved x
+halved-twice {x} {m} e h =
+    let low : x % 2 ^ tasks ≡ m = omega arith in
+    (low, record { empty = λ z. omega arith })
+
+pub halved-empty : {x : ℕ} → Halved x → eqb (x % 2 ^ tasks) 0 ≡ eqb x 0
+halved-empty {x} h = decided (equal x 0)
+  where
+    decided : {b : Bool} → Reflects (x ≡ 0) b → eqb (x % 2 ^ tasks) 0 ≡ b
+    decided (right z) = eq-eqb (x % 2 ^ tasks) 0 (omega arith)
+    decided (wrong d) = ne-eqb (x % 2 ^ tasks) 0 (λ z. d (h .empty z))
+
+pub halved-mask : {x m : ℕ} → x ≡ m → m < 2 ^ tasks → (x % 2 ^ tasks ≡ m) × Halved x
+halved-mask e h = (omega arith, record { empty = λ z. omega arith })
+
 pub record Gathered (p : ℕ → Bool) (u x : ℕ) : Type 0 where
   pub m : ℕ
   pub summed : Summed p u m
@@ -244,3 +269,7 @@ module _ {p : ℕ → Bool} where
       let room = sum-fits (g .summed) h in
       let low : x % 2 ^ tasks ≡ g .m = omega (arith, g .twice) in
       low ∙ all-sums (g .summed) h l
+
+  -- the whole word: it is empty only where the mask is
+  pub all-twice : {u x : ℕ} → Gathered p u x → u ≤ tasks → tasks ≤ u → x ≡ twice (maskOf p)
+  all-twice g h l = g .twice ∙ ap twice (all-sums (g .summed) h l)

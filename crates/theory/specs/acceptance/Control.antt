@@ -70,9 +70,9 @@ controlStanding control =
       holds = holdsIn control;
     }
 
--- the act is a take of a semaphore that its task gave last
+-- under the profile, the act is a take of a semaphore that its task gave last
 abbrev pub skipsIn : List ℕ → ℕ → ℕ → ℕ → Bool
-skipsIn control k task on = eqb k (kind Op.take) && gaveIn control on task
+skipsIn control k task on = eqb k (kind Op.take) && (underIn control && gaveIn control on task)
 
 -- the refusal of a record
 abbrev pub controlRefusal : List ℕ → Record → ℕ

@@ -1,19 +1,17 @@
 -- The mask of an access, by where its rows begin.
-use mathlib.Core.Path.{_≡_, _∙_}
+use mathlib.Core.Path.{_≡_, _∙_, ap}
 use Prim.Native.Nat.{_*_}
 use native.Mathlib.Omega.{arith}
 use lib.Dec.{lit<}
-use lib.ListN.{length}
-use borrow.Author.Tests.{ltb-true}
 use Rattle.theory.specs.order.Limits.{tasks}
-use Rattle.theory.specs.history.History.{askers}
+use Rattle.theory.proofs.tables.Bits.{twice, halved-twice, mask-lt}
 use Rattle.theory.proofs.tables.Reckoned.{mask-by-rows}
 use borrow.Author.Needs.{needs}
 use Rattle.checker.proofs.clocks.clock_mask.Statement.{statement}
 use Rattle.checker.proofs.clocks.clock_mask.Tie as tie
 
 slot-requires : tie.Need-slot-requires
-slot-requires c κs = let p = c .before .before .pre in (ltb-true _ _ (c .ask-at .ensures .1 ∙ p .is-access), p .variable-fits, lit< tt)
+slot-requires c κs = (c .asks-of .ensures .1, c .before .before .pre .variable-fits, lit< tt)
 
 returns : tie.Need-returns
 returns c =
@@ -21,9 +19,9 @@ returns c =
     let at-ask = at-slot .before in
     let at-row = at-ask .before in
     let a = at-row .before .args in
-    let asks = rw (at-row .before .pre .is-access) at (at-ask .ask-at .ensures .0) in
     let row : at-row .task-row .result * tasks ≡ a .task .0 * tasks = rw (at-row .task-row .ensures) in
-    c .lower-half .ensures ∙ (c .before .mask .ensures ∙ mask-by-rows (a .cells .now) (a .last .now) (a .kind) (a .task .0) (a .v .0) row (rw asks at (at-slot .slot .ensures .0)))
+    let from = rw (at-ask .asks-of .ensures .0) at (at-slot .slot .ensures .0) in
+    c .lower-half .ensures ∙ (halved-twice (c .before .mask .ensures) (mask-lt _) .0 ∙ mask-by-rows (a .cells .now) (a .last .now) (a .kind) (a .task .0) (a .v .0) row from)
 
 pub clock-mask-spec : {M : Type 1} → statement M
 clock-mask-spec = tie.close (tie.spec (λ c κs. search needs) (λ c. search needs) (λ c κs. search needs) slot-requires (λ c κs. search needs) (λ c κs. search needs) returns)

@@ -5,7 +5,7 @@ use native.Mathlib.Omega.{arith}
 use lib.Dec.{ltb}
 use lib.ListN.{getD}
 use Rattle.theory.specs.order.Limits.{tasks}
-use Rattle.theory.proofs.tables.Bits.{Gathered, no-weights, one-weight, all-weights}
+use Rattle.theory.proofs.tables.Bits.{Gathered, no-weights, one-weight, all-twice}
 use borrow.Author.Needs.{needs}
 use Rattle.checker.proofs.clocks.mask.Statement.{statement}
 use Rattle.checker.proofs.clocks.mask.Tie as tie
@@ -23,7 +23,7 @@ loop-again : tie.Need-loop-again Inv-loop μ-loop
 loop-again c = (search needs, one-weight (omega arith) (c .before .before .before .before .loop .inv .1) (c .added-weight .ensures) refl)
 
 returns : tie.Need-returns Inv-loop μ-loop
-returns c = all-weights (c .before .loop .inv .1) (omega arith) (omega arith)
+returns c = all-twice (c .before .loop .inv .1) (omega arith) (omega arith)
 
 pub mask-spec : {M : Type 1} → statement M
 mask-spec =

@@ -1,32 +1,40 @@
--- Kept under each kind in turn.
-use mathlib.Core.Bool.{cond}
+-- A store for each kind in turn; those that are made once more change nothing.
+use mathlib.Core.Path.{refl, _∙_}
 use Prim.Native.Nat.{_≤_, _-_}
 use native.Mathlib.Omega.{arith}
 use lib.ListN.{set, length}
-use Rattle.theory.specs.order.Recording.{numberedKind}
-use Rattle.theory.specs.history.History.{askers, asker, kindClashes, slot, underEach}
+use Rattle.theory.specs.history.History.{askers, slot}
 use Rattle.theory.proofs.basics.Turns.{Turned, no-turn, one-turn, all-turns}
+use Rattle.theory.proofs.history.Accesses.{keptUnder, accessing, kept-again}
 use borrow.Author.Needs.{needs}
 use Rattle.checker.proofs.history.keep.Statement.{statement}
 use Rattle.checker.proofs.history.keep.Tie as tie
 
 abbrev Inv-loop : tie.InvT-loop
-Inv-loop last₀ kind task v number a₀ last a =
-    (a ≤ length askers) × Turned (λ a l. cond (kindClashes (numberedKind kind) (asker a)) (set l (slot a (v .0) (task .0)) (number .0)) l) last₀ a last
+Inv-loop last₀ kind task v number asks a₀ last a = (a ≤ length askers) × Turned (λ a l. set l (slot (keptUnder asks a) (v .0) (task .0)) (number .0)) last₀ a last
 
 abbrev μ-loop : tie.MeasureT-loop
-μ-loop last₀ kind task v number a₀ last a = length askers - a
+μ-loop last₀ kind task v number asks a₀ last a = length askers - a
 
 loop-holds : tie.Need-loop-holds Inv-loop μ-loop
 loop-holds c = (search needs, no-turn)
 
+slot-requires : tie.Need-slot-requires Inv-loop μ-loop
+slot-requires c κs = let p = c .before .before .before .before .pre in (c .kept-under .ensures .1, p .variable-fits, p .task-fits)
+
 loop-again : tie.Need-loop-again Inv-loop μ-loop
-loop-again c = (search needs, one-turn (c .before .before .before .loop .inv .1) (c .keep-under .ensures))
+loop-again c =
+    let at-kept = c .before in
+    (search needs, one-turn (at-kept .before .before .loop .inv .1) (rw (← at-kept .kept-under .ensures .0, ← c .slot .ensures .0) refl))
 
 returns : tie.Need-returns Inv-loop μ-loop
-unfolding underEach
-returns c = all-turns (length askers) (c .before .loop .inv .1) (omega arith) (omega arith)
+returns c =
+    let at-asks = c .before .before in
+    let a = at-asks .before .args in
+    let t = all-turns (length askers) (c .before .loop .inv .1) (omega arith) (omega arith) in
+    (rw (at-asks .asks-of .ensures .0) at t) ∙ kept-again (a .v .0) (a .task .0) (a .number .0) (a .last .now) (accessing (a .kind) (at-asks .before .pre .is-access))
 
 pub keep-spec : {M : Type 1} → statement M
 keep-spec =
-    tie.close (tie.spec Inv-loop μ-loop loop-holds (λ c κs. search needs) (λ c. search needs) (λ c. search needs) loop-again returns)
+    tie.close (tie.spec
+    Inv-loop μ-loop (λ c κs. c .pre .is-access) loop-holds (λ c κs. search needs) slot-requires (λ c. search needs) (λ c. search needs) (λ c. search needs) (λ c. search needs) loop-again returns)

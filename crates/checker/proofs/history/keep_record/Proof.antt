@@ -12,8 +12,7 @@ keep-requires c κs =
     let at-if1 = c .before in
     let p = at-if1 .before .before .pre in
     let h = sym (at-if1 .before .is-access .ensures) ∙ at-if1 .if1 .taken in
-    let a = of-access (p .act-fits (access-acts _ h)) h in
-    (a .task-fits, a .variable-fits)
+    of-access (p .act-fits (access-acts _ h)) h
 
 returns : tie.Need-returns
 returns c =

@@ -1,27 +1,31 @@
--- Race by the fullest mask, Doubt by the arrived one, else Clear.
-use borrow.Author.Tests.{eq-eqb, ne-eqb}
-use Rattle.theory.specs.feeding.Step.{answerByMasks}
+-- The partner is that of the mask that decides, where one does.
+use mathlib.Core.Path.{_≡_, sym, _∙_}
+use Prim.Native.Nat.{_%_, _^_}
+use Rattle.theory.specs.order.Limits.{tasks}
+use Rattle.theory.specs.history.History.{latestNumber}
+use Rattle.theory.proofs.feeding.FastSteps.{judged-so}
 use borrow.Author.Needs.{needs}
 use Rattle.checker.proofs.masks.judged.Statement.{statement}
 use Rattle.checker.proofs.masks.judged.Tie as tie
 
 latest-number-requires : tie.Need-latest-number-requires
-latest-number-requires c κs = let (e, v) = c .before .before .pre in record { is-access = e; task-fits = c .lowest .ensures .1; variable-fits = v }
+latest-number-requires c κs =
+    let p = c .before .before .before .before .before .pre in record { is-access = p .0; task-fits = c .lowest-or-0 .ensures .1; variable-fits = p .1 }
 
 returns : tie.Need-returns
-unfolding answerByMasks
-returns c = simp (ne-eqb _ _ (c .before .before .if1 .taken), ← c .before .lowest .ensures .0, ← c .latest-number .ensures)
-
-latest-number-requires-2 : tie.Need-latest-number-requires-2
-latest-number-requires-2 c κs = let (e, v) = c .before .before .before .pre in record { is-access = e; task-fits = c .lowest2 .ensures .1; variable-fits = v }
-
-returns-2 : tie.Need-returns-2
-unfolding answerByMasks
-returns-2 c = simp (eq-eqb _ _ (c .before .before .before .if1 .left), ne-eqb _ _ (c .before .before .if2 .taken), ← c .before .lowest2 .ensures .0, ← c .latest-number2 .ensures)
-
-returns-3 : tie.Need-returns-3
-unfolding answerByMasks
-returns-3 c = simp (eq-eqb _ _ (c .before .if1 .left), eq-eqb _ _ (c .if2 .left))
+returns c =
+    let at-latest = c .before .before in
+    let at-lowest = at-latest .before in
+    let at-mask = at-lowest .before in
+    let at-arrived = at-mask .before in
+    let at-full = at-arrived .before in
+    let start = at-full .before .before in
+    let a = start .args in
+    let p = start .pre in
+    let m = rw (at-full .lower-half .ensures, at-arrived .lower-half2 .ensures) at (at-mask .either-mask .ensures) in
+    c .answer-by .ensures
+    ∙ judged-so (a .last .now) (a .kind) (a .v .0) (a .number .0) (a .words .full) (a .words .arrived) (at-latest .latest-number .result) (p .2) (p .3) m
+    (λ h. rw (← at-lowest .lowest-or-0 .ensures .0 h) (at-latest .latest-number .ensures))
 
 pub judged-spec : {M : Type 1} → statement M
-judged-spec = tie.close (tie.spec (λ c κs. search needs) latest-number-requires returns (λ c κs. search needs) latest-number-requires-2 returns-2 returns-3)
+judged-spec = tie.close (tie.spec (λ c κs. search needs) (λ c κs. search needs) (λ c κs. search needs) (λ c κs. search needs) latest-number-requires (λ c κs. search needs) returns)

@@ -1,74 +1,26 @@
--- A refused record leaves all as it was; of an accepted one the calls' equations are put together.
-use mathlib.Core.Path.{refl, _∙_}
-use Prim.Native.Nat.{_+_}
-use native.Mathlib.Omega.{arith}
-use lib.ListN.{set}
-use borrow.Author.Tests.{ne-eqb}
-use Rattle.theory.specs.order.Recording.{lossMark}
-use Rattle.theory.specs.acceptance.Control.{countIn}
-use Rattle.theory.specs.feeding.Step.{stepOf}
-use Rattle.theory.proofs.acceptance.Accepted.{Accepts, accepts, refused}
-use Rattle.theory.proofs.history.Accesses.{kept-nowhere}
-use Rattle.theory.proofs.skipping.Code.{moved-fits, moved-act, moved-answer, moved-last}
+-- Each sort has its step.
+use mathlib.Core.Path.{_≡_, sym, _∙_}
+use mathlib.Core.Bool.{true, not, _&&_}
+use mathlib.Mathlib.Data.Bool.Basic.{and-elim-left, and-elim-right}
+use borrow.Author.Tests.{not-true}
+use Rattle.theory.proofs.tables.HandOver.{hands-over}
 use borrow.Author.Needs.{needs}
 use Rattle.checker.proofs.stepping.step_in_place.Statement.{statement}
 use Rattle.checker.proofs.stepping.step_in_place.Tie as tie
 
-returns : tie.Need-returns
-unfolding stepOf
-returns c = rw (← c .before .refusal .ensures) (refused _ _ (c .before .before .before .args .r) (c .if1 .taken))
+step-hand-over-requires : tie.Need-step-hand-over-requires
+step-hand-over-requires c κs =
+    let at-if2 = c .before .before .before in
+    let at-both = at-if2 .before in
+    let at-under = at-both .before in
+    let at-hands = at-under .before .before in
+    let t : (at-hands .hands-over .result && not (at-under .is-under .result)) ≡ true = sym (at-both .both .ensures) ∙ at-if2 .if2 .taken in (
+      hands-over _ (sym (at-hands .hands-over .ensures) ∙ and-elim-left (at-hands .hands-over .result) _ t),
+      sym (at-under .is-under .ensures) ∙ not-true _ (and-elim-right (at-hands .hands-over .result) _ t),
+    )
 
--- once no row applies
-accepted : (c : tie.Else1) → let a = c .before .before .before .args in Accepts (a .control .now) (a .r)
-accepted c = let a = c .before .before .before .args in accepts (a .control .now) (a .r) _ (c .before .refusal .ensures) (c .if1 .left)
-
-add-t15 : tie.Need-add-t15
-add-t15 c = omega (arith, accepted (c .before) .room)
-
-clock-kind-requires : tie.Need-clock-kind-requires
-clock-kind-requires c κs = accepted (c .before .before) .proper
-
-note-requires : tie.Need-note-requires
-note-requires c κs = let a = accepted (c .before .before .before .before) in (a .proper, a .room)
-
--- a take that is skipped is an act of its task, as a miss is
-act-by-clocks-requires : tie.Need-act-by-clocks-requires
-act-by-clocks-requires c κs =
-    let at-match = c .before .before .before .before in
-    let at-kind = at-match .before .before .before in
-    let at-if1 = at-kind .before .before .before in
-    let a = at-if1 .before .before .before .args in
-    let n = at-match .match .rest .1 in
-    rw (at-kind .clock-kind .ensures)
-    (moved-fits (a .control .now) (a .r .kind) (a .r .task) (a .r .on) (accepted at-if1 .proper .act-fits n), moved-act (a .control .now) (a .r .kind) (a .r .task) (a .r .on) n)
-
--- a mark fills in nothing as it arrived, and is kept nowhere
 returns-2 : tie.Need-returns-2
-unfolding stepOf
-returns-2 c =
-    let at-match = c .before .before in
-    let at-note = at-match .before in
-    let at-if1 = at-note .before .before .before .before .before in
-    let a = at-if1 .before .before .before .args in
-    let e = at-match .match .keys1 in
-    let h = accepted at-if1 .proper .mark-names e in
-    let some = ne-eqb (a .r .on) 0 (λ z. omega arith) in
-    let last = kept-nowhere (λ s l. set l s (countIn (a .control .now) + 1)) lossMark (a .r .on) (a .r .task) (a .last .now) refl in
-    rw (← at-if1 .before .refusal .ensures, at-if1 .if1 .left, at-note .note .ensures, c .mix .ensures, e, last, some)
-
-returns-3 : tie.Need-returns-3
-unfolding stepOf
-returns-3 c =
-    let at-note = c .before .before .before .before .before .before in
-    let at-kind = at-note .before .before in
-    let at-if1 = at-kind .before .before .before in
-    let a = at-if1 .before .before .before .args in
-    let k = at-kind .clock-kind .ensures in
-    let t = rw k at (c .act-by-clocks .ensures) in
-    let answer = t .0 ∙ moved-answer (a .control .now) (a .r .kind) (a .r .task) (a .r .on) (a .clocks .now) (a .fullclocks .now) (a .last .now) (countIn (a .control .now) + 1) in
-    let last = t .2 ∙ moved-last (a .control .now) (a .r .kind) (a .r .task) (a .r .on) (a .last .now) (countIn (a .control .now) + 1) in
-    rw (← at-if1 .before .refusal .ensures, at-if1 .if1 .left, t .1, answer, at-note .note .ensures, last, t .3, t .4)
+returns-2 c = c .step-hand-over .ensures (c .before .before .before .before .before .before .before .before .before .before .before .args .last .now)
 
 pub step-in-place-spec : {M : Type 1} → statement M
-step-in-place-spec = tie.close (tie.spec
-    (λ c κs. search needs) returns (λ c. search needs) add-t15 clock-kind-requires note-requires (λ c κs. search needs) act-by-clocks-requires returns-2 returns-3)
+step-in-place-spec = tie.close (tie.spec (λ c κs. search needs) (λ c κs. search needs) (λ c. search needs) (λ c κs. search needs) (λ c κs. search needs) (λ c κs. search needs) step-hand-over-requires returns-2 (λ c κs. search needs) (λ c. search needs))

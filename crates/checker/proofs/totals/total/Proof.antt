@@ -1,29 +1,36 @@
--- Each verdict raises its own total.
-use mathlib.Core.Path.{_∙_, ap}
+-- The total that the two tests name, and the Races' where it is one.
+use mathlib.Core.Path.{_≡_, refl, _∙_, ap}
+use native.Mathlib.Omega.{arith}
 use Rattle.theory.specs.tables.Counters.{raise}
-use Rattle.theory.specs.totals.Totals.{racesAt}
+use Rattle.theory.proofs.totals.Counted.{totalsFrom, counts-at, counted-by}
 use borrow.Author.Needs.{needs}
 use Rattle.checker.proofs.totals.total.Statement.{statement}
 use Rattle.checker.proofs.totals.total.Tie as tie
 
+place : (c : tie.After-picked2) → let a = c .before .before .args in c .picked2 .result ≡ totalsFrom (a .race) (a .doubt)
+place c = rw (c .before .picked .ensures) at (c .picked2 .ensures)
+
+add-raise : tie.Need-add-raise
+add-raise c =
+    let start = c .before .before .before .before in
+    let a = start .args in
+    let h = counts-at (a .race) (a .doubt) (place (c .before .before)) (start .pre) .1 in
+    omega (arith, h)
+
+raise-requires : tie.Need-raise-requires
+raise-requires c κs =
+    let start = c .before .before .before .before in
+    let a = start .args in
+    counts-at (a .race) (a .doubt) (place (c .before .before)) (start .pre) .1
+
 returns : tie.Need-returns
-returns c = rw (c .before .before .enum-told .given .1) (c .raise .ensures)
-
-returns-2 : tie.Need-returns-2
-returns-2 c = rw (c .before .before .before .before .enum-told2 .given .1) (c .raise3 .ensures ∙ ap (raise racesAt) (c .before .before .raise2 .ensures))
-
-returns-3 : tie.Need-returns-3
-returns-3 c = rw (c .before .before .enum-told3 .given .1) (c .raise4 .ensures)
-
-returns-4 : tie.Need-returns-4
-returns-4 c = rw (c .enum-told4 .given .1)
-
-returns-5 : tie.Need-returns-5
-returns-5 c = rw (c .enum-told5 .given .1)
+returns c =
+    let at-raise = c .before .before in
+    let at-picked = at-raise .before .before .before in
+    let start = at-picked .before .before in
+    let a = start .args in
+    let at = counts-at (a .race) (a .doubt) (place at-picked) (start .pre) .0 in
+    rw (c .one-more-if .ensures) (counted-by (a .race) (a .doubt) (a .v .0) (a .control .now) (at-raise .raise .ensures ∙ ap (λ i. raise i (a .control .now)) at))
 
 pub total-spec : {M : Type 1} → statement M
-total-spec =
-    tie.close (tie.spec
-    (λ c. search needs) (λ c. search needs) (λ c. search needs) (λ c κs. search needs) (λ c. search needs) (λ c. search needs)
-    (λ c κs. search needs) (λ c κs. search needs) (λ c. search needs) (λ c. search needs) (λ c κs. search needs) (λ c. search needs)
-    (λ c. search needs) returns returns-2 returns-3 returns-4 returns-5)
+total-spec = tie.close (tie.spec (λ c κs. search needs) (λ c κs. search needs) (λ c. search needs) add-raise raise-requires (λ c. search needs) (λ c κs. search needs) (λ c. search needs) returns)
