@@ -1,6 +1,8 @@
 // An open file in pieces, standard input or another: each read brings a block, which is handed out piece by piece. No contract can say what came; that a piece lies within its
 // block is proved.
 use libc::STDERR_FILENO;
+ghost use mathlib.Core.Path.{_≡_};
+ghost use mathlib.Core.Bool.{true};
 ghost use Prim.Native.Nat.{_<_, _≤_};
 ghost use lib.ListN.{length};
 
@@ -18,7 +20,9 @@ pub struct Span {
 }
 
 // Before the first piece.
-pub fn no_piece() -> Span {
+pub fn no_piece() -> Span
+    ensures { λ r. ⌜ r ≡ record { from = 0; end = 0; len = 0; more = true } ⌝ }
+{
     Span {
         from: 0,
         end: 0,

@@ -4,6 +4,7 @@ use theory::TASKS;
 ghost use mathlib.Core.Path.{_≡_};
 ghost use Prim.Native.Nat.{_<_};
 ghost use lib.ListN.{length};
+ghost use Rattle.theory.specs.order.Limits.{tasks};
 ghost use Rattle.text.specs.Bytes.{little};
 ghost use Rattle.text.specs.Places.{taskEnding};
 ghost use Rattle.text.specs.Printing.{decimal};
@@ -16,7 +17,7 @@ pub(crate) struct Ending {
 }
 
 fn ended(task: u32) -> Ending
-    requires { ⌜ task < 16 ⌝ }
+    requires { ⌜ task < tasks ⌝ }
     ensures { λ r. ⌜ r ≡ record { task = task; bytes = little (taskEnding task); len = length (decimal task) } ⌝ }
 {
     if task < 10 {
@@ -47,7 +48,7 @@ fn task_slot(bytes: u64) -> u64 {
 
 // The one task that four bytes can end. That it is so is not relied on.
 pub(crate) fn guess_task(bytes: u64) -> Ending
-    ensures { λ r. ⌜ (r .task < 16) × (r .bytes ≡ little (taskEnding (r .task))) × (r .len ≡ length (decimal (r .task))) ⌝ }
+    ensures { λ r. ⌜ (r .task < tasks) × (r .bytes ≡ little (taskEnding (r .task))) × (r .len ≡ length (decimal (r .task))) ⌝ }
 {
     let at = task_slot(bytes);
     let mut t: u32 = 0;
