@@ -28,5 +28,8 @@ pub const OWNED: u8 = 12;
 // How many of the kinds are accesses: each asks the history.
 pub const ASKERS: usize = 3;
 
+// Which these are, by their numbers among them, as `askers` of specs/history/History.antt has it.
+pub const ASKING: [u8; ASKERS] = [READ, WRITE, BUMP];
+
 // How many kinds there are.
 pub const KINDS: u8 = OWNED + 1;

@@ -17,7 +17,7 @@ pub use acquired::Acquired;
 pub use answer::Answer;
 pub use excuse::Excuse;
 pub use kinds::ASKERS;
-pub use kinds::BUMP;
+pub use kinds::ASKING;
 pub use kinds::FRESH;
 pub use kinds::GIVE;
 pub use kinds::JOIN;
