@@ -1,16 +1,14 @@
--- Kinds by their numbers, as the code decides by them: what holds of every kind but some is tried out. Assumes nothing.
+-- Kinds by their numbers, as the code decides by them: what holds of every kind is tried out. Assumes nothing.
 use mathlib.Core.Path.{_≡_, refl, sym, ap, _∙_}
 use mathlib.Core.Bool.{Bool, true, false, not, _||_, true≢false}
-use mathlib.Core.Logic.{_≢_}
-use mathlib.Core.List.{List, [], _∷_}
+use mathlib.Core.List.{List, map}
 use Prim.Native.Nat.{ℕ, _≤_, _<_}
 use native.Mathlib.Omega.{arith}
 use borrow.Author.Tests.{eqb-true, ne-eqb, not-true, not-false}
 use lib.Dec.{eqb}
-use lib.ListN.{length, List·getD-eq-default}
-use Rattle.theory.specs.order.Limits.{variables}
+use lib.ListN.{length, getD, List·getD-eq-default}
 use Rattle.theory.specs.tables.Turns.{turns}
-use Rattle.theory.specs.order.Recording.{Op, take, give, look, set, start, join, miss, owned, kind, Kind, of-op, of-mark, kinds, numberedKind, kindAccesses, accesses, kindSeries}
+use Rattle.theory.specs.order.Recording.{Op, kind, series, Kind, of-op, of-mark, kinds, numberedKind, kindOp, kindAccesses, accesses, kindSeries}
 use Rattle.theory.specs.acceptance.Table.{anyBelow}
 use Rattle.theory.specs.history.History.{kindClashes}
 use Rattle.theory.proofs.basics.Reflects.{Reflects, right, wrong, at-most}
@@ -65,31 +63,13 @@ same-true false b e = sym (not-true b e)
 
 -- Series
 
--- the ops over semaphores, flags, tasks and profiles
-abbrev pub objectOps : List Op
-objectOps = take ∷ give ∷ miss ∷ look ∷ set ∷ start ∷ join ∷ owned ∷ []
+-- the sizes of the kinds' series as one list, as the code has them
+abbrev pub seriesList : List ℕ
+seriesList = map (λ (x : Kind). series (kindOp x)) kinds
 
--- k is the kind of none of these ops
-abbrev pub NoneOf : List Op → ℕ → Type 0
-NoneOf [] k = Unit
-NoneOf (o ∷ os) k = (k ≢ kind o) × NoneOf os k
-
-abbrev kindAmong : List Op → ℕ → Bool
-kindAmong [] k = false
-kindAmong (o ∷ os) k = eqb k (kind o) || kindAmong os k
-
-none-is : (os : List Op) (k : ℕ) → NoneOf os k → kindAmong os k ≡ false
-none-is [] k h = refl
-none-is (o ∷ os) k h = rw (ne-eqb k (kind o) (h .0)) (none-is os k (h .1))
-
-series-tried : anyBelow (length kinds) (λ k. not (kindAmong objectOps k || eqb (kindSeries k) variables)) ≡ false
+series-tried : anyBelow (length kinds) (λ k. not (eqb (getD seriesList k 0) (kindSeries k))) ≡ false
 unfolding turns
 series-tried = refl
 
--- any other kind is over the variables
-pub series-else : (k : ℕ) → NoneOf objectOps k → kindSeries k ≡ variables
-series-else k n =
-    eqb-true (kindSeries k) variables (rw (none-is objectOps k n) at (each-number (λ k. kindAmong objectOps k || eqb (kindSeries k) variables) series-tried beyond k))
-  where
-    beyond : (k : ℕ) → length kinds ≤ k → (kindAmong objectOps k || eqb (kindSeries k) variables) ≡ true
-    beyond k h = rw (kind-above k h) (or-true (kindAmong objectOps k))
+pub series-at : (k : ℕ) → k < length kinds → getD seriesList k 0 ≡ kindSeries k
+series-at k h = eqb-true (getD seriesList k 0) (kindSeries k) (not-false _ (none-below (length kinds) (λ k. not (eqb (getD seriesList k 0) (kindSeries k))) series-tried k h))
