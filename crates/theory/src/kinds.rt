@@ -42,6 +42,17 @@ pub const KINDS: u8 = OWNED + 1;
 
 // The size of the series that the number of a kind's record is of, as `series` there has it, kind by kind. A mark has none, and is not looked up.
 pub const SERIES: [u32; KINDS as usize] = [
-    VARIABLES, VARIABLES, SEMAPHORES, SEMAPHORES, FLAGS, FLAGS, TASKS, TASKS, VARIABLES, VARIABLES,
-    SEMAPHORES, VARIABLES, PROFILES,
+    VARIABLES,
+    VARIABLES,
+    SEMAPHORES,
+    SEMAPHORES,
+    FLAGS,
+    FLAGS,
+    TASKS,
+    TASKS,
+    VARIABLES,
+    VARIABLES,
+    SEMAPHORES,
+    VARIABLES,
+    PROFILES,
 ];
