@@ -17,7 +17,7 @@ use Rattle.theory.specs.acceptance.Control.{underIn, controlStanding, co
 use Rattle.theory.specs.feeding.Step.{recordOf, clockKind}
 use Rattle.theory.proofs.order.Ops.{no-mark}
 use Rattle.theory.proofs.acceptance.Rows.{OfAct, actRows, act-rows}
-use Rattle.theory.proofs.order.Numbered.{each-access, no-access-kind}
+use Rattle.theory.proofs.order.Numbered.{each-access-kind, no-access-kind}
 use Rattle.theory.proofs.tables.Ranges.{access-acts}
 use Rattle.theory.proofs.tables.HandOver.{HandsOver, a-take, a-give, a-look, a-set}
 
@@ -58,7 +58,7 @@ unfolding turns
 known-tried = refl
 
 access-known : (k : ℕ) → accesses k ≡ true → k < length kinds
-access-known k e = ltb-true k (length kinds) (each-access (λ k. ltb k (length kinds)) known-tried k e)
+access-known k e = ltb-true k (length kinds) (each-access-kind (λ k. ltb k (length kinds)) known-tried k e)
 
 pub record Plainly (control : List ℕ) (k task on : ℕ) : Type 0 where
   pub refusal : controlRefusal control (recordOf k task on) ≡ firstRow (commonRows (controlStanding control) task (leb (kindSeries k) on))
@@ -71,8 +71,8 @@ module _ (control : List ℕ) (task on : ℕ) where
       controlRefusal control (recordOf k task on) ≡ firstRow (commonRows (controlStanding control) task (leb (kindSeries k) on))
   common k h e = act-rows (controlStanding control) (recordOf k task on) h ∙ rw e
 
-  of-act : (o : Op) → kind o < length kinds → OfAct (recordOf (kind o) task on)
-  of-act o h = record { known = h; no-mark = eqb-false (kind o) lossMark (no-mark o) }
+  op-acts : (o : Op) → kind o < length kinds → OfAct (recordOf (kind o) task on)
+  op-acts o h = record { known = h; no-mark = eqb-false (kind o) lossMark (no-mark o) }
 
   pub plain-access : (k : ℕ) → accesses k ≡ true → Plainly control k task on
   plain-access k e =
@@ -88,7 +88,7 @@ module _ (control : List ℕ) (task on : ℕ) where
       }
 
   pub plain-hand-over : {k : ℕ} → HandsOver k → underIn control ≡ false → Plainly control k task on
-  plain-hand-over a-take u = record { refusal = common (kind take) (of-act take (lit< tt)) (rw u); noted = rw u; unskipped = rw u }
-  plain-hand-over a-give u = record { refusal = common (kind give) (of-act give (lit< tt)) (rw u); noted = rw u; unskipped = refl }
-  plain-hand-over a-look u = record { refusal = common (kind look) (of-act look (lit< tt)) (rw u); noted = refl; unskipped = refl }
-  plain-hand-over a-set u = record { refusal = common (kind set) (of-act set (lit< tt)) (rw u); noted = refl; unskipped = refl }
+  plain-hand-over a-take u = record { refusal = common (kind take) (op-acts take (lit< tt)) (rw u); noted = rw u; unskipped = rw u }
+  plain-hand-over a-give u = record { refusal = common (kind give) (op-acts give (lit< tt)) (rw u); noted = rw u; unskipped = refl }
+  plain-hand-over a-look u = record { refusal = common (kind look) (op-acts look (lit< tt)) (rw u); noted = refl; unskipped = refl }
+  plain-hand-over a-set u = record { refusal = common (kind set) (op-acts set (lit< tt)) (rw u); noted = refl; unskipped = refl }

@@ -17,7 +17,7 @@ use Rattle.theory.specs.history.History.{askers, asker, askAt, kindClash
 use Rattle.theory.proofs.basics.Reflects.{Reflects, right, wrong, equal}
 use Rattle.theory.proofs.acceptance.Rows.{none-below}
 use Rattle.theory.proofs.order.Ops.{numberedKind-kind}
-use Rattle.theory.proofs.order.Numbered.{kind-above, each-number, each-access, same, same-true, no-clash}
+use Rattle.theory.proofs.order.Numbered.{kind-above, each-number, each-access-kind, same, same-true, no-clash}
 use Rattle.theory.proofs.tables.Ranges.{access-fits}
 use Rattle.theory.proofs.history.Stores.{stored-again}
 
@@ -63,7 +63,7 @@ unfolding turns
 series-tried = refl
 
 pub access-series : (k : ℕ) → accesses k ≡ true → kindSeries k ≡ variables
-access-series k e = eqb-true (kindSeries k) variables (each-access (λ k. eqb (kindSeries k) variables) series-tried k e)
+access-series k e = eqb-true (kindSeries k) variables (each-access-kind (λ k. eqb (kindSeries k) variables) series-tried k e)
 
 -- its number among those that ask is that of its kind there
 asker-tried : anyBelow (length kinds) (λ k. not (not (accesses k) || eqb (kind (asker (askAt k))) k)) ≡ false
@@ -72,74 +72,78 @@ asker-tried = refl
 
 pub asker-of : (k : ℕ) → accesses k ≡ true → numberedKind k ≡ of-op (asker (askAt k))
 asker-of k e =
-    ap numberedKind (sym (eqb-true (kind (asker (askAt k))) k (each-access (λ k. eqb (kind (asker (askAt k))) k) asker-tried k e))) ∙ numberedKind-kind (asker (askAt k))
+    ap numberedKind (sym (eqb-true (kind (asker (askAt k))) k (each-access-kind (λ k. eqb (kind (asker (askAt k))) k) asker-tried k e))) ∙ numberedKind-kind (asker (askAt k))
 
 -- how the code looks for it: the place of its kind number among theirs, and their count where there is none
-abbrev pub asking : List ℕ
-asking = map kind askers
+abbrev pub askerKinds : List ℕ
+askerKinds = map kind askers
 
 abbrev pub sought : ℕ → ℕ → ℕ → ℕ
-sought k a r = cond (eqb k (getD asking a 0)) a r
+sought k a r = cond (eqb k (getD askerKinds a 0)) a r
 
-abbrev found : ℕ → Bool
-found k = let r = turns (length askers) (sought k) (length askers) in eqb r (cond (accesses k) (askAt k) (length askers)) && same (ltb r (length askers)) (accesses k)
+-- r is the number that is found of kind k
+abbrev pub AskNumber : ℕ → ℕ → Type 0
+AskNumber k r = (r ≡ cond (accesses k) (askAt k) (length askers)) × (ltb r (length askers) ≡ accesses k)
 
-found-tried : anyBelow (length kinds) (λ k. not (found k)) ≡ false
+abbrev soughtRight : ℕ → Bool
+soughtRight k = let r = turns (length askers) (sought k) (length askers) in eqb r (cond (accesses k) (askAt k) (length askers)) && same (ltb r (length askers)) (accesses k)
+
+sought-tried : anyBelow (length kinds) (λ k. not (soughtRight k)) ≡ false
 unfolding turns
-found-tried = refl
+sought-tried = refl
 
-asking-tried : anyBelow (length askers) (λ a. leb (length kinds) (getD asking a 0)) ≡ false
+asker-kinds-tried : anyBelow (length askers) (λ a. leb (length kinds) (getD askerKinds a 0)) ≡ false
 unfolding turns
-asking-tried = refl
+asker-kinds-tried = refl
 
 -- beyond the kinds there is nothing to find
 nothing-beyond : (k : ℕ) → length kinds ≤ k → (n : ℕ) → n ≤ length askers → turns n (sought k) (length askers) ≡ length askers
 unfolding turns
 nothing-beyond k h zero l = refl
 nothing-beyond k h (suc n) l =
-    let b = leb-false (length kinds) (getD asking n 0) (none-below (length askers) (λ a. leb (length kinds) (getD asking a 0)) asking-tried n (omega arith)) in
-    rw (ne-eqb k (getD asking n 0) (λ q. absurd (omega (arith, q, b, h)))) (nothing-beyond k h n (omega arith))
+    let b = leb-false (length kinds) (getD askerKinds n 0) (none-below (length askers) (λ a. leb (length kinds) (getD askerKinds a 0)) asker-kinds-tried n (omega arith)) in
+    rw (ne-eqb k (getD askerKinds n 0) (λ q. absurd (omega (arith, q, b, h)))) (nothing-beyond k h n (omega arith))
 
-pub found-right : (k : ℕ) → let r = turns (length askers) (sought k) (length askers) in (r ≡ cond (accesses k) (askAt k) (length askers)) × (ltb r (length askers) ≡ accesses k)
-found-right k =
+pub sought-right : (k : ℕ) → AskNumber k (turns (length askers) (sought k) (length askers))
+sought-right k =
     let r = turns (length askers) (sought k) (length askers) in
-    let f = each-number found found-tried beyond k in
+    let f = each-number soughtRight sought-tried beyond k in
     let at = eqb r (cond (accesses k) (askAt k) (length askers)) in
     (eqb-true r (cond (accesses k) (askAt k) (length askers)) (and-elim-left at _ f), same-true (ltb r (length askers)) (accesses k) (and-elim-right at _ f))
   where
-    beyond : (k : ℕ) → length kinds ≤ k → found k ≡ true
+    beyond : (k : ℕ) → length kinds ≤ k → soughtRight k ≡ true
     beyond k h = rw (nothing-beyond k h (length askers) (omega arith), ap kindAccesses (kind-above k h)) refl
 
 -- of a kind of access it is found
-pub asked : (k : ℕ) {r : ℕ} → accesses k ≡ true → (r ≡ cond (accesses k) (askAt k) (length askers)) × (ltb r (length askers) ≡ accesses k) → (r ≡ askAt k) × (r < length askers)
-asked k {r} e f = (rw e at (f .0), ltb-true r (length askers) (f .1 ∙ e))
+pub access-asks : (k : ℕ) {r : ℕ} → accesses k ≡ true → AskNumber k r → (r ≡ askAt k) × (r < length askers)
+access-asks k {r} e f = (rw e at (f .0), ltb-true r (length askers) (f .1 ∙ e))
 
 -- a kind clashes as its number among them does, and what is no access with nothing
-pub clash-of : (k a : ℕ) {r : ℕ} {b : Bool} → a < length askers → (r ≡ cond (accesses k) (askAt k) (length askers)) × (ltb r (length askers) ≡ accesses k) →
+pub clash-of : (k a : ℕ) {r : ℕ} {b : Bool} → a < length askers → AskNumber k r →
     (r < length askers → a < length askers → b ≡ clashes (asker r) (asker a)) → (ltb r (length askers) && b) ≡ kindClashes (numberedKind k) (asker a)
 clash-of k a {r} {b} h f g = decided (accesses k) refl
   where
     decided : (t : Bool) → accesses k ≡ t → (ltb r (length askers) && b) ≡ kindClashes (numberedKind k) (asker a)
     decided true e =
-        let q = asked k e f in
+        let q = access-asks k e f in
         rw (f .1 ∙ e) (g (q .1) h ∙ ap (λ (i : ℕ). clashes (asker i) (asker a)) (q .0) ∙ ap (λ (y : Kind). kindClashes y (asker a)) (sym (asker-of k e)))
     decided false e = rw (f .1 ∙ e) (no-clash k (asker a) e)
 
 -- where an access is kept when the kind with number a is at hand: under a, or, where the two do not clash, under a write once more, with which every
 -- access clashes. So there is a store for each a, whatever the access is
-abbrev pub writes : ℕ
-writes = askAt (kind write)
+abbrev pub writeAsks : ℕ
+writeAsks = askAt (kind write)
 
 abbrev pub keptUnder : ℕ → ℕ → ℕ
-keptUnder asks a = cond (clashes (asker asks) (asker a)) a writes
+keptUnder asks a = cond (clashes (asker asks) (asker a)) a writeAsks
 
-writes-tried : anyBelow (length kinds) (λ k. not (not (accesses k) || clashes (asker (askAt k)) (asker writes))) ≡ false
+write-asks-tried : anyBelow (length kinds) (λ k. not (not (accesses k) || clashes (asker (askAt k)) (asker writeAsks))) ≡ false
 unfolding turns rule
-writes-tried = refl
+write-asks-tried = refl
 
 pub kept-again : (k v u number : ℕ) (last : List ℕ) → accesses k ≡ true →
     turns (length askers) (λ a l. set l (slot (keptUnder (askAt k) a) v u) number) last ≡ withAccess k u v number last
 unfolding underEach
 kept-again k v u number last e =
-    stored-again (λ a. clashes (asker (askAt k)) (asker a)) (λ a. slot a v u) writes number (each-access (λ k. clashes (asker (askAt k)) (asker writes)) writes-tried k e) (length askers) last (lit< tt)
+    stored-again (λ a. clashes (asker (askAt k)) (asker a)) (λ a. slot a v u) writeAsks number (each-access-kind (λ k. clashes (asker (askAt k)) (asker writeAsks)) write-asks-tried k e) (length askers) last (lit< tt)
     ∙ ap (λ (y : Kind). turns (length askers) (λ a l. cond (kindClashes y (asker a)) (set l (slot a v u) number) l) last) (sym (asker-of k e))

@@ -33,8 +33,8 @@ or-true true = refl
 or-true false = refl
 
 -- a test that holds of the kinds that are accesses: tried out over the list of kinds
-pub each-access : (p : ℕ → Bool) → anyBelow (length kinds) (λ k. not (not (accesses k) || p k)) ≡ false → (k : ℕ) → accesses k ≡ true → p k ≡ true
-each-access p tried k e = rw e at (each-number (λ k. not (accesses k) || p k) tried beyond k)
+pub each-access-kind : (p : ℕ → Bool) → anyBelow (length kinds) (λ k. not (not (accesses k) || p k)) ≡ false → (k : ℕ) → accesses k ≡ true → p k ≡ true
+each-access-kind p tried k e = rw e at (each-number (λ k. not (accesses k) || p k) tried beyond k)
   where
     beyond : (k : ℕ) → length kinds ≤ k → (not (accesses k) || p k) ≡ true
     beyond k h = rw (ap kindAccesses (kind-above k h)) refl

@@ -40,12 +40,12 @@ pub data Series : Type 0 where
   task semaphore flag variable profile : Series
 
 -- how many numbers it has: those below its size
-abbrev pub size : Series → ℕ
-size task = tasks
-size semaphore = semaphores
-size flag = flags
-size variable = variables
-size profile = profiles
+abbrev pub sizeOf : Series → ℕ
+sizeOf task = tasks
+sizeOf semaphore = semaphores
+sizeOf flag = flags
+sizeOf variable = variables
+sizeOf profile = profiles
 
 -- What differs from op to op, but for the steps that it makes and the conflicts that it has (Order.antt)
 pub record Features : Type 0 where
@@ -83,7 +83,7 @@ abbrev pub seriesOf : Op → Series
 seriesOf o = (about o) .series
 
 abbrev pub series : Op → ℕ
-series o = size (seriesOf o)
+series o = sizeOf (seriesOf o)
 
 abbrev pub isAccess : Op → Bool
 isAccess o = accessing ((about o) .access)

@@ -7,7 +7,7 @@ use lib.Dec.{ltb}
 use lib.ListN.{length}
 use Rattle.theory.specs.history.History.{askers}
 use Rattle.theory.proofs.basics.Turns.{Turned, no-turn, one-turn, all-turns}
-use Rattle.theory.proofs.history.Accesses.{sought, found-right}
+use Rattle.theory.proofs.history.Accesses.{sought, sought-right}
 use borrow.Author.Needs.{needs}
 use Rattle.checker.proofs.history.ask_at.Statement.{statement}
 use Rattle.checker.proofs.history.ask_at.Tie as tie
@@ -25,7 +25,7 @@ loop-again : tie.Need-loop-again Inv-loop μ-loop
 loop-again c = (search needs, one-turn (c .before .before .loop .inv .1) (c .picked .ensures))
 
 returns : tie.Need-returns Inv-loop μ-loop
-returns c = rw (all-turns (length askers) (c .before .loop .inv .1) (omega arith) (omega arith)) (found-right (c .before .before .args .kind))
+returns c = rw (all-turns (length askers) (c .before .loop .inv .1) (omega arith) (omega arith)) (sought-right (c .before .before .args .kind))
 
 pub ask-at-spec : {M : Type 1} → statement M
 ask-at-spec = tie.close (tie.spec Inv-loop μ-loop loop-holds (λ c. search needs) (λ c κs. search needs) (λ c. search needs) (λ c. search needs) loop-again returns)

@@ -11,14 +11,14 @@ use Rattle.theory.specs.acceptance.Table.{anyBelow}
 use Rattle.theory.specs.history.History.{askers, asker}
 use Rattle.theory.proofs.acceptance.Rows.{none-below}
 use Rattle.theory.proofs.order.Numbered.{same, same-true}
-use Rattle.theory.proofs.history.Accesses.{writes}
+use Rattle.theory.proofs.history.Accesses.{writeAsks}
 use borrow.Author.Needs.{needs}
 use Rattle.checker.proofs.history.conflict.Statement.{statement}
 use Rattle.checker.proofs.history.conflict.Tie as tie
 
 -- what the code computes
 abbrev tested : ℕ → ℕ → Bool
-tested one other = not (eqb one other) || eqb other writes
+tested one other = not (eqb one other) || eqb other writeAsks
 
 -- is not the rule
 abbrev wrong : ℕ → ℕ → Bool
