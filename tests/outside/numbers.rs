@@ -31,9 +31,7 @@ fn compare(tally: &mut Tally, name: &str, records: &[Numbers]) {
     let reading = read(records);
     for (&(kind, task, on), fate) in records.iter().zip(&reading.fates) {
         match fate {
-            Fate::Refused(row) if kind >= NO_KIND || task.max(on) > SAYABLE => {
-                tally.see(&format!("unsayable, refused {row}"), 1)
-            }
+            Fate::Refused(row) if kind >= NO_KIND || task.max(on) > SAYABLE => tally.see(&format!("unsayable, refused {row}"), 1),
             _ => {}
         }
     }
