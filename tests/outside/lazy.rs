@@ -4,7 +4,7 @@
 use crate::examples::text;
 use crate::feeding::{self, Lent, Numbers, SETS};
 use crate::generate::{recording, shape, Profile, Random, Shape};
-use crate::oracle::{self, Access, Act, Event, Fate, Op, Paths, Record, LIMIT, LOST, OPS};
+use crate::oracle::{self, Access, Act, Event, Fate, Op, Paths, Record, LIMIT, LOST, NO_KIND, OPS};
 use crate::tally::Tally;
 use crate::{on_threads, short_texts, BETWEEN, THREADS};
 
@@ -493,7 +493,7 @@ const SHORT: &[(&str, &str, Answer)] = &[
 
 /// Records that are refused wherever they stand while task 0 is live and task 9 unseen, and with what.
 const REFUSED: &[(Lend, u64)] = &[
-    ([13, 0, 5], 1),
+    ([NO_KIND as u32, 0, 5], 1),
     ([255, 0, 5], 1),
     ([256, 0, 5], 1),
     ([257, 0, 5], 1),

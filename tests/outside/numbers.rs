@@ -2,7 +2,7 @@
 
 use crate::feeding::{self, Lent, Numbers, ALL};
 use crate::generate::{recording, shape, Random};
-use crate::oracle::{self, Act, Fate, Op, Reading, Record, LIMIT};
+use crate::oracle::{self, Act, Fate, Op, Reading, Record, LIMIT, NO_KIND};
 use crate::tally::Tally;
 
 /// Task 1 is live, task 2 has ended, and task 0 has written variable 5.
@@ -31,9 +31,7 @@ fn compare(tally: &mut Tally, name: &str, records: &[Numbers]) {
     let reading = read(records);
     for (&(kind, task, on), fate) in records.iter().zip(&reading.fates) {
         match fate {
-            Fate::Refused(row) if kind > oracle::last_kind() || task.max(on) > SAYABLE => {
-                tally.see(&format!("unsayable, refused {row}"), 1)
-            }
+            Fate::Refused(row) if kind >= NO_KIND || task.max(on) > SAYABLE => tally.see(&format!("unsayable, refused {row}"), 1),
             _ => {}
         }
     }
@@ -68,7 +66,7 @@ fn of_profile((kind, task, on): Numbers, row: u32) -> bool {
 }
 
 fn any(random: &mut Random) -> Numbers {
-    let kinds = if random.percent(70) { oracle::last_kind() as usize + 1 } else { 256 };
+    let kinds = if random.percent(70) { NO_KIND as usize } else { 256 };
     let kind = random.below(kinds) as u8;
     let number = random.next() as u32;
     let task = if random.percent(90) { random.pick(&TASKS) } else { number };

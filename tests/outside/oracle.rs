@@ -46,10 +46,17 @@ pub const OPS: &[(&str, u8, Op, u32)] = &[
 /// The kind number of a loss mark.
 pub const LOST: u8 = 8;
 
-/// The highest kind number.
-pub fn last_kind() -> u8 {
-    OPS.iter().map(|op| op.1).fold(LOST, u8::max)
-}
+/// The first number of no kind.
+pub const NO_KIND: u8 = {
+    let (mut highest, mut at) = (LOST, 0);
+    while at < OPS.len() {
+        if highest < OPS[at].1 {
+            highest = OPS[at].1;
+        }
+        at += 1;
+    }
+    highest + 1
+};
 
 /// What a task does: the op, the acting task and the number.
 #[derive(Clone, Copy, Debug)]

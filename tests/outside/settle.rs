@@ -5,7 +5,7 @@ use crate::cuts::{pieces, Cuts, WAYS};
 use crate::examples::text;
 use crate::feeding::{self, Lent, Numbers, CLOCKS};
 use crate::generate::{filling, recording, shape, Profile, Random, Shape};
-use crate::oracle::{self, Access, Act, Fate, Op, Record, Verdict, LIMIT, LOST, OPS, RECORD_DIGITS, TASKS};
+use crate::oracle::{self, Access, Act, Fate, Op, Record, Verdict, LIMIT, LOST, NO_KIND, OPS, RECORD_DIGITS, TASKS};
 use crate::program::{self, PATIENCE};
 use crate::tally::Tally;
 use crate::{on_threads, pauses, short_texts, BETWEEN, THREADS};
@@ -564,7 +564,7 @@ fn run_short(tally: &mut Tally) {
 
 /// Records that are refused wherever they stand while task 0 is live and task 9 unseen, and with what.
 const REFUSED: &[(Lend, u32)] = &[
-    ([13, 0, 5], 1),
+    ([NO_KIND as u32, 0, 5], 1),
     ([255, 0, 5], 1),
     ([256, 0, 5], 1),
     ([257, 0, 5], 1),

@@ -4,7 +4,7 @@
 use crate::bools::both;
 use crate::bools::either;
 use crate::bools::picked;
-use crate::history::asks_of;
+use crate::history::ask_at;
 use crate::history::slot;
 use crate::masks::Words;
 use crate::masks::added_weight;
@@ -229,7 +229,7 @@ pub(crate) fn clock_words(
         × (r .arrived ≡ twice (clockMask (now (clocks .entry)) (now (last .entry)) kind (task .0) (v .0))) ⌝ }
 {
     let row = task_row(task) * COLUMNS;
-    let from = slot(asks_of(kind), v, Task(0));
+    let from = slot(ask_at(kind), v, Task(0));
     Words {
         full: mask(fullclocks, last, row, from),
         arrived: mask(clocks, last, row, from),
@@ -262,7 +262,7 @@ pub(crate) fn clock_mask(cells: &Clocks, last: &History, kind: u8, task: Task, v
     ensures { λ r. ⌜ r ≡ clockMask (now (cells .entry)) (now (last .entry)) kind (task .0) (v .0) ⌝ }
 {
     let row = task_row(task) * COLUMNS;
-    let from = slot(asks_of(kind), v, Task(0));
+    let from = slot(ask_at(kind), v, Task(0));
     lower_half(mask(cells, last, row, from))
 }
 

@@ -4,8 +4,8 @@ use crate::acting::access_by_clocks;
 use crate::clocks;
 use crate::control::count;
 use crate::refusals::common_refusal;
+use crate::refusals::no_object;
 use crate::refusals::no_variable;
-use crate::refusals::outside;
 use theory::Answer;
 use theory::COUNT;
 use theory::Clocks;
@@ -65,7 +65,7 @@ pub(crate) fn step_hand_over(
     ensures { λ a. let t = seen control in let c = seen clocks in let f = seen fullclocks in
         ⌜ ((last : List ℕ) → record { state = stateOf (t .exit) last (c .exit) (f .exit); answer = a } ≡ stepOf (stateOf (t .entry) last (c .entry) (f .entry)) r) ⌝ }
 {
-    let refused = common_refusal(control, r.task, outside(r.kind, r.on));
+    let refused = common_refusal(control, r.task, no_object(r.kind, r.on));
     if refused != 0 {
         return Answer::Refused(refused);
     }

@@ -2,17 +2,16 @@
 // with one of that kind, by its record number.
 use crate::bools::both;
 use crate::bools::either;
+use crate::bools::picked;
 use theory::ASKERS;
-use theory::BUMP;
+use theory::ASKING;
 use theory::COLUMNS;
 use theory::FRESH;
 use theory::History;
-use theory::READ;
 use theory::RecordNumber;
 use theory::Task;
 use theory::VARIABLES;
 use theory::Variable;
-use theory::WRITE;
 ghost use mathlib.Core.Path.{_≡_};
 ghost use mathlib.Core.Bool.{true, cond};
 ghost use Prim.Native.Nat.{_<_};
@@ -20,32 +19,23 @@ ghost use lib.Dec.{ltb, eqb};
 ghost use lib.ListN.{set, length};
 ghost use Rattle.theory.specs.order.Limits.{tasks, variables};
 ghost use Rattle.theory.specs.order.Recording.{Op, kind as number, accesses, numberedKind};
+ghost use Rattle.theory.specs.order.Path.{clashes};
 ghost use Rattle.theory.specs.acceptance.Table.{Proper};
 ghost use Rattle.theory.specs.history.History.{askers, asker, askAt, kindClashes, slot, slots, latestNumber, withAccess, emptiedUnder, emptied, lastAfter};
 ghost use Rattle.theory.proofs.history.Accesses.{OfAccess, keptUnder};
 
-// The number of a kind of access among those that ask, and ASKERS for any other kind.
+// The number of a kind of access among those that ask, and ASKERS for any other kind. Picked and not returned, so that nothing branches on which it is.
 pub(crate) fn ask_at(kind: u8) -> usize
     ensures { λ r. ⌜ (r ≡ cond (accesses kind) (askAt kind) (length askers)) × (ltb r (length askers) ≡ accesses kind) ⌝ }
 {
-    match kind {
-        READ => 0,
-        WRITE => 1,
-        BUMP => 2,
-        _ => ASKERS,
+    let asking = ASKING;
+    let mut asks = ASKERS;
+    let mut a = 0;
+    while a < ASKERS {
+        asks = picked(kind == asking[a], a, asks);
+        a += 1;
     }
-}
-
-// The same for a kind that is known to be one of access, by its own number and without a branch on which it is.
-pub(crate) fn asks_of(kind: u8) -> usize
-    requires { ⌜ accesses kind ≡ true ⌝ }
-    ensures { λ r. ⌜ (r ≡ askAt kind) × (r < length askers) ⌝ }
-{
-    if kind < BUMP {
-        kind as usize
-    } else {
-        ASKERS - 1
-    }
+    asks
 }
 
 pub(crate) fn is_access(kind: u8) -> bool
@@ -54,13 +44,23 @@ pub(crate) fn is_access(kind: u8) -> bool
     ask_at(kind) < ASKERS
 }
 
-// Whether a record of this kind clashes with the kind of access that has number a: two accesses do, unless they are of one kind and no writes.
+// The number of a write among the kinds of access.
+const WRITES: usize = 1;
+
+// The rule of conflict, of two kinds of access by their numbers: they clash, unless they are one kind and no writes.
+fn conflict(one: usize, other: usize) -> bool
+    ensures { λ r. ⌜ (one < length askers → other < length askers → r ≡ clashes (asker one) (asker other)) ⌝ }
+{
+    either(one != other, other == WRITES)
+}
+
+// Whether a record of this kind clashes with the kind of access that has number a: only an access does.
 pub(crate) fn clashes(kind: u8, a: usize) -> bool
     requires { ⌜ a < length askers ⌝ }
     ensures { λ r. ⌜ r ≡ kindClashes (numberedKind kind) (asker a) ⌝ }
 {
     let own = ask_at(kind);
-    both(own < ASKERS, either(own != a, kind == WRITE))
+    both(own < ASKERS, conflict(own, a))
 }
 
 // Where it is kept what the kind of access with number a asks of task u, for variable v.
@@ -76,23 +76,16 @@ pub(crate) fn latest_number(last: &History, kind: u8, v: Variable, u: Task) -> R
     requires { ⌜ OfAccess kind (u .0) (v .0) ⌝ }
     ensures { λ r. ⌜ r .0 ≡ latestNumber (now (last .entry)) kind (v .0) (u .0) ⌝ }
 {
-    RecordNumber(last[slot(asks_of(kind), v, u)])
+    RecordNumber(last[slot(ask_at(kind), v, u)])
 }
 
-// The number of a write among the kinds of access.
-const WRITES: usize = 1;
-
-// Where an access of the kind with number `asks` is kept when that with number a is at hand: under a, or, where it does not clash with its own kind, under
-// a write once more, with which every access clashes. So there is no branch on what it is.
+// Where an access of the kind with number `asks` is kept when that with number a is at hand: under a, or, where the two do not clash, under a write
+// once more, with which every access clashes. So there is no branch on what it is.
 fn kept_under(asks: usize, a: usize) -> usize
-    requires { ⌜ a < length askers ⌝ }
+    requires { ⌜ (asks < length askers) × (a < length askers) ⌝ }
     ensures { λ r. ⌜ (r ≡ keptUnder asks a) × (r < length askers) ⌝ }
 {
-    if both(asks == a, a != WRITES) {
-        WRITES
-    } else {
-        a
-    }
+    picked(conflict(asks, a), a, WRITES)
 }
 
 // The history after an access: it is kept under each kind that it clashes with.
@@ -100,7 +93,7 @@ pub(crate) fn keep(last: &mut History, kind: u8, task: Task, v: Variable, number
     requires { ⌜ OfAccess kind (task .0) (v .0) ⌝ }
     ensures { λ _. ⌜ now (last .exit) ≡ withAccess kind (task .0) (v .0) (number .0) (now (last .entry)) ⌝ }
 {
-    let asks = asks_of(kind);
+    let asks = ask_at(kind);
     let mut a = 0;
     while a < ASKERS {
         last[slot(kept_under(asks, a), v, task)] = number.0;

@@ -1,13 +1,16 @@
 // Words of eight bytes, which the compiler stores whole: record numbers are most of what a report has, and their digits come about all at once.
 use crate::words::eight;
 use crate::writing::put_plain_number;
-ghost use Prim.Native.Nat.{_+_, _≤_, _<_};
+ghost use Prim.Native.Nat.{_+_, _^_, _≤_, _<_};
 ghost use mathlib.Core.Path.{_≡_};
 ghost use mathlib.Core.List.{_++_};
 ghost use lib.ListN.{length};
-ghost use Rattle.text.specs.Printing.{bytes, recordText};
+ghost use Rattle.text.specs.Printing.{bytes, recordDigits, recordText};
 ghost use Rattle.text.specs.Words.{bytesOf, digitPairs, numberWord};
 ghost use Rattle.text.specs.Wrote.{Wrote};
+
+// The first number that a record number's digits do not hold.
+const TOO_LONG: u32 = 10_000_000;
 
 // The bytes of a number, the first counting least.
 pub(crate) fn put_eight(out: &mut [u8], at: usize, w: u64) -> usize
@@ -27,7 +30,7 @@ pub(crate) fn put_eight(out: &mut [u8], at: usize, w: u64) -> usize
 
 // The digits of a number in four pairs, 16 bits for each. Both halves of four digits are divided by 100 at once, as a product that leaves each its room.
 fn in_pairs(n: u64) -> u64
-    requires { ⌜ n < 10_000_000 ⌝ }
+    requires { ⌜ n < 10 ^ recordDigits ⌝ }
     ensures { λ r. ⌜ r ≡ digitPairs n ⌝ }
 {
     let halves = n / 10_000 + n % 10_000 * 4_294_967_296;
@@ -38,7 +41,7 @@ fn in_pairs(n: u64) -> u64
 
 // `=` and the seven digits of a number. All four pairs are divided by 10 at once.
 fn number_word(n: u64) -> u64
-    requires { ⌜ n < 10_000_000 ⌝ }
+    requires { ⌜ n < 10 ^ recordDigits ⌝ }
     ensures { λ r. ⌜ r ≡ numberWord n ⌝ }
 {
     let pairs = in_pairs(n);
@@ -55,7 +58,7 @@ pub(crate) fn put_number(out: &mut [u8], at: usize, n: u32) -> usize
     requires { ⌜ at + 8 ≤ length (now out) ⌝ }
     ensures { λ r. ⌜ Wrote (now (out .entry)) at (bytes "=" ++ recordText n) (now (out .exit)) r ⌝ }
 {
-    if n < 10_000_000 {
+    if n < TOO_LONG {
         return put_eight(out, at, number_word(n as u64));
     }
     put_plain_number(out, at, n)

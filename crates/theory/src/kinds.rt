@@ -1,4 +1,10 @@
 // The number of each kind of record, as `kind` and `lossMark` of specs/order/Recording.antt have it.
+use crate::limits::FLAGS;
+use crate::limits::PROFILES;
+use crate::limits::SEMAPHORES;
+use crate::limits::TASKS;
+use crate::limits::VARIABLES;
+
 pub const READ: u8 = 0;
 
 pub const WRITE: u8 = 1;
@@ -28,5 +34,25 @@ pub const OWNED: u8 = 12;
 // How many of the kinds are accesses: each asks the history.
 pub const ASKERS: usize = 3;
 
+// Which these are, by their numbers among them, as `askers` of specs/history/History.antt has it.
+pub const ASKING: [u8; ASKERS] = [READ, WRITE, BUMP];
+
 // How many kinds there are.
 pub const KINDS: u8 = OWNED + 1;
+
+// The size of the series that the number of a kind's record is of, as `series` there has it, kind by kind. A mark has none, and is not looked up.
+pub const SERIES: [u32; KINDS as usize] = [
+    VARIABLES,
+    VARIABLES,
+    SEMAPHORES,
+    SEMAPHORES,
+    FLAGS,
+    FLAGS,
+    TASKS,
+    TASKS,
+    VARIABLES,
+    VARIABLES,
+    SEMAPHORES,
+    VARIABLES,
+    PROFILES,
+];

@@ -1,22 +1,24 @@
 -- Accesses, and takes, gives, looks and sets outside the profile: only the rows that every act has can refuse one, and it moves nothing in the control
 -- table but the count. Assumes nothing.
 use mathlib.Core.Path.{_≡_, refl, sym, _∙_}
-use mathlib.Core.Bool.{Bool, true, false, cond, not, and-false}
+use mathlib.Core.Bool.{Bool, true, false, cond, not, _||_, and-false}
 use mathlib.Core.List.{List, [], _∷_}
 use Prim.Native.Nat.{ℕ, _<_}
 use native.Mathlib.Omega.{arith}
-use borrow.Author.Tests.{eqb-false, leb-false}
-use lib.Dec.{leb, lit<}
+use borrow.Author.Tests.{eqb-false, leb-false, ltb-true}
+use lib.Dec.{leb, ltb, lit<}
 use lib.ListN.{length, drop}
 use Rattle.theory.specs.declared.record.Record.{Record}
 use Rattle.theory.specs.order.Limits.{tasks, records}
-use Rattle.theory.specs.order.Recording.{Op, read, write, take, give, look, set, bump, kind, kinds, lossMark, kindSeries}
-use Rattle.theory.specs.acceptance.Table.{Standing, Row, _when_, firstRow}
+use Rattle.theory.specs.tables.Turns.{turns}
+use Rattle.theory.specs.order.Recording.{Op, take, give, look, set, start, join, owned, kind, kinds, lossMark, accesses, kindSeries}
+use Rattle.theory.specs.acceptance.Table.{anyBelow, Standing, Row, _when_, firstRow}
 use Rattle.theory.specs.acceptance.Control.{underIn, controlStanding, controlRefusal, counted, controlAfter}
 use Rattle.theory.specs.feeding.Step.{recordOf, clockKind}
 use Rattle.theory.proofs.order.Ops.{no-mark}
-use Rattle.theory.proofs.acceptance.Rows.{actRows, act-rows}
-use Rattle.theory.proofs.history.Accesses.{Accessing, a-read, a-write, a-bump}
+use Rattle.theory.proofs.acceptance.Rows.{OfAct, actRows, act-rows}
+use Rattle.theory.proofs.order.Numbered.{each-access-kind, no-access-kind}
+use Rattle.theory.proofs.tables.Ranges.{access-acts}
 use Rattle.theory.proofs.tables.HandOver.{HandsOver, a-take, a-give, a-look, a-set}
 
 -- the rows that every act has
@@ -50,24 +52,43 @@ module _ (s : Standing) (r : Record) {n : ℕ} (e : n ≡ firstRow (commonRows s
       of false false false false q _ _ = absurd (omega arith)
       of false false false true q t o = (refl, t refl, o refl)
 
+-- an access is of a known kind
+known-tried : anyBelow (length kinds) (λ k. not (not (accesses k) || ltb k (length kinds))) ≡ false
+unfolding turns
+known-tried = refl
+
+access-known : (k : ℕ) → accesses k ≡ true → k < length kinds
+access-known k e = ltb-true k (length kinds) (each-access-kind (λ k. ltb k (length kinds)) known-tried k e)
+
 pub record Plainly (control : List ℕ) (k task on : ℕ) : Type 0 where
   pub refusal : controlRefusal control (recordOf k task on) ≡ firstRow (commonRows (controlStanding control) task (leb (kindSeries k) on))
   pub noted : controlAfter k task on control ≡ counted control
   pub unskipped : clockKind control k task on ≡ k
 
 module _ (control : List ℕ) (task on : ℕ) where
-  -- the rows of an op that every act has, where those after them do not apply
-  common : (o : Op) → kind o < length kinds → firstRow (drop 5 (actRows (controlStanding control) (recordOf (kind o) task on))) ≡ 0 →
-      controlRefusal control (recordOf (kind o) task on) ≡ firstRow (commonRows (controlStanding control) task (leb (kindSeries (kind o)) on))
-  common o h e = act-rows (controlStanding control) (recordOf (kind o) task on) (record { known = h; no-mark = eqb-false (kind o) lossMark (no-mark o) }) ∙ rw e
+  -- the rows that every act has, where those after them do not apply
+  common : (k : ℕ) → OfAct (recordOf k task on) → firstRow (drop 5 (actRows (controlStanding control) (recordOf k task on))) ≡ 0 →
+      controlRefusal control (recordOf k task on) ≡ firstRow (commonRows (controlStanding control) task (leb (kindSeries k) on))
+  common k h e = act-rows (controlStanding control) (recordOf k task on) h ∙ rw e
 
-  pub plain-access : {k : ℕ} → Accessing k → Plainly control k task on
-  plain-access a-read = record { refusal = common read (lit< tt) (rw (and-false (underIn control))); noted = refl; unskipped = refl }
-  plain-access a-write = record { refusal = common write (lit< tt) (rw (and-false (underIn control))); noted = refl; unskipped = refl }
-  plain-access a-bump = record { refusal = common bump (lit< tt) (rw (and-false (underIn control))); noted = refl; unskipped = refl }
+  op-acts : (o : Op) → kind o < length kinds → OfAct (recordOf (kind o) task on)
+  op-acts o h = record { known = h; no-mark = eqb-false (kind o) lossMark (no-mark o) }
+
+  pub plain-access : (k : ℕ) → accesses k ≡ true → Plainly control k task on
+  plain-access k e =
+      let not-start = no-access-kind start k refl e in
+      let not-join = no-access-kind join k refl e in
+      let not-take = no-access-kind take k refl e in
+      let not-give = no-access-kind give k refl e in
+      let not-owned = no-access-kind owned k refl e in
+      record {
+        refusal = common k (record { known = access-known k e; no-mark = access-acts k e }) (rw (not-start, not-join, not-owned, not-take, not-give, and-false (underIn control)));
+        noted = rw (not-start, not-join, not-take, not-give, not-owned);
+        unskipped = rw not-take;
+      }
 
   pub plain-hand-over : {k : ℕ} → HandsOver k → underIn control ≡ false → Plainly control k task on
-  plain-hand-over a-take u = record { refusal = common take (lit< tt) (rw u); noted = rw u; unskipped = rw u }
-  plain-hand-over a-give u = record { refusal = common give (lit< tt) (rw u); noted = rw u; unskipped = refl }
-  plain-hand-over a-look u = record { refusal = common look (lit< tt) (rw u); noted = refl; unskipped = refl }
-  plain-hand-over a-set u = record { refusal = common set (lit< tt) (rw u); noted = refl; unskipped = refl }
+  plain-hand-over a-take u = record { refusal = common (kind take) (op-acts take (lit< tt)) (rw u); noted = rw u; unskipped = rw u }
+  plain-hand-over a-give u = record { refusal = common (kind give) (op-acts give (lit< tt)) (rw u); noted = rw u; unskipped = refl }
+  plain-hand-over a-look u = record { refusal = common (kind look) (op-acts look (lit< tt)) (rw u); noted = refl; unskipped = refl }
+  plain-hand-over a-set u = record { refusal = common (kind set) (op-acts set (lit< tt)) (rw u); noted = refl; unskipped = refl }

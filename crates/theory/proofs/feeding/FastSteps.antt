@@ -23,7 +23,7 @@ use Rattle.theory.specs.feeding.Lent.{stateOf}
 use Rattle.theory.specs.totals.Totals.{totalled}
 use Rattle.theory.proofs.basics.Reflects.{Reflects, right, wrong, equal}
 use Rattle.theory.proofs.acceptance.Plain.{Plainly, plain-access, plain-hand-over}
-use Rattle.theory.proofs.history.Accesses.{Accessing, kept-nowhere}
+use Rattle.theory.proofs.history.Accesses.{kept-nowhere}
 use Rattle.theory.proofs.tables.Bits.{Halved}
 use Rattle.theory.proofs.tables.Rows.{same-max}
 use Rattle.theory.proofs.tables.Ranges.{access-acts, access-onward}
@@ -57,14 +57,14 @@ module _ (last : List ℕ) (k v number full arrived : ℕ) (partner : RecordNumb
 module _ (control last clocks fullclocks : List ℕ) (task on : ℕ) where
   -- An access: its answer, and the tables after it, in which its own cells are all that changes
 
-  pub accessed-step : {k : ℕ} → Accessing k → accesses k ≡ true → task < tasks → controlRefusal control (recordOf k task on) ≡ 0 → {a : Answer} {t l c f : List ℕ} →
+  pub accessed-step : (k : ℕ) → accesses k ≡ true → task < tasks → controlRefusal control (recordOf k task on) ≡ 0 → {a : Answer} {t l c f : List ℕ} →
       a ≡ answerByMasks last k on (nextNumber control) (clockMask fullclocks last k task on) (clockMask clocks last k task on) →
       t ≡ totalled (meaning a) on (counted control) → l ≡ lastAfter k task on (nextNumber control) last →
       c ≡ clockOwn task (nextNumber control) clocks → f ≡ clockOwn task (nextNumber control) fullclocks →
       record { state = stateOf t l c f; answer = a } ≡ stepOf (stateOf control last clocks fullclocks) (recordOf k task on)
   unfolding stepOf
-  accessed-step {k} h e i z a t l c f =
-      let p = plain-access control task on h in
+  accessed-step k e i z a t l c f =
+      let p = plain-access control task on k e in
       let x = access-onward same-max tasks false k task on (clockOwn task (nextNumber control) clocks) e i in
       let y = access-onward same-max tasks true k task on (clockOwn task (nextNumber control) fullclocks) e i in
       rw (z, p .unskipped, p .noted, e, ne-eqb k lossMark (access-acts k e), ← x, ← y, ← a, ← t, ← l, ← c, ← f)

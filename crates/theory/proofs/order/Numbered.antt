@@ -1,19 +1,16 @@
--- Kinds by their numbers, as the code decides by them: what holds of every kind but some is tried out. Assumes nothing.
-use mathlib.Core.Path.{_≡_, refl, sym, ap}
-use mathlib.Core.Bool.{Bool, true, false, not, _||_}
-use mathlib.Core.Logic.{_≢_}
-use mathlib.Core.List.{List, [], _∷_}
+-- Kinds by their numbers, as the code decides by them: what holds of every kind is tried out. Assumes nothing.
+use mathlib.Core.Path.{_≡_, refl, sym, ap, _∙_}
+use mathlib.Core.Bool.{Bool, true, false, not, _||_, true≢false}
+use mathlib.Core.List.{List, map}
 use Prim.Native.Nat.{ℕ, _≤_, _<_}
 use native.Mathlib.Omega.{arith}
-use borrow.Author.Tests.{eqb-true, ne-eqb, not-false}
+use borrow.Author.Tests.{eqb-true, ne-eqb, not-true, not-false}
 use lib.Dec.{eqb}
-use lib.ListN.{length, drop, List·getD-eq-default}
-use Rattle.theory.specs.order.Limits.{variables}
+use lib.ListN.{length, getD, List·getD-eq-default}
 use Rattle.theory.specs.tables.Turns.{turns}
-use Rattle.theory.specs.order.Recording.{Op, take, give, look, set, start, join, miss, owned, kind, Kind, of-op, of-mark, kinds, numberedKind, kindAccesses, accesses, kindSeries}
-use Rattle.theory.specs.order.Path.{clashes}
+use Rattle.theory.specs.order.Recording.{Op, kind, series, Kind, of-op, of-mark, kinds, numberedKind, kindOp, kindAccesses, accesses, kindSeries}
 use Rattle.theory.specs.acceptance.Table.{anyBelow}
-use Rattle.theory.specs.history.History.{askers, asker, askAt, kindClashes}
+use Rattle.theory.specs.history.History.{kindClashes}
 use Rattle.theory.proofs.basics.Reflects.{Reflects, right, wrong, at-most}
 use Rattle.theory.proofs.acceptance.Rows.{none-below}
 
@@ -31,37 +28,20 @@ each-number p tried beyond k = decided (at-most (length kinds) k)
 
 -- Accesses
 
-negated : (b : Bool) → not b ≡ true → b ≡ false
-negated true e = sym e
-negated false e = refl
-
 pub or-true : (b : Bool) → (b || true) ≡ true
 or-true true = refl
 or-true false = refl
 
--- k is the kind of none of these ops
-abbrev pub NoneOf : List Op → ℕ → Type 0
-NoneOf [] k = Unit
-NoneOf (o ∷ os) k = (k ≢ kind o) × NoneOf os k
-
-abbrev isOneOf : List Op → ℕ → Bool
-isOneOf [] k = false
-isOneOf (o ∷ os) k = eqb k (kind o) || isOneOf os k
-
-none-is : (os : List Op) (k : ℕ) → NoneOf os k → isOneOf os k ≡ false
-none-is [] k h = refl
-none-is (o ∷ os) k h = rw (ne-eqb k (kind o) (h .0)) (none-is os k (h .1))
-
-accesses-tried : anyBelow (length kinds) (λ k. not (isOneOf askers k || not (accesses k))) ≡ false
-unfolding turns
-accesses-tried = refl
-
--- no kind but those that ask is an access
-pub no-access-else : (k : ℕ) → NoneOf askers k → accesses k ≡ false
-no-access-else k n = negated (accesses k) (rw (none-is askers k n) at (each-number (λ k. isOneOf askers k || not (accesses k)) accesses-tried beyond k))
+-- a test that holds of the kinds that are accesses: tried out over the list of kinds
+pub each-access-kind : (p : ℕ → Bool) → anyBelow (length kinds) (λ k. not (not (accesses k) || p k)) ≡ false → (k : ℕ) → accesses k ≡ true → p k ≡ true
+each-access-kind p tried k e = rw e at (each-number (λ k. not (accesses k) || p k) tried beyond k)
   where
-    beyond : (k : ℕ) → length kinds ≤ k → (isOneOf askers k || not (accesses k)) ≡ true
-    beyond k h = rw (ap kindAccesses (kind-above k h)) (or-true (isOneOf askers k))
+    beyond : (k : ℕ) → length kinds ≤ k → (not (accesses k) || p k) ≡ true
+    beyond k h = rw (ap kindAccesses (kind-above k h)) refl
+
+-- an access is of no kind that is none
+pub no-access-kind : (p : Op) (k : ℕ) → accesses (kind p) ≡ false → accesses k ≡ true → eqb k (kind p) ≡ false
+no-access-kind p k n e = ne-eqb k (kind p) (λ q. true≢false (sym e ∙ ap accesses q ∙ n))
 
 -- what is no access clashes with nothing
 pub no-clash : (k : ℕ) (p : Op) → accesses k ≡ false → false ≡ kindClashes (numberedKind k) p
@@ -71,49 +51,25 @@ no-clash k p e = of (numberedKind k) e
     of (of-op o) e = rw e
     of of-mark e = refl
 
--- Who asks
+-- Two tests that say the same
 
--- all but the first
-abbrev pub laterAskers : List Op
-laterAskers = drop 1 askers
-
-asks-tried : anyBelow (length kinds) (λ k. not (isOneOf laterAskers k || eqb (askAt k) 0)) ≡ false
-unfolding turns
-asks-tried = refl
-
-pub asks-first : (k : ℕ) → NoneOf laterAskers k → 0 ≡ askAt k
-asks-first k n =
-    sym (eqb-true (askAt k) 0 (rw (none-is laterAskers k n) at (each-number (λ k. isOneOf laterAskers k || eqb (askAt k) 0) asks-tried beyond k)))
-  where
-    beyond : (k : ℕ) → length kinds ≤ k → (isOneOf laterAskers k || eqb (askAt k) 0) ≡ true
-    beyond k h = rw (kind-above k h) (or-true (isOneOf laterAskers k))
-
--- with whom an op clashes: tried out
 abbrev pub same : Bool → Bool → Bool
 same true b = b
 same false b = not b
 
 pub same-true : (a b : Bool) → same a b ≡ true → a ≡ b
 same-true true b e = sym e
-same-true false b e = sym (negated b e)
-
-pub each-asker : (o : Op) (f : ℕ → Bool) → anyBelow (length askers) (λ a. not (same (f a) (clashes o (asker a)))) ≡ false → (a : ℕ) → a < length askers → f a ≡ clashes o (asker a)
-each-asker o f tried a h = same-true (f a) (clashes o (asker a)) (not-false _ (none-below (length askers) (λ a. not (same (f a) (clashes o (asker a)))) tried a h))
+same-true false b e = sym (not-true b e)
 
 -- Series
 
--- the ops over semaphores, flags, tasks and profiles
-abbrev pub objectOps : List Op
-objectOps = take ∷ give ∷ miss ∷ look ∷ set ∷ start ∷ join ∷ owned ∷ []
+-- the sizes of the kinds' series as one list, as the code has them
+abbrev pub seriesList : List ℕ
+seriesList = map (λ (x : Kind). series (kindOp x)) kinds
 
-series-tried : anyBelow (length kinds) (λ k. not (isOneOf objectOps k || eqb (kindSeries k) variables)) ≡ false
+series-tried : anyBelow (length kinds) (λ k. not (eqb (getD seriesList k 0) (kindSeries k))) ≡ false
 unfolding turns
 series-tried = refl
 
--- any other kind is over the variables
-pub series-else : (k : ℕ) → NoneOf objectOps k → kindSeries k ≡ variables
-series-else k n =
-    eqb-true (kindSeries k) variables (rw (none-is objectOps k n) at (each-number (λ k. isOneOf objectOps k || eqb (kindSeries k) variables) series-tried beyond k))
-  where
-    beyond : (k : ℕ) → length kinds ≤ k → (isOneOf objectOps k || eqb (kindSeries k) variables) ≡ true
-    beyond k h = rw (kind-above k h) (or-true (isOneOf objectOps k))
+pub series-at : (k : ℕ) → k < length kinds → getD seriesList k 0 ≡ kindSeries k
+series-at k h = eqb-true (getD seriesList k 0) (kindSeries k) (not-false _ (none-below (length kinds) (λ k. not (eqb (getD seriesList k 0) (kindSeries k))) series-tried k h))

@@ -12,10 +12,10 @@ use lib.Dec.{eqb}
 use lib.ListN.{length, length-append}
 use Rattle.theory.specs.declared.record.Record.{Record}
 use Rattle.theory.specs.order.Limits.{records}
-use Rattle.theory.specs.order.Recording.{Op, take, give, start, join, owned, _is_, Event, act, lost, kind, lossMark, eventOf, acts}
+use Rattle.theory.specs.order.Recording.{Op, take, give, start, join, owned, _is_, Event, act, lost, kind, lossMark, eventOf, acts, task, seriesOf}
 use Rattle.theory.specs.acceptance.Owning.{isOwned, under, Who, nobody, isSomebody, isBy, nextHolder, holder}
 use Rattle.theory.specs.acceptance.Table.{Phase, isLive, isUnseen, nextPhase, phase, standing, firstRow, standingRefusal, refusal}
-use Rattle.theory.specs.swapping.Unrelated.{task, seriesOf, names}
+use Rattle.theory.specs.swapping.Unrelated.{names}
 use Rattle.theory.specs.swapping.Swaps.{Swapped, these, later}
 use Rattle.theory.proofs.basics.Reflects.{Reflects, right, wrong}
 use Rattle.theory.proofs.order.Ops.{same-op, no-mark, event-act}

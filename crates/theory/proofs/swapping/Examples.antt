@@ -9,7 +9,7 @@ use Prim.Native.Nat.{ℕ, zero, suc, _+_, _*_}
 use borrow.Author.Tests.{eq-eqb, eqb-true}
 use lib.Dec.{T, eqb}
 use lib.ListN.{getD}
-use Rattle.theory.specs.order.Recording.{Op, take, give, miss, Event, act, lost, ActsIn, acts, no-events, an-act, _is_}
+use Rattle.theory.specs.order.Recording.{Op, take, give, miss, Event, act, lost, ActsIn, acts, no-events, an-act, _is_, Series, task, semaphore, flag, variable, profile, seriesOf}
 use Rattle.theory.specs.order.Path.{rule}
 use Rattle.theory.specs.fillings.Completion.{rounds, round, part, onEach}
 use Rattle.theory.specs.tables.Turns.{turns}
@@ -18,7 +18,7 @@ use Rattle.theory.specs.verdicts.Search.{judge}
 use Rattle.theory.specs.totals.Totals.{verdictPlace}
 use Rattle.theory.specs.feeding.Meaning.{Meaning, isRefusal}
 use Rattle.theory.specs.feeding.Feeding.{answersFrom, eventRecord}
-use Rattle.theory.specs.swapping.Unrelated.{Series, task, semaphore, flag, variable, profile, seriesOf, Names, names, sharing, MayShare, may-share, Premise, two-acts, actors-differ, names-no-actor, names-no-same, no-semaphore, no-flag, no-variable, none-owned, Holds, first-misses, second-misses}
+use Rattle.theory.specs.swapping.Unrelated.{Names, names, sharing, MayShare, may-share, Premise, two-acts, actors-differ, names-no-actor, names-no-same, no-semaphore, no-flag, no-variable, none-owned, Holds, first-misses, second-misses}
 use Rattle.theory.specs.swapping.Compared.{Accepted, none-left, and-accepted, Said, refused, taken, judged, known}
 use Rattle.theory.specs.swapping.Examples.{Related, logged, exchanged, newPlace, toldAt, Changes, AllChange, EachNeeded, related, Pair, AllUnrelated, unrelatedPairs, AllMissed, missedPairs, holding, EitherOrder, HeldPairs, NumbersShift}
 use Rattle.theory.proofs.basics.Reflects.{fails, equal, passed}

@@ -9,11 +9,11 @@ use mathlib.Core.List.{[], _∷_}
 use Prim.Native.Nat.{ℕ}
 use lib.Dec.{T, eqb}
 use Rattle.theory.specs.declared.record.Record.{Record}
-use Rattle.theory.specs.order.Recording.{Op, take, give, start, join, owned, fresh, miss, Event, act, lost, acts, Unmarked, no-events, an-act, isAccess, eventOf, Kind, of-op, of-mark, kinds}
+use Rattle.theory.specs.order.Recording.{Op, take, give, start, join, owned, fresh, miss, Event, act, lost, acts, Unmarked, no-events, an-act, isAccess, eventOf, Kind, of-op, of-mark, kinds, Series, task, semaphore, flag, variable, profile, seriesOf}
 use Rattle.theory.specs.order.Path.{Step, same-task, gives-takes, sets-looks, starts, joins, rule, Conflict, conflict, Empties, empties}
 use Rattle.theory.specs.acceptance.Owning.{isOwned, Who, nobody, by, nextHolder}
 use Rattle.theory.specs.acceptance.Table.{Phase, nextPhase}
-use Rattle.theory.specs.swapping.Unrelated.{Series, task, semaphore, flag, variable, profile, seriesOf, Names, names, sharing, MayShare, may-share, Premise, two-acts, actors-differ, names-no-actor, names-no-same, no-semaphore, no-flag, no-variable, none-owned, Holds, Unrelated, UnrelatedRecords, OneMisses, first-misses, second-misses, UnrelatedByMiss, MissedRecords}
+use Rattle.theory.specs.swapping.Unrelated.{Names, names, sharing, MayShare, may-share, Premise, two-acts, actors-differ, names-no-actor, names-no-same, no-semaphore, no-flag, no-variable, none-owned, Holds, Unrelated, UnrelatedRecords, OneMisses, first-misses, second-misses, UnrelatedByMiss, MissedRecords}
 use Rattle.theory.proofs.basics.Reflects.{Reflects, right, wrong, by-test, is-true, equal}
 use Rattle.theory.proofs.order.Ops.{all, each-op, Role, a-take, a-give, a-look, a-set, a-start, a-join, plain, role, same-op, keeps-phases}
 

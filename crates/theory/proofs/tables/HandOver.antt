@@ -7,8 +7,8 @@ use Prim.Native.Nat.{ℕ, _+_, _≤_, _<_}
 use native.Mathlib.Omega.{arith}
 use borrow.Author.Tests.{lt-ltb, le-ltb}
 use lib.Dec.{eqb}
-use Rattle.theory.specs.order.Limits.{tasks}
-use Rattle.theory.specs.order.Recording.{take, give, look, set, kind, lossMark, accesses}
+use Rattle.theory.specs.order.Limits.{tasks, semaphores}
+use Rattle.theory.specs.order.Recording.{take, give, look, set, kind, lossMark, accesses, kindSeries}
 use Rattle.theory.specs.acceptance.Table.{Fitting}
 use Rattle.theory.specs.tables.Rows.{semaphoreRow, flagRow, hub, joinRow, flow, onward}
 use Rattle.theory.proofs.basics.Reflects.{Reflects, right, wrong, equal}
@@ -47,6 +47,13 @@ hand-no-access a-take = refl
 hand-no-access a-give = refl
 hand-no-access a-look = refl
 hand-no-access a-set = refl
+
+-- it is over the flags or over the semaphores
+pub over-semaphores : {k : ℕ} → HandsOver k → k ≢ kind look → k ≢ kind set → kindSeries k ≡ semaphores
+over-semaphores a-take l s = refl
+over-semaphores a-give l s = refl
+over-semaphores a-look l s = absurd (l refl)
+over-semaphores a-set l s = absurd (s refl)
 
 -- those that release
 abbrev pub releases : ℕ → Bool

@@ -35,41 +35,55 @@ abbrev pub accessNumber : Access → ℕ
 accessNumber no-access = 0
 accessNumber (access n) = n
 
+-- the series that the number of an act is of, `on`: "Task numbers, semaphore numbers and variable numbers are separate series; so are flag numbers"
+pub data Series : Type 0 where
+  task semaphore flag variable profile : Series
+
+-- how many numbers it has: those below its size
+abbrev pub sizeOf : Series → ℕ
+sizeOf task = tasks
+sizeOf semaphore = semaphores
+sizeOf flag = flags
+sizeOf variable = variables
+sizeOf profile = profiles
+
 -- What differs from op to op, but for the steps that it makes and the conflicts that it has (Order.antt)
 pub record Features : Type 0 where
   -- its kind number, in a record that is fed; numbers are added and never reused
   pub kind : ℕ
-  -- the series that its number is of, by size: `on` is one of the numbers below it
-  pub series : ℕ
+  pub series : Series
   pub access : Access
   -- a completion may put it: takes, gives, looks, sets and misses. Starts and joins are resent until they arrive, and lost accesses lie outside: a
   -- verdict is about accesses that arrived
   pub losable : Bool
   pub effect : Effect
 
-abbrev pub features : ℕ → ℕ → Access → Bool → Effect → Features
+abbrev pub features : ℕ → Series → Access → Bool → Effect → Features
 features k s a l e = record { kind = k; series = s; access = a; losable = l; effect = e }
 
 -- the table of ops: kind, series, access, can be lost, effect
 abbrev pub about : Op → Features
-about read = features 0 variables (access 0) false keeps
-about write = features 1 variables (access 1) false keeps
-about take = features 2 semaphores no-access true keeps
-about give = features 3 semaphores no-access true keeps
-about look = features 4 flags no-access true keeps
-about set = features 5 flags no-access true keeps
-about start = features 6 tasks no-access false begins
-about join = features 7 tasks no-access false ends
-about fresh = features 9 variables no-access false keeps
-about miss = features 10 semaphores no-access true keeps
-about bump = features 11 variables (access 2) false keeps
-about owned = features 12 profiles no-access false keeps
+about read = features 0 variable (access 0) false keeps
+about write = features 1 variable (access 1) false keeps
+about take = features 2 semaphore no-access true keeps
+about give = features 3 semaphore no-access true keeps
+about look = features 4 flag no-access true keeps
+about set = features 5 flag no-access true keeps
+about start = features 6 task no-access false begins
+about join = features 7 task no-access false ends
+about fresh = features 9 variable no-access false keeps
+about miss = features 10 semaphore no-access true keeps
+about bump = features 11 variable (access 2) false keeps
+about owned = features 12 profile no-access false keeps
 
 abbrev pub kind : Op → ℕ
 kind o = (about o) .kind
 
+abbrev pub seriesOf : Op → Series
+seriesOf o = (about o) .series
+
 abbrev pub series : Op → ℕ
-series o = (about o) .series
+series o = sizeOf (seriesOf o)
 
 abbrev pub isAccess : Op → Bool
 isAccess o = accessing ((about o) .access)

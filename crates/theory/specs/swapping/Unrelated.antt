@@ -6,25 +6,7 @@ use mathlib.Core.Logic.{_≢_}
 use mathlib.Core.List.{[], _∷_}
 use lib.Dec.{T}
 use Rattle.theory.specs.declared.record.Record.{Record}
-use Rattle.theory.specs.order.Recording.{Op, read, write, take, give, look, set, start, join, fresh, miss, bump, owned, Event, act, eventOf, ActsIn, Unmarked, _is_}
-
--- the series that the number of an act is of: "Task numbers, semaphore numbers and variable numbers are separate series; so are flag numbers"
-pub data Series : Type 0 where
-  task semaphore flag variable profile : Series
-
-abbrev pub seriesOf : Op → Series
-seriesOf read = variable
-seriesOf write = variable
-seriesOf take = semaphore
-seriesOf give = semaphore
-seriesOf look = flag
-seriesOf set = flag
-seriesOf start = task
-seriesOf join = task
-seriesOf fresh = variable
-seriesOf miss = semaphore
-seriesOf bump = variable
-seriesOf owned = profile
+use Rattle.theory.specs.order.Recording.{Op, read, miss, bump, Series, task, semaphore, flag, variable, profile, seriesOf, Event, act, eventOf, ActsIn, Unmarked, _is_}
 
 -- the record is an act that names number n of the series
 pub data Names (x : Series) (n : ℕ) : Event → Type 0 where

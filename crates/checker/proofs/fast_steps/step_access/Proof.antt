@@ -6,7 +6,7 @@ use Rattle.theory.specs.feeding.Step.{stepOf}
 use Rattle.theory.proofs.acceptance.Accepted.{Accepts, accepts, refused}
 use Rattle.theory.proofs.acceptance.Plain.{plain-access}
 use Rattle.theory.proofs.feeding.FastSteps.{accessed-step}
-use Rattle.theory.proofs.history.Accesses.{OfAccess, of-access, accessing, access-series}
+use Rattle.theory.proofs.history.Accesses.{OfAccess, of-access, access-series}
 use Rattle.theory.proofs.tables.Ranges.{access-acts}
 use borrow.Author.Needs.{needs}
 use Rattle.checker.proofs.fast_steps.step_access.Statement.{statement}
@@ -17,8 +17,7 @@ row : (c : tie.After-common-refusal) → let a = c .before .before .before .args
 row c =
     let start = c .before .before .before in
     let a = start .args in
-    let h = accessing (a .r .kind) (start .pre) in
-    (rw (c .before .no-variable .ensures) at (c .common-refusal .ensures)) ∙ sym (rw (access-series h) at (plain-access (a .control .now) (a .r .task) (a .r .on) h .refusal))
+    (rw (c .before .no-variable .ensures) at (c .common-refusal .ensures)) ∙ sym (rw (access-series (a .r .kind) (start .pre)) at (plain-access (a .control .now) (a .r .task) (a .r .on) (a .r .kind) (start .pre) .refusal))
 
 returns : tie.Need-returns
 unfolding stepOf
@@ -46,7 +45,7 @@ returns-2 c =
     let start = at-if1 .before .before .before .before in
     let a = start .args in
     let q = c .access-by-clocks .ensures in
-    accessed-step (a .control .now) (a .last .now) (a .clocks .now) (a .fullclocks .now) (a .r .task) (a .r .on) (accessing (a .r .kind) (start .pre)) (start .pre) (fitting at-if1 .task-fits)
+    accessed-step (a .control .now) (a .last .now) (a .clocks .now) (a .fullclocks .now) (a .r .task) (a .r .on) (a .r .kind) (start .pre) (fitting at-if1 .task-fits)
     (sym (row (at-if1 .before)) ∙ at-if1 .if1 .left) (q .0) (rw (at-count .count .ensures) at (q .1)) (q .2) (q .3) (q .4)
 
 pub step-access-spec : {M : Type 1} → statement M

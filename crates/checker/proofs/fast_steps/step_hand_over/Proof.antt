@@ -18,7 +18,7 @@ row c =
     let start = c .before .before .before in
     let a = start .args in
     let p = plain-hand-over (a .control .now) (a .r .task) (a .r .on) (start .pre .0) (start .pre .1) in
-    (rw (c .before .outside .ensures) at (c .common-refusal .ensures)) ∙ sym (p .refusal)
+    (rw (c .before .no-object .ensures) at (c .common-refusal .ensures)) ∙ sym (p .refusal)
 
 returns : tie.Need-returns
 unfolding stepOf

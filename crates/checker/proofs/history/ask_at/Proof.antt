@@ -1,22 +1,31 @@
--- No kind but those that ask is an access.
-use mathlib.Core.Path.{refl}
-use Rattle.theory.proofs.order.Numbered.{no-access-else}
+-- The number of the kind among theirs, looked for from the first to the last.
+use mathlib.Core.Path.{refl, subst, sym}
+use mathlib.Core.Bool.{cond}
+use Prim.Native.Nat.{ℕ, _≤_, _-_}
+use native.Mathlib.Omega.{arith}
+use lib.Dec.{ltb}
+use lib.ListN.{length}
+use Rattle.theory.specs.history.History.{askers}
+use Rattle.theory.proofs.basics.Turns.{Turned, no-turn, one-turn, all-turns}
+use Rattle.theory.proofs.history.Accesses.{sought, sought-right}
 use borrow.Author.Needs.{needs}
 use Rattle.checker.proofs.history.ask_at.Statement.{statement}
 use Rattle.checker.proofs.history.ask_at.Tie as tie
 
-returns : tie.Need-returns
-returns c = rw (c .match .keys1) (refl, refl)
+abbrev Inv-loop : tie.InvT-loop
+Inv-loop kind asking asks₀ a₀ asks a = (a ≤ length askers) × Turned (sought kind) (length askers) a asks
 
-returns-2 : tie.Need-returns-2
-returns-2 c = rw (c .match .keys2) (refl, refl)
+abbrev μ-loop : tie.MeasureT-loop
+μ-loop kind asking asks₀ a₀ asks a = length askers - a
 
-returns-3 : tie.Need-returns-3
-returns-3 c = rw (c .match .keys3) (refl, refl)
+loop-holds : tie.Need-loop-holds Inv-loop μ-loop
+loop-holds c = (search needs, no-turn)
 
-returns-4 : tie.Need-returns-4
-returns-4 c = rw (no-access-else (c .before .args .kind) (search needs)) (refl, refl)
+loop-again : tie.Need-loop-again Inv-loop μ-loop
+loop-again c = (search needs, one-turn (c .before .before .loop .inv .1) (c .picked .ensures))
+
+returns : tie.Need-returns Inv-loop μ-loop
+returns c = rw (all-turns (length askers) (c .before .loop .inv .1) (omega arith) (omega arith)) (sought-right (c .before .before .args .kind))
 
 pub ask-at-spec : {M : Type 1} → statement M
-ask-at-spec = tie.close (tie.spec
-    returns returns-2 returns-3 returns-4)
+ask-at-spec = tie.close (tie.spec Inv-loop μ-loop loop-holds (λ c. search needs) (λ c κs. search needs) (λ c. search needs) (λ c. search needs) loop-again returns)
