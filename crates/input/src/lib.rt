@@ -7,7 +7,7 @@ ghost use Prim.Native.Nat.{_<_, _≤_};
 ghost use lib.ListN.{length};
 
 // A piece has so many bytes at most.
-pub const PIECE: usize = 1024;
+pub const PIECE: usize = 4096;
 
 const LF: u8 = b'\n';
 
