@@ -1,13 +1,14 @@
-// An open file in pieces, standard input or another: each read brings a block, which is handed out piece by piece. No contract can say what came; that a piece lies within its
-// block is proved.
+// An open file in pieces, standard input or another: each read brings a block, which is handed out piece by piece. No contract can say what came;
+// which part of its block each piece is, is proved.
 use libc::STDERR_FILENO;
 ghost use mathlib.Core.Path.{_≡_};
-ghost use mathlib.Core.Bool.{true};
+ghost use mathlib.Core.Bool.{true, false};
 ghost use Prim.Native.Nat.{_<_, _≤_};
 ghost use lib.ListN.{length};
+ghost use Rattle.input.specs.Pieces.{furthest, afterLf, pieceAt, lastOf, lastPiece, ended, isLeft, nextOf};
 
 // A piece has so many bytes at most.
-pub const PIECE: usize = 1024;
+pub const PIECE: usize = 4096;
 
 const LF: u8 = b'\n';
 
@@ -34,7 +35,7 @@ pub fn no_piece() -> Span
 // How far the piece that begins at a place may go.
 fn furthest(from: usize, len: usize) -> usize
     requires { ⌜ from < len ⌝ }
-    ensures { λ r. ⌜ (from < r) × (r ≤ len) ⌝ }
+    ensures { λ r. ⌜ r ≡ furthest from len ⌝ }
 {
     if len - from <= PIECE {
         len
@@ -46,7 +47,7 @@ fn furthest(from: usize, len: usize) -> usize
 // After the next LF, if that is not too far.
 fn after_lf(block: &[u8], from: usize, most: usize) -> usize
     requires { ⌜ (from < most) × (most ≤ length (now block)) ⌝ }
-    ensures { λ r. ⌜ (from < r) × (r ≤ most) ⌝ }
+    ensures { λ r. ⌜ r ≡ afterLf (now (block .entry)) from most ⌝ }
 {
     let mut e = from;
     while e < most {
@@ -61,7 +62,7 @@ fn after_lf(block: &[u8], from: usize, most: usize) -> usize
 // The piece that begins at a place of a block; where lines are asked for, it ends after the next LF.
 fn piece_at(block: &[u8], from: usize, len: usize, lines: bool) -> Span
     requires { ⌜ (from < len) × (len ≤ length (now block)) ⌝ }
-    ensures { λ r. ⌜ (r .from ≤ r .end) × (r .end ≤ length (now (block .entry))) ⌝ }
+    ensures { λ r. ⌜ (r ≡ pieceAt lines (now (block .entry)) from len) × (from < r .end) × (r .end ≤ len) ⌝ }
 {
     let most = furthest(from, len);
     let end = if lines {
@@ -77,15 +78,10 @@ fn piece_at(block: &[u8], from: usize, len: usize, lines: bool) -> Span
     }
 }
 
-// The last piece: LF, where a line has begun that none ends, and else nothing.
-fn last_piece(block: &mut [u8], begun: bool) -> Span
-    ensures { λ r. ⌜ (r .from ≤ r .end) × (r .end ≤ length (now (block .exit))) ⌝ }
+// The last piece, of so many bytes.
+fn last_of(end: usize) -> Span
+    ensures { λ r. ⌜ r ≡ lastOf end ⌝ }
 {
-    let mut end = 0;
-    if begun && 0 < block.len() {
-        block[0] = LF;
-        end = 1;
-    }
     Span {
         from: 0,
         end,
@@ -94,8 +90,33 @@ fn last_piece(block: &mut [u8], begun: bool) -> Span
     }
 }
 
+// The last piece: LF, where a line has begun that none ends, and else nothing.
+fn last_piece(block: &mut [u8], begun: bool) -> Span
+    ensures { λ r. ⌜ (r ≡ lastPiece begun (now (block .exit))) × (now (block .exit) ≡ ended begun (now (block .entry))) ⌝ }
+{
+    if !begun {
+        return last_of(0);
+    }
+    if block.len() == 0 {
+        return last_of(0);
+    }
+    block[0] = LF;
+    last_of(1)
+}
+
+// A part of the block was read and not handed out.
+fn is_left(was: Span, block: &[u8]) -> bool
+    ensures { λ r. ⌜ r ≡ isLeft was (now (block .entry)) ⌝ }
+{
+    if was.len <= was.end {
+        return false;
+    }
+    was.len <= block.len()
+}
+
 // The piece after another, from the next block where that one is used up. A read may bring less than a block; none at all is the end of the input, and
-// one that fails says so, by the words for it, and is the end as well. `begun` says whether a line has begun, which the end of the input ends.
+// one that fails says so, by the words for it, and is the end as well. `begun` says whether a line has begun, which the end of the input ends. What a
+// read brought is known by `more` and `len` alone; where a part of the block is left, there is none, and the block stays as it is.
 pub fn next_piece(
     fd: i32,
     block: &mut [u8],
@@ -104,9 +125,12 @@ pub fn next_piece(
     begun: bool,
     failed: &[u8],
 ) -> Span
-    ensures { λ r. ⌜ (r .from ≤ r .end) × (r .end ≤ length (now (block .exit))) ⌝ }
+    ensures { λ r. ⌜ r ≡ nextOf was lines begun (now (block .exit)) (r .more) (r .len) ⌝ }
+    ensures { λ r. ⌜ (isLeft was (now (block .entry)) ≡ true → now (block .exit) ≡ now (block .entry))
+        × (r .more ≡ false → now (block .exit) ≡ ended begun (now (block .exit))) ⌝ }
+    ensures { λ r. ⌜ (r .from ≤ r .end) × (r .end ≤ r .len) × (r .len ≤ length (now (block .exit))) × (r .more ≡ true → r .from < r .end) ⌝ }
 {
-    if was.end < was.len && was.len <= block.len() {
+    if is_left(was, block) {
         return piece_at(block, was.end, was.len, lines);
     }
     let got = libc::read(fd, block);

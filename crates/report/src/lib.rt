@@ -29,4 +29,4 @@ pub use sizes::HELD_MOST;
 pub use sizes::LINE_ROOM;
 pub use streaming::REFUSED;
 pub use streaming::report_piece;
-pub use writing::put_digit;
+pub use writing::last_digit;

@@ -37,12 +37,19 @@ pub(crate) fn put_bytes(out: &mut [u8], at: usize, bytes: &[u8]) -> usize
     at + i
 }
 
+// The byte of a number's last digit.
+pub fn last_digit(n: u64) -> u8
+    ensures { λ r. ⌜ r ≡ lastDigit n ⌝ }
+{
+    (n % 10) as u8 + b'0'
+}
+
 // The last digit of a number.
-pub fn put_digit(out: &mut [u8], at: usize, n: u64) -> usize
+fn put_digit(out: &mut [u8], at: usize, n: u64) -> usize
     requires { ⌜ at < length (now out) ⌝ }
     ensures { λ r. ⌜ Wrote (now (out .entry)) at (lastDigit n ∷ []) (now (out .exit)) r ⌝ }
 {
-    out[at] = (n % 10) as u8 + b'0';
+    out[at] = last_digit(n);
     at + 1
 }
 

@@ -36,9 +36,9 @@ decimal-some n = picked (ltb n 10) refl
 -- A number beside its last digit: `left` is what the column has left there
 module _ (width left n : ℕ) (e : left ≡ max 1 (width - 1)) where
   -- one of one digit
-  pub aligned-small : n < 10 → rightAligned width n ≡ padded left [] ++ (lastDigit n ∷ [])
+  pub aligned-small : n < 10 → rightAligned width n ≡ padded left (lastDigit n ∷ [])
   unfolding rightAligned
-  aligned-small h = rw (length-small n h, decimal-small n h, ← e) (sym (append-assoc (replicate left space) [] (lastDigit n ∷ [])))
+  aligned-small h = rw (length-small n h, decimal-small n h, ← e) refl
 
   -- one of more: its tenth, and its last digit
   pub aligned-more : 10 ≤ n → rightAligned width n ≡ rightAligned left (n / 10) ++ (lastDigit n ∷ [])
@@ -49,8 +49,8 @@ module _ (width left n : ℕ) (e : left ≡ max 1 (width - 1)) where
       rw (length-more n h, decimal-more n h, same)
       (sym (append-assoc (replicate (max 1 (left - length (decimal (n / 10)))) space) (decimal (n / 10)) (lastDigit n ∷ [])))
 
-  pub length-aligned-small : n < 10 → length (rightAligned width n) ≡ length (padded left []) + 1
-  length-aligned-small h = ap length (aligned-small h) ∙ length-append (padded left []) (lastDigit n ∷ [])
+  pub length-aligned-small : n < 10 → length (rightAligned width n) ≡ left + 1
+  length-aligned-small h = ap length (aligned-small h) ∙ length-padded left (lastDigit n ∷ [])
 
   pub length-aligned-more : 10 ≤ n → length (rightAligned width n) ≡ length (rightAligned left (n / 10)) + 1
   length-aligned-more h = ap length (aligned-more h) ∙ length-append (rightAligned left (n / 10)) (lastDigit n ∷ [])

@@ -1,6 +1,7 @@
 // The program `totals`: a recording on standard input, a table of the verdicts on each variable on standard output, at its end and, if a number is
 // given, after every so many accepted records.
 mod argument;
+mod running;
 mod showing;
 mod sums;
 mod table;
@@ -8,28 +9,22 @@ mod table;
 use argument::every_of;
 use checker::begin;
 use input::PIECE;
-use input::next_piece;
-use input::no_piece;
 use libc::STDERR_FILENO;
-use libc::STDIN_FILENO;
 use report::DIGITS;
 use report::HELD_MOST;
 use report::LINE_ROOM;
 use report::REFUSED;
-use report::report_piece;
+use running::run;
 use showing::show;
-use showing::show_due;
-use text::Progress;
 use theory::CLOCK_CELLS;
 use theory::CONTROL_CELLS;
-use theory::COUNT;
 use theory::HISTORY_CELLS;
 
 // Memory for the report of a piece, which is thrown away: the totals are what the records leave in the control table.
 const REPORT: usize = LINE_ROOM * PIECE;
 
-// Reads the recording line by line and writes its tables, each at once, so that nothing that is ready waits for more input.
-fn run(every: u32) {
+// Runs over the recording from fresh tables, and writes the table of its end.
+fn tabulate(every: u32) {
     let mut control = [0u32; CONTROL_CELLS];
     let mut last = [0u32; HISTORY_CELLS];
     let mut clocks = [0u32; CLOCK_CELLS];
@@ -38,42 +33,17 @@ fn run(every: u32) {
     let mut report = [0u8; REPORT];
     let mut held = [0u8; HELD_MOST];
     let mut block = io::large_buffer();
-    let mut piece = no_piece();
-    let mut now = Progress {
-        lines: 0,
-        held: 0,
-        at: 0,
-    };
-    // A proved loop has to end, and nothing says that an input does: it counts turns that no run uses up.
-    let mut more = true;
-    let mut turns = u64::MAX;
-    while turns > 0 && more {
-        piece = next_piece(
-            STDIN_FILENO,
-            &mut block,
-            piece,
-            true,
-            now.held > 0,
-            b"totals: the input cannot be read\n",
-        );
-        let from = piece.from;
-        let end = piece.end;
-        let before = control[COUNT];
-        let read = report_piece(
-            &mut report,
-            &block[from..end],
-            &mut held,
-            now,
-            &mut control,
-            &mut last,
-            &mut clocks,
-            &mut fullclocks,
-        );
-        now = show_due(&control, every, before, read);
-        more = piece.more && now.at < REFUSED;
-        turns -= 1;
-    }
-    if now.at < REFUSED {
+    let ended = run(
+        every,
+        &mut report,
+        &mut held,
+        &mut block,
+        &mut control,
+        &mut last,
+        &mut clocks,
+        &mut fullclocks,
+    );
+    if ended.at < REFUSED {
         show(&control, every);
     }
 }
@@ -93,7 +63,7 @@ fn say_usage() {
 
 fn main() {
     if os::arg_count() < 2 {
-        run(0);
+        tabulate(0);
         return;
     }
     let mut word = [0u8; DIGITS];
@@ -103,5 +73,5 @@ fn main() {
         say_usage();
         return;
     }
-    run(every);
+    tabulate(every);
 }

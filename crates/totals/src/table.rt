@@ -6,7 +6,7 @@ use crate::sums::nothing_yet;
 use checker::is_under;
 use checker::skipped;
 use checker::totals_of;
-use report::put_digit;
+use report::last_digit;
 use theory::Control;
 use theory::Totals;
 use theory::VARIABLES;
@@ -66,12 +66,12 @@ fn put_aligned(out: &mut [u8], at: usize, width: usize, n: u64) -> usize
     ensures { λ r. ⌜ Wrote (now (out .entry)) at (rightAligned width n) (now (out .exit)) r ⌝ }
 {
     let left = beside_digit(width);
+    let last = [last_digit(n)];
     if n < 10 {
-        let only = put_padded(out, at, left, b"");
-        return put_digit(out, only, n);
+        return put_padded(out, at, left, &last);
     }
-    let last = put_aligned(out, at, left, n / 10);
-    put_digit(out, last, n)
+    let to = put_aligned(out, at, left, n / 10);
+    put_padded(out, to, 0, &last)
 }
 
 // The counts of a line, and LF.
