@@ -58,12 +58,12 @@ kept-other k t n number last e = ap (λ (l : List ℕ). cond (eqb k (kind fresh)
 -- The kinds of access by their numbers among them, and by the numbers of their kinds: what holds of each is tried out
 
 -- each is over the variables
-series-tried : anyBelow (length kinds) (λ k. not (not (accesses k) || eqb (kindSeries k) variables)) ≡ false
+access-series-tried : anyBelow (length kinds) (λ k. not (not (accesses k) || eqb (kindSeries k) variables)) ≡ false
 unfolding turns
-series-tried = refl
+access-series-tried = refl
 
 pub access-series : (k : ℕ) → accesses k ≡ true → kindSeries k ≡ variables
-access-series k e = eqb-true (kindSeries k) variables (each-access-kind (λ k. eqb (kindSeries k) variables) series-tried k e)
+access-series k e = eqb-true (kindSeries k) variables (each-access-kind (λ k. eqb (kindSeries k) variables) access-series-tried k e)
 
 -- its number among those that ask is that of its kind there
 asker-tried : anyBelow (length kinds) (λ k. not (not (accesses k) || eqb (kind (asker (askAt k))) k)) ≡ false

@@ -19,8 +19,8 @@ module _ (c : ℕ → Bool) (s : ℕ → ℕ) (w x : ℕ) where
   storeAgain a l = set l (s (cond (c a) a w)) x
 
   -- in either order
-  either-order : (l : List ℕ) (i j : ℕ) → set (set l i x) j x ≡ set (set l j x) i x
-  either-order l i j = decided (equal i j)
+  any-order : (l : List ℕ) (i j : ℕ) → set (set l i x) j x ≡ set (set l j x) i x
+  any-order l i j = decided (equal i j)
     where
       decided : {b : Bool} → Reflects (i ≡ j) b → set (set l i x) j x ≡ set (set l j x) i x
       decided (right q) = rw q refl
@@ -33,7 +33,7 @@ module _ (c : ℕ → Bool) (s : ℕ → ℕ) (w x : ℕ) where
   same-with-w (suc n) l = decided (c n) (turns n storeAgain l) (turns n storeOnce l) (same-with-w n l)
     where
       decided : (b : Bool) (p q : List ℕ) → set p (s w) x ≡ set q (s w) x → set (set p (s (cond b n w)) x) (s w) x ≡ set (cond b (set q (s n) x) q) (s w) x
-      decided true p q e = either-order p (s n) (s w) ∙ ap (λ (l : List ℕ). set l (s n) x) e ∙ sym (either-order q (s n) (s w))
+      decided true p q e = any-order p (s n) (s w) ∙ ap (λ (l : List ℕ). set l (s n) x) e ∙ sym (any-order q (s n) (s w))
       decided false p q e = set-set p (s w) x x ∙ e
 
   -- and a store at w after them changes nothing, where one of them is that
@@ -52,7 +52,7 @@ module _ (c : ℕ → Bool) (s : ℕ → ℕ) (w x : ℕ) where
 
   pub stored-again : c w ≡ true → (n : ℕ) (l : List ℕ) → w < n → turns n storeAgain l ≡ turns n storeOnce l
   stored-again e n l h =
-      sym (is-stored storeAgain (λ a l. either-order l (s (cond (c a) a w)) (s w)) (λ l. rw e refl) n l h)
+      sym (is-stored storeAgain (λ a l. any-order l (s (cond (c a) a w)) (s w)) (λ l. rw e refl) n l h)
       ∙ same-with-w n l
       ∙ is-stored storeOnce once-commutes (λ l. rw e refl) n l h
     where
@@ -60,5 +60,5 @@ module _ (c : ℕ → Bool) (s : ℕ → ℕ) (w x : ℕ) where
       once-commutes a l = decided (c a)
         where
           decided : (b : Bool) → set (cond b (set l (s a) x) l) (s w) x ≡ cond b (set (set l (s w) x) (s a) x) (set l (s w) x)
-          decided true = either-order l (s a) (s w)
+          decided true = any-order l (s a) (s w)
           decided false = refl
