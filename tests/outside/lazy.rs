@@ -559,7 +559,7 @@ fn run_endings(tally: &mut Tally) {
             Op::Join => 2,
             _ => 5,
         };
-        let expected = if ["read", "write", "bump"].contains(word) { [0, 1, 1, 2] } else { [0; 4] };
+        let expected = if oracle::is_access(*op) { [0, 1, 1, 2] } else { [0; 4] };
         expect(tally, &format!("ends in a {word}"), &short(&format!("{before}{word} 1 {on}")), expected);
     }
     // The task of a mark is not looked at.
@@ -655,7 +655,7 @@ fn run_full(tally: &mut Tally) {
 fn run_between(tally: &mut Tally) {
     let reads = ["op=read task=0 on=5", "op=read task=1 on=5"];
     for middle in short_texts(&[&BETWEEN[..], &reads].concat()) {
-        for word in ["read", "write", "bump"] {
+        for (word, ..) in OPS.iter().filter(|known| oracle::is_access(known.2)) {
             let text = format!("op=start task=0 on=1\nop=write task=0 on=5\n{middle}op={word} task=1 on=5\n");
             let list = lend(&feeding::records(text.as_bytes()));
             let (expected, _) = *beginnings(tally, &list).last().unwrap();

@@ -27,20 +27,42 @@ pub enum Op {
 
 use Op::*;
 
-/// The ops: word, kind number, the highest number of the series that `on` belongs to.
-pub const OPS: &[(&str, u8, Op, u32)] = &[
-    ("read", 0, Read, 63),
-    ("write", 1, Write, 63),
-    ("take", 2, Take, 31),
-    ("give", 3, Give, 31),
-    ("look", 4, Look, 31),
-    ("set", 5, Set, 31),
-    ("start", 6, Start, 15),
-    ("join", 7, Join, 15),
-    ("fresh", 9, Fresh, 63),
-    ("miss", 10, Miss, 31),
-    ("bump", 11, Bump, 63),
-    ("owned", 12, Owned, 0),
+/// The series that a number belongs to. They are separate, so that semaphore 3 is not flag 3.
+#[derive(Clone, Copy, PartialEq, Eq, Debug)]
+pub enum Series {
+    Task,
+    Semaphore,
+    Flag,
+    Variable,
+    Profile,
+}
+
+impl Series {
+    /// Its highest number.
+    fn last(self) -> u32 {
+        match self {
+            Series::Task => 15,
+            Series::Semaphore | Series::Flag => 31,
+            Series::Variable => 63,
+            Series::Profile => 0,
+        }
+    }
+}
+
+/// The ops: word, kind number, the series that `on` belongs to.
+pub const OPS: &[(&str, u8, Op, Series)] = &[
+    ("read", 0, Read, Series::Variable),
+    ("write", 1, Write, Series::Variable),
+    ("take", 2, Take, Series::Semaphore),
+    ("give", 3, Give, Series::Semaphore),
+    ("look", 4, Look, Series::Flag),
+    ("set", 5, Set, Series::Flag),
+    ("start", 6, Start, Series::Task),
+    ("join", 7, Join, Series::Task),
+    ("fresh", 9, Fresh, Series::Variable),
+    ("miss", 10, Miss, Series::Semaphore),
+    ("bump", 11, Bump, Series::Variable),
+    ("owned", 12, Owned, Series::Profile),
 ];
 
 /// The kind number of a loss mark.
@@ -163,8 +185,8 @@ fn named(mask: u32) -> impl Iterator<Item = u32> {
     (0..TASKS).filter(move |task| mask >> task & 1 == 1)
 }
 
-/// The highest number of the series that an op's `on` belongs to.
-fn highest(op: Op) -> u32 {
+/// The series that an op's `on` belongs to.
+pub fn series(op: Op) -> Series {
     OPS.iter().find(|known| known.2 == op).unwrap().3
 }
 
@@ -178,7 +200,7 @@ fn refusal(so_far: &Accepted, record: Option<Record>) -> Option<u32> {
         Some(Record::Act(Act { op, task, on })) => {
             if task > 15 {
                 Some(2)
-            } else if on > highest(op) {
+            } else if on > series(op).last() {
                 Some(3)
             } else if full {
                 Some(5)

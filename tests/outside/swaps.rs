@@ -7,7 +7,7 @@ use crate::examples::text;
 use crate::feeding::{self, Lent, Reckoning};
 use crate::generate::{changing_shape, recording, shape, Random, Shape};
 use crate::known::Folder;
-use crate::oracle::{self, Act, Op, Record, Totals, LOST, OPS, TASKS};
+use crate::oracle::{self, Act, Op, Record, Series, Totals, LOST, OPS, TASKS};
 use crate::tally::Tally;
 use crate::{entry, on_threads, program, streaming, THREADS};
 use std::collections::{BTreeMap, BTreeSet};
@@ -69,9 +69,10 @@ fn named(record: &Record) -> Vec<u32> {
     }
 }
 
-/// The number that both have in a series, by these ops.
-fn common(a: &Record, b: &Record, ops: &[Op]) -> bool {
-    matches!((act(a), act(b)), (Some(a), Some(b)) if ops.contains(&a.op) && ops.contains(&b.op) && a.on == b.on)
+/// Both have the same number of a series.
+fn common(a: &Record, b: &Record, of: Series) -> bool {
+    let has = |act: &Act| oracle::series(act.op) == of;
+    matches!((act(a), act(b)), (Some(a), Some(b)) if has(a) && has(b) && a.on == b.on)
 }
 
 impl Premise {
@@ -81,11 +82,11 @@ impl Premise {
             Marks => act(a).is_some() && act(b).is_some(),
             Acting => [(a, b), (b, a)].iter().all(|(one, other)| !named(one).iter().any(|task| acting(other) == Some(*task))),
             Named => !named(a).iter().any(|task| named(b).contains(task)),
-            Semaphores => !common(a, b, &[Op::Take, Op::Give, Op::Miss]),
-            Flags => !common(a, b, &[Op::Look, Op::Set]),
+            Semaphores => !common(a, b, Series::Semaphore),
+            Flags => !common(a, b, Series::Flag),
             Variables => {
                 let both = |op| act(a).unwrap().op == op && act(b).unwrap().op == op;
-                !common(a, b, &[Op::Read, Op::Write, Op::Bump, Op::Fresh]) || both(Op::Read) || both(Op::Bump)
+                !common(a, b, Series::Variable) || both(Op::Read) || both(Op::Bump)
             }
             Owned => [a, b].iter().all(|record| act(record).is_none_or(|act| act.op != Op::Owned)),
         }
