@@ -34,7 +34,7 @@ ghost use Prim.Native.Nat.{_<_, _^_};
 ghost use lib.Dec.{leb, eqb};
 ghost use lib.ListN.{length};
 ghost use Rattle.theory.specs.order.Limits.{tasks, semaphores, variables, records};
-ghost use Rattle.theory.specs.order.Recording.{lossMark, kinds, kindSeries};
+ghost use Rattle.theory.specs.order.Recording.{lossMark, kinds, seriesSize};
 ghost use Rattle.theory.proofs.acceptance.Rows.{OfAct};
 ghost use Rattle.theory.specs.fillings.Completion.{names};
 ghost use Rattle.theory.specs.acceptance.Table.{anyBelow, firstRow};
@@ -63,7 +63,7 @@ pub(crate) fn no_variable(on: u32) -> bool
 // There is no such semaphore, or, where a flag is looked at or set, no such flag.
 pub(crate) fn no_object(kind: u8, on: u32) -> bool
     requires { ⌜ HandsOver kind ⌝ }
-    ensures { λ r. ⌜ r ≡ leb (kindSeries kind) on ⌝ }
+    ensures { λ r. ⌜ r ≡ leb (seriesSize kind) on ⌝ }
 {
     match kind {
         LOOK => FLAGS <= on,
@@ -75,7 +75,7 @@ pub(crate) fn no_object(kind: u8, on: u32) -> bool
 // Row 3: the number is none of the kind's series.
 fn outside(kind: u8, on: u32) -> bool
     requires { ⌜ kind < length kinds ⌝ }
-    ensures { λ r. ⌜ r ≡ leb (kindSeries kind) on ⌝ }
+    ensures { λ r. ⌜ r ≡ leb (seriesSize kind) on ⌝ }
 {
     let series = SERIES;
     series[kind as usize] <= on

@@ -3,7 +3,6 @@ use crate::fast_writing::put_eight;
 use crate::fast_writing::put_number;
 use crate::telling::Judged;
 use crate::telling::told_answer;
-use checker::excuse;
 use theory::Answer;
 use theory::Clocks;
 use theory::Control;

@@ -2,10 +2,9 @@
 use mathlib.Core.Path.{_≡_, refl, sym, ap, _∙_}
 use mathlib.Core.Bool.{Bool, true, false, cond, _&&_}
 use mathlib.Core.List.{List, [], _∷_, _++_, append-nil}
-use Prim.Native.Nat.{ℕ, suc, _+_, _*_, _^_, _≤_, _<_}
+use Prim.Native.Nat.{ℕ, _+_, _≤_, _<_}
 use native.Mathlib.Numerals.{add-one}
 use native.Mathlib.Omega.{arith}
-use lib.Dec.{eqb}
 use lib.ListN.{length, take, getD, length-append, length-take}
 use lib.Seq.{sets, length-sets, take-suc, take-all}
 use borrow.Author.Tests.{eq-eqb, ne-eqb}
@@ -17,7 +16,7 @@ use Rattle.text.specs.declared.progress.Progress.{Progress}
 use Rattle.text.specs.Lines.{lf, lineRoom}
 use Rattle.text.specs.Wrote.{Wrote}
 use Rattle.text.specs.EntryForm.{entryOf}
-use Rattle.text.specs.Stream.{Pending, pending, heldMost, byteSaid, byteKept, pieceSaid, pieceKept, pendingIn, progressTo}
+use Rattle.text.specs.Stream.{Pending, pending, heldMost, byteSaid, byteKept, pieceSaid, pieceKept, pendingIn}
 use Rattle.text.specs.ReportLines.{refusedEntry}
 use Rattle.text.specs.Entries.{saidForEntry, controlWith, entryReader}
 use Rattle.text.specs.Answers.{PieceFits}

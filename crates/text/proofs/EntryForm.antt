@@ -9,7 +9,7 @@ use native.Mathlib.Omega.{arith}
 use lib.Dec.{ltb, eqb}
 use lib.ListN.{length, take, drop, length-append}
 use lib.Seq.{drop-drop}
-use borrow.Author.Tests.{eqb-true, eq-eqb}
+use borrow.Author.Tests.{eqb-true}
 use Rattle.theory.specs.order.Limits.{tasks, variables, records}
 use Rattle.theory.proofs.basics.Reflects.{Reflects, right, wrong, both, same-as, at-most}
 use Rattle.text.specs.declared.entry.Entry.{Entry}

@@ -5,7 +5,7 @@ use mathlib.Core.List.{List, [], _∷_, _++_, append-assoc}
 use Prim.Native.Nat.{ℕ, zero, suc, _+_, _*_, _/_, _%_, _≤_, _<_}
 use native.Mathlib.Nat.{div-div-eq-div-mul}
 use native.Mathlib.Omega.{arith}
-use lib.ListN.{length, set, getD, length-append}
+use lib.ListN.{length, set, length-append}
 use lib.Seq.{sets, set-set, set-comm}
 use Rattle.text.specs.Bytes.{little}
 use Rattle.text.specs.Printing.{bytes, lastDigits, recordText}

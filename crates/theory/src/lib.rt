@@ -32,6 +32,7 @@ pub use kinds::SET;
 pub use kinds::START;
 pub use kinds::TAKE;
 pub use kinds::WRITE;
+pub use kinds::WRITES;
 pub use limits::ENTRIES_MOST;
 pub use limits::FLAGS;
 pub use limits::RECORDS;

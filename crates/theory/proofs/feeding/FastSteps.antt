@@ -2,7 +2,7 @@
 use mathlib.Core.Path.{_≡_, refl, sym, _∙_, ap}
 use mathlib.Core.Bool.{Bool, true, false, cond, not, _||_}
 use mathlib.Core.List.{List}
-use Prim.Native.Nat.{ℕ, _+_, _%_, _^_, _<_, max}
+use Prim.Native.Nat.{ℕ, _%_, _^_, _<_, max}
 use native.Mathlib.Omega.{arith}
 use borrow.Author.Tests.{eq-eqb, ne-eqb}
 use lib.Dec.{eqb}
@@ -10,7 +10,6 @@ use lib.ListN.{set}
 use Rattle.theory.specs.declared.answer.Answer.{Answer}
 use Rattle.theory.specs.declared.answer.Answer.the-variants.{Accepted, Clear, Race, Doubt}
 use Rattle.theory.specs.declared.numbers.RecordNumber.{RecordNumber}
-use Rattle.theory.specs.declared.state.State.{State}
 use Rattle.theory.specs.order.Limits.{tasks}
 use Rattle.theory.specs.order.Recording.{Op, take, give, look, fresh, kind, lossMark, accesses}
 use Rattle.theory.specs.acceptance.Control.{underIn, controlRefusal, counted}

@@ -10,8 +10,7 @@ use lib.ListN.{length, getD, set, length-set}
 use lib.Seq.{getD-set-same}
 use Rattle.theory.specs.declared.record.Record.{Record}
 use Rattle.theory.specs.tables.Turns.{turns}
-use Rattle.theory.specs.order.Limits.{tasks}
-use Rattle.theory.specs.order.Recording.{Op, read, write, join, fresh, kind, kinds, numberedKind, kindAccesses, accesses, lossMark}
+use Rattle.theory.specs.order.Recording.{read, write, join, fresh, kind, kinds, numberedKind, kindAccesses, accesses, lossMark}
 use Rattle.theory.specs.fillings.Completion.{bit}
 use Rattle.theory.specs.acceptance.Table.{Proper}
 use Rattle.theory.specs.acceptance.Control.{countAt, countIn, updated, controlAfter}

@@ -8,7 +8,7 @@ use borrow.Author.Tests.{eqb-true, ne-eqb, not-true, not-false}
 use lib.Dec.{eqb}
 use lib.ListN.{length, getD, List·getD-eq-default}
 use Rattle.theory.specs.tables.Turns.{turns}
-use Rattle.theory.specs.order.Recording.{Op, kind, series, Kind, of-op, of-mark, kinds, numberedKind, kindOp, kindAccesses, accesses, kindSeries}
+use Rattle.theory.specs.order.Recording.{Op, kind, series, sizeOf, Kind, of-op, of-mark, kinds, numberedKind, kindOp, kindAccesses, accesses, seriesSize}
 use Rattle.theory.specs.acceptance.Table.{anyBelow}
 use Rattle.theory.specs.history.History.{kindClashes}
 use Rattle.theory.proofs.basics.Reflects.{Reflects, right, wrong, at-most}
@@ -64,12 +64,12 @@ same-true false b e = sym (not-true b e)
 -- Series
 
 -- the sizes of the kinds' series as one list, as the code has them
-abbrev pub seriesList : List ℕ
-seriesList = map (λ (x : Kind). series (kindOp x)) kinds
+abbrev pub sizeList : List ℕ
+sizeList = map (λ (x : Kind). sizeOf (series (kindOp x))) kinds
 
-series-tried : anyBelow (length kinds) (λ k. not (eqb (getD seriesList k 0) (kindSeries k))) ≡ false
+sizes-tried : anyBelow (length kinds) (λ k. not (eqb (getD sizeList k 0) (seriesSize k))) ≡ false
 unfolding turns
-series-tried = refl
+sizes-tried = refl
 
-pub series-at : (k : ℕ) → k < length kinds → getD seriesList k 0 ≡ kindSeries k
-series-at k h = eqb-true (getD seriesList k 0) (kindSeries k) (not-false _ (none-below (length kinds) (λ k. not (eqb (getD seriesList k 0) (kindSeries k))) series-tried k h))
+pub size-at : (k : ℕ) → k < length kinds → getD sizeList k 0 ≡ seriesSize k
+size-at k h = eqb-true (getD sizeList k 0) (seriesSize k) (not-false _ (none-below (length kinds) (λ k. not (eqb (getD sizeList k 0) (seriesSize k))) sizes-tried k h))

@@ -12,7 +12,7 @@ use lib.ListN.{length, getD, set}
 use lib.Seq.{getD-set-other}
 use Rattle.theory.specs.declared.record.Record.{Record}
 use Rattle.theory.specs.order.Limits.{semaphores, records}
-use Rattle.theory.specs.order.Recording.{Op, Event, act, lost, kind, kindSeries, lossMark, eventOf, _is_}
+use Rattle.theory.specs.order.Recording.{Op, Event, act, lost, kind, seriesSize, lossMark, eventOf, _is_}
 use Rattle.theory.specs.acceptance.Owning.{isOwned, under, isBy}
 use Rattle.theory.specs.acceptance.Table.{Fitting, Proper, standing, refusal, appendUnless, extended, recording}
 use Rattle.theory.specs.acceptance.Control.{countAt, profileAt, underIn, holderAt, giverAt, gaveIn, skippedAt, skippedIn, skipsIn, takenBy, givenBy, counted, updated, controlAfter}
@@ -50,7 +50,7 @@ skips-same : {es : List Event} {control : List ℕ} {r : Record} → ExactContro
 skips-same {es} {control} x (an-act o t n a) = rw (event-act o t n) (decided (equal (kind o) (kind Op.take)))
   where
     decided : {b : Bool} → Reflects (kind o ≡ kind Op.take) b → (b && (underIn control && gaveIn control n t)) ≡ (b && isBy (giver es n) t)
-    decided (right q) = take-skips x t n (subst (λ (k : ℕ). n < kindSeries k) q (a .fits .on-fits))
+    decided (right q) = take-skips x t n (subst (λ (k : ℕ). n < seriesSize k) q (a .fits .on-fits))
     decided (wrong d) = refl
 skips-same x (a-mark t n m) = refl
 

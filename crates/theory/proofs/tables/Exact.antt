@@ -9,7 +9,7 @@ use native.Mathlib.Omega.{arith}
 use borrow.Author.Tests.{lt-ltb, ne-eqb}
 use lib.Dec.{T, ltb, eqb, lit<}
 use lib.ListN.{replicate}
-use Rattle.theory.specs.order.Recording.{Op, Event, act, lost, series, kind}
+use Rattle.theory.specs.order.Recording.{Op, Event, act, lost, series, sizeOf, kind}
 use Rattle.theory.specs.fillings.Completion.{bit, Named, Filling, fills}
 use Rattle.theory.specs.tables.Rows.{hub, cell, releasedRow, onward, isReleased, mix, mark, actedRow, tableRows}
 use Rattle.theory.specs.order.Limits.{tasks, flags}
@@ -46,7 +46,7 @@ pub record ExactActed (w : Filling) (es : List Event) (width : ℕ) (b : List �
 
 pub exact-act : {P : ℕ → Type 0} {j : ℕ → ℕ → ℕ} {w : Filling} {Chosen : Event → List Event → Type 0} {Stays : Type 0} {es : List Event} {o : Op} {t n width i c : ℕ} {b : List ℕ} →
     Joins j P → ((e : Event) (after : List Event) → Chosen e (after ++ (act o t n ∷ [])) ↔ (Stays × Chosen e after)) →
-    ((u : ℕ) → Releases (act o t n) (due u) → (u ≡ t) ⊎ (¬ Acted w u es)) → t < tasks → n < series o → c < width →
+    ((u : ℕ) → Releases (act o t n) (due u) → (u ≡ t) ⊎ (¬ Acted w u es)) → t < tasks → n < sizeOf (series o) → c < width →
     Sized width b → ExactActed w (es ++ (act o t n ∷ [])) width b → Ended w Chosen es i → Owned P w Chosen Stays es (act o t n) t width b i c →
     Exact P w Chosen (es ++ (act o t n ∷ [])) width (onward j width (fills w) (kind o) t n b) i c
 exact-act {w = w} {es = es} {o = o} {t = t} {n = n} {width = width} {b = b} joins keeps starts ht hn hc sized flagged ended owned =

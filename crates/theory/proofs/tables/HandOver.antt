@@ -3,12 +3,12 @@ use mathlib.Core.Path.{_≡_, refl, sym, _∙_, subst}
 use mathlib.Core.Bool.{Bool, true, false, cond, _||_, true≢false}
 use mathlib.Core.Logic.{_≢_}
 use mathlib.Core.List.{List}
-use Prim.Native.Nat.{ℕ, _+_, _≤_, _<_}
+use Prim.Native.Nat.{ℕ, _≤_, _<_}
 use native.Mathlib.Omega.{arith}
 use borrow.Author.Tests.{lt-ltb, le-ltb}
 use lib.Dec.{eqb}
 use Rattle.theory.specs.order.Limits.{tasks, semaphores}
-use Rattle.theory.specs.order.Recording.{take, give, look, set, kind, lossMark, accesses, kindSeries}
+use Rattle.theory.specs.order.Recording.{take, give, look, set, kind, lossMark, accesses, seriesSize}
 use Rattle.theory.specs.acceptance.Table.{Fitting}
 use Rattle.theory.specs.tables.Rows.{semaphoreRow, flagRow, hub, joinRow, flow, onward}
 use Rattle.theory.proofs.basics.Reflects.{Reflects, right, wrong, equal}
@@ -49,7 +49,7 @@ hand-no-access a-look = refl
 hand-no-access a-set = refl
 
 -- it is over the flags or over the semaphores
-pub over-semaphores : {k : ℕ} → HandsOver k → k ≢ kind look → k ≢ kind set → kindSeries k ≡ semaphores
+pub over-semaphores : {k : ℕ} → HandsOver k → k ≢ kind look → k ≢ kind set → seriesSize k ≡ semaphores
 over-semaphores a-take l s = refl
 over-semaphores a-give l s = refl
 over-semaphores a-look l s = absurd (l refl)

@@ -14,7 +14,7 @@ use Rattle.theory.specs.declared.record.Record.{Record}
 use Rattle.theory.specs.order.Limits.{variables, records}
 use Rattle.theory.specs.order.Recording.{Event, act, lost, kind, eventOf, isAccess}
 use Rattle.theory.specs.acceptance.Table.{standing, refusal, appendUnless, extended, recording}
-use Rattle.theory.specs.acceptance.Control.{counted, controlAfter}
+use Rattle.theory.specs.acceptance.Control.{controlAfter}
 use Rattle.theory.specs.verdicts.Verdict.{Verdict, Race, Clear, Doubt}
 use Rattle.theory.specs.verdicts.Search.{judge}
 use Rattle.theory.specs.tables.Reckonings.{indicator}

@@ -3,7 +3,6 @@ use mathlib.Core.Path.{_≡_, refl, sym, ap, _∙_}
 use mathlib.Core.Bool.{true, false}
 use mathlib.Core.List.{List}
 use Prim.Native.Nat.{ℕ}
-use lib.ListN.{set}
 use borrow.Author.Tests.{ne-eqb}
 use Rattle.theory.specs.order.Recording.{accesses}
 use Rattle.theory.specs.tables.Rows.{noteActed}

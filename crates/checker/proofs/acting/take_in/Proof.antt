@@ -1,5 +1,5 @@
 -- The calls' equations put together.
-use mathlib.Core.Path.{_≡_, sym, _∙_}
+use mathlib.Core.Path.{sym, _∙_}
 use Prim.Native.Nat.{_%_, _^_}
 use Rattle.theory.specs.order.Limits.{tasks}
 use Rattle.theory.proofs.history.Accesses.{kept-access}

@@ -1,6 +1,5 @@
 -- By the one test.
 use mathlib.Core.Path.{refl}
-use borrow.Author.Needs.{needs}
 use Rattle.checker.proofs.masks.unordered.Statement.{statement}
 use Rattle.checker.proofs.masks.unordered.Tie as tie
 
