@@ -37,10 +37,11 @@ ghost use Rattle.theory.specs.order.Limits.{tasks, semaphores, variables, recor
 ghost use Rattle.theory.specs.order.Recording.{lossMark, kinds, seriesSize};
 ghost use Rattle.theory.proofs.acceptance.Rows.{OfAct};
 ghost use Rattle.theory.specs.fillings.Completion.{names};
-ghost use Rattle.theory.specs.acceptance.Table.{anyBelow, firstRow};
+ghost use Rattle.theory.specs.basics.Turns.{anyBelow};
+ghost use Rattle.theory.specs.acceptance.Table.{firstRow};
 ghost use Rattle.theory.specs.acceptance.Control.{liveIn, unseenIn, countIn, underIn, heldIn, holdsIn, controlStanding, controlRefusal};
 ghost use Rattle.theory.proofs.acceptance.Plain.{commonRows};
-ghost use Rattle.theory.proofs.tables.HandOver.{HandsOver};
+ghost use Rattle.theory.proofs.tables.HandOver.{ObjectKind};
 
 // The last number of a kind, and the last mask.
 const LAST_KIND: u8 = KINDS - 1;
@@ -62,7 +63,7 @@ pub(crate) fn no_variable(on: u32) -> bool
 
 // There is no such semaphore, or, where a flag is looked at or set, no such flag.
 pub(crate) fn no_object(kind: u8, on: u32) -> bool
-    requires { ⌜ HandsOver kind ⌝ }
+    requires { ⌜ ObjectKind kind ⌝ }
     ensures { λ r. ⌜ r ≡ leb (seriesSize kind) on ⌝ }
 {
     match kind {
@@ -82,7 +83,7 @@ fn outside(kind: u8, on: u32) -> bool
 }
 
 // Row 5: no further record is taken.
-fn full(control: &Control) -> bool
+fn no_room(control: &Control) -> bool
     ensures { λ r. ⌜ r ≡ leb records (countIn (now (control .entry))) ⌝ }
 {
     RECORDS <= control[COUNT]
@@ -184,7 +185,7 @@ fn mark_refusal(control: &Control, r: Record) -> u32
     if no_mask(r.on) {
         return 4;
     }
-    if full(control) {
+    if no_room(control) {
         return 5;
     }
     if names_any_dead(control, r.on) {
@@ -206,7 +207,7 @@ pub(crate) fn common_refusal(control: &Control, task: u32, outside: bool) -> u32
     if outside {
         return 3;
     }
-    if full(control) {
+    if no_room(control) {
         return 5;
     }
     if !is_live(control, Task(task)) {

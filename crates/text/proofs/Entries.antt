@@ -13,5 +13,5 @@ entries-held =
       same-next = λ control l. ap (controlWith control) (held-same entryOf long-entry l);
     }
 
-pub entries-cut : CutsAlike entryReader
-entries-cut = cuts-alike entryReader entries-held
+pub entry-reader-cuts : CutsAlike entryReader
+entry-reader-cuts = cuts-alike entryReader entries-held

@@ -47,10 +47,10 @@ pub access-room : (at number task variable : ℕ) (verdict : List ℕ) (partner 
 access-room at number task variable verdict partner h t v w = omega (arith, access-line-fits number task variable verdict partner t v w)
 
 -- a word of at most five letters
-pub word-fits : (v : Verdict) → length (wordFor v) ≤ 5
-word-fits Race = omega arith
-word-fits Clear = omega arith
-word-fits Doubt = omega arith
+pub verdict-word-fits : (v : Verdict) → length (wordFor v) ≤ 5
+verdict-word-fits Race = omega arith
+verdict-word-fits Clear = omega arith
+verdict-word-fits Doubt = omega arith
 
 -- a line of the report, whatever the answer. With tasks and variables of eight digits an access would take 66 bytes; a line of the text form says at most five.
 pub report-line-fits : (line : ℕ) (r : Record) (a : Answer) → line < 2 ^ 64 → refusalNumber (meaning a) < 2 ^ 32 → r .task < 10 ^ digits → r .on < 10 ^ digits
@@ -60,4 +60,4 @@ report-line-fits line r a h n t v = fits (meaning a) n
     fits : (m : Meaning) → refusalNumber m < 2 ^ 32 → length (lineFor line r m) ≤ 64
     fits (refuses number) n = refused-line-fits line number h n
     fits (takes number) n = omega arith
-    fits (judges number verdict partner) n = access-line-fits number (r .task) (r .on) (wordFor verdict) partner t v (word-fits verdict)
+    fits (judges number verdict partner) n = access-line-fits number (r .task) (r .on) (wordFor verdict) partner t v (verdict-word-fits verdict)

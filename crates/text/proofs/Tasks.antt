@@ -7,7 +7,7 @@ use native.Mathlib.Omega.{arith}
 use lib.Dec.{eqb, ltb}
 use lib.ListN.{length, take, drop, take-append-drop}
 use borrow.Author.Tests.{eqb-true}
-use Rattle.theory.specs.tables.Turns.{turns}
+use Rattle.theory.specs.basics.Turns.{turns}
 use Rattle.text.specs.Bytes.{startsWith, isWord, little}
 use Rattle.text.specs.LineForm.{taskName, space}
 use Rattle.text.specs.Places.{StandsAt, FieldAt, taskEnding}

@@ -25,7 +25,7 @@ use Rattle.text.specs.TextDemands.{TextForm, LineGot, no-record, refused
 use Rattle.text.proofs.Lines.{lines-fit}
 use Rattle.text.proofs.RoundTrip.{text-taken, only-text, only-sayable}
 use Rattle.text.proofs.Excused.{NoEntries, said-plain, none-after, none-fresh}
-use Rattle.text.proofs.Lengths.{refused-line-fits, access-line-fits, word-fits}
+use Rattle.text.proofs.Lengths.{refused-line-fits, access-line-fits, verdict-word-fits}
 
 -- A line
 
@@ -70,7 +70,7 @@ got-fits {n} (refused {k = k} f e l g o) h = refused-line-fits n k h (omega arit
 got-fits (judged {r = r} {v = v} f z a x) h =
     let t = f .sayable .task-short in
     let o = f .sayable .on-short in
-    access-line-fits _ (r .task) (r .on) (wordFor v) _ (omega arith) (omega arith) (word-fits v)
+    access-line-fits _ (r .task) (r .on) (wordFor v) _ (omega arith) (omega arith) (verdict-word-fits v)
 got-fits (taken f z a x) h = omega arith
 
 answered-fits : {n : ℕ} {s : State} {lines : List (List ℕ)} {report : List ℕ} → LinesGot n s lines report → n + length lines ≤ 2 ^ 64 → length report ≤ 64 * length lines

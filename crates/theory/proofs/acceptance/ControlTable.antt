@@ -13,10 +13,10 @@ use lib.Seq.{getD-set-same, getD-set-other}
 use borrow.Author.Tests.{le-leb, lt-ltb, ne-eqb}
 use Rattle.theory.specs.declared.record.Record.{Record}
 use Rattle.theory.specs.order.Limits.{tasks, semaphores}
-use Rattle.theory.specs.tables.Turns.{turns}
+use Rattle.theory.specs.basics.Turns.{turns, anyBelow}
 use Rattle.theory.specs.order.Recording.{Op, Event, act, lost, kind, kinds, lossMark, seriesSize}
 use Rattle.theory.specs.fillings.Completion.{names}
-use Rattle.theory.specs.acceptance.Table.{Phase, isLive, isUnseen, nextPhase, laterPhase, phase, Fitting, hasKind, anyBelow, Standing, _when_, firstRow, standingRefusal, standing, refusal}
+use Rattle.theory.specs.acceptance.Table.{Phase, isLive, isUnseen, nextPhase, laterPhase, phase, Fitting, hasKind, Standing, _when_, firstRow, standingRefusal, standing, refusal}
 use Rattle.theory.specs.acceptance.Owning.{isOwned, under, Who, nobody, by, isSomebody, isBy, nextHolder, whoSince, holder}
 use Rattle.theory.specs.skipping.Skipping.{nextGiver, giver}
 use Rattle.theory.specs.tables.Counters.{raise}

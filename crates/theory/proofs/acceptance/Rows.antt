@@ -11,10 +11,10 @@ use lib.ListN.{length}
 use borrow.Author.Tests.{lt-leb, ltb-true, leb-true, leb-false, ne-eqb, eqb-false, not-false}
 use Rattle.theory.specs.declared.record.Record.{Record}
 use Rattle.theory.specs.order.Limits.{tasks, records}
-use Rattle.theory.specs.tables.Turns.{turns}
+use Rattle.theory.specs.basics.Turns.{turns, anyBelow}
 use Rattle.theory.specs.order.Recording.{take, give, start, join, owned, kind, kinds, lossMark, seriesSize}
 use Rattle.theory.specs.fillings.Completion.{bit, names}
-use Rattle.theory.specs.acceptance.Table.{hasKind, anyBelow, Standing, Row, _when_, rows, lastRow, rowNumbers, isOneOf, OfRow, firstRow, standingRefusal, Fitting}
+use Rattle.theory.specs.acceptance.Table.{hasKind, Standing, Row, _when_, rows, lastRow, rowNumbers, isOneOf, OfRow, firstRow, standingRefusal, Fitting}
 use Rattle.theory.proofs.basics.Reflects.{Reflects, right, wrong, equal}
 
 -- The series of the kinds

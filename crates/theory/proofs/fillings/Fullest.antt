@@ -15,15 +15,15 @@ use Rattle.theory.proofs.order.Carry.{Node, due, semaphore, Acquires, o
 -- Definition
 
 -- some filler of the mark acquires the node, or releases to it
-abbrev pub Acquired : ℕ → Node → Type 0
-Acquired mask n = (g : Event) × Filler mask g × Acquires n g
+abbrev pub FillerAcquires : ℕ → Node → Type 0
+FillerAcquires mask n = (g : Event) × Filler mask g × Acquires n g
 
-abbrev pub Released : ℕ → Node → Type 0
-Released mask n = (g : Event) × Filler mask g × Releases g n
+abbrev pub FillerReleases : ℕ → Node → Type 0
+FillerReleases mask n = (g : Event) × Filler mask g × Releases g n
 
 pub data Mix (mask : ℕ) : Node → Node → Type 0 where
   same : {n : Node} → Mix mask n n
-  mixed : {n m : Node} → Acquired mask n → Released mask m → Mix mask n m
+  mixed : {n m : Node} → FillerAcquires mask n → FillerReleases mask m → Mix mask n m
 
 -- Any filling stays inside `Mix`
 
@@ -72,12 +72,12 @@ carry-round {mask} {t} {n} {m} named c =
     carry-in-turn tasks (λ u. partIf (names mask u) u) t (named-task named)
     (subst (λ (b : Bool). Carry n (partIf b t) m) (sym (is-true (by-test (names mask t)) (named .named))) c)
 
-acquired-round : {mask : ℕ} {n : Node} → Acquired mask n → Carry n (round mask) hub
+acquired-round : {mask : ℕ} {n : Node} → FillerAcquires mask n → Carry n (round mask) hub
 unfolding hub part
 acquired-round (_, filler l named h, acquires) =
     carry-round named (carry-append (acquires-part l h acquires) (releases-part {o = give} tt (lit< tt) by-give))
 
-released-round : {mask : ℕ} {n : Node} → Released mask n → Carry hub (round mask) n
+released-round : {mask : ℕ} {n : Node} → FillerReleases mask n → Carry hub (round mask) n
 unfolding hub part
 released-round (_, filler l named h, releases) =
     carry-round named (carry-append (acquires-part {o = take} tt (lit< tt) by-take) (releases-part l h releases))

@@ -9,10 +9,10 @@ use borrow.Author.Tests.{eqb-true, ne-eqb, ltb-true, leb-false}
 use lib.Dec.{eqb, ltb, leb, lit<}
 use lib.ListN.{length, getD, set}
 use Rattle.theory.specs.order.Limits.{tasks, variables}
-use Rattle.theory.specs.tables.Turns.{turns}
+use Rattle.theory.specs.basics.Turns.{turns, anyBelow}
 use Rattle.theory.specs.order.Recording.{write, fresh, kind, Kind, of-op, kinds, numberedKind, kindAccesses, accesses, seriesSize}
 use Rattle.theory.specs.order.Path.{rule, clashes}
-use Rattle.theory.specs.acceptance.Table.{Fitting, anyBelow}
+use Rattle.theory.specs.acceptance.Table.{Fitting}
 use Rattle.theory.specs.history.History.{askers, asker, askAt, kindClashes, slot, underEach, emptied, withAccess, lastAfter}
 use Rattle.theory.proofs.basics.Reflects.{Reflects, right, wrong, equal}
 use Rattle.theory.proofs.acceptance.Rows.{none-below}

@@ -8,7 +8,7 @@ use native.Mathlib.Omega.{arith}
 use lib.Dec.{T}
 use lib.ListN.{length, set, replicate, length-set, length-replicate, getD-replicate}
 use lib.Seq.{getD-set-same, getD-set-other}
-use Rattle.theory.specs.tables.Turns.{turns}
+use Rattle.theory.specs.basics.Turns.{turns}
 use Rattle.theory.specs.order.Recording.{Op, fresh, Event, act, lost, lossMark, Every, no-more, series, sizeOf, kind, numberedKind, isAccess}
 use Rattle.theory.specs.order.Path.{rule, clashes}
 use Rattle.theory.specs.history.History.{askers, asker, kindClashes, slot, slots, lastOf, underEach, emptied, lastAfter}

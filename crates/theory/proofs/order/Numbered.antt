@@ -7,9 +7,8 @@ use native.Mathlib.Omega.{arith}
 use borrow.Author.Tests.{eqb-true, ne-eqb, not-true, not-false}
 use lib.Dec.{eqb}
 use lib.ListN.{length, getD, List·getD-eq-default}
-use Rattle.theory.specs.tables.Turns.{turns}
+use Rattle.theory.specs.basics.Turns.{turns, anyBelow}
 use Rattle.theory.specs.order.Recording.{Op, kind, series, sizeOf, Kind, of-op, of-mark, kinds, numberedKind, kindOp, kindAccesses, accesses, seriesSize}
-use Rattle.theory.specs.acceptance.Table.{anyBelow}
 use Rattle.theory.specs.history.History.{kindClashes}
 use Rattle.theory.proofs.basics.Reflects.{Reflects, right, wrong, at-most}
 use Rattle.theory.proofs.acceptance.Rows.{none-below}

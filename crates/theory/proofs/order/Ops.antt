@@ -11,8 +11,8 @@ use lib.Dec.{T, eqb}
 use lib.ListN.{length, getD}
 use Rattle.theory.specs.order.Limits.{variables}
 use Rattle.theory.specs.order.Recording.{Op, read, write, take, give, look, set, start, join, fresh, miss, bump, owned, Effect, keeps, begins, ends, about, kind, Series, task, semaphore, flag, variable, profile, series, sizeOf, isAccess, lossMark, Kind, of-op, of-mark, kinds, numberedKind, kindOp, opOf, kindAccesses, accesses, seriesSize, eventOf, act, _is_}
-use Rattle.theory.specs.acceptance.Table.{Fitting, anyBelow}
-use Rattle.theory.specs.tables.Turns.{turns}
+use Rattle.theory.specs.basics.Turns.{turns, anyBelow}
+use Rattle.theory.specs.acceptance.Table.{Fitting}
 use Rattle.theory.proofs.acceptance.Rows.{none-below}
 use Rattle.theory.proofs.basics.Reflects.{Reflects, right, wrong, equal, same-as, by-test, is-true}
 

@@ -10,11 +10,10 @@ use lib.Dec.{T, eqb}
 use lib.ListN.{length, getD, set, length-set, replicate, length-replicate, getD-replicate}
 use lib.Seq.{getD-set-same, getD-set-other}
 use Rattle.theory.specs.declared.record.Record.{Record}
-use Rattle.theory.specs.tables.Turns.{turns}
+use Rattle.theory.specs.basics.Turns.{turns, anyBelow}
 use Rattle.theory.specs.order.Limits.{tasks, variables}
 use Rattle.theory.specs.order.Recording.{Op, Event, act, kind, isAccess, eventOf, accesses}
 use Rattle.theory.specs.fillings.Completion.{bit, Named, filling, fills}
-use Rattle.theory.specs.acceptance.Table.{anyBelow}
 use Rattle.theory.specs.history.History.{latestNumber}
 use Rattle.theory.specs.tables.Rows.{cellCount}
 use Rattle.theory.specs.tables.Reckonings.{clockMask, lowestTask, nextClocks}

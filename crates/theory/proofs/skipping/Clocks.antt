@@ -14,7 +14,7 @@ use Rattle.theory.specs.acceptance.Control.{underIn, gaveIn}
 use Rattle.theory.specs.skipping.Skipping.{giver}
 use Rattle.theory.specs.feeding.Step.{nextNumber, clockKind}
 use Rattle.theory.specs.fillings.Completion.{Filling, fills}
-use Rattle.theory.specs.tables.Turns.{turns}
+use Rattle.theory.specs.basics.Turns.{turns}
 use Rattle.theory.specs.tables.Rows.{cell, semaphoreRow, joinCell, joinRow, flow}
 use Rattle.theory.specs.tables.Reckonings.{clockOwn, nextClocks}
 use Rattle.theory.proofs.basics.Reflects.{Reflects, right, wrong, equal, at-most}

@@ -17,7 +17,7 @@ use Rattle.theory.specs.acceptance.Owning.{isOwned, under, isBy}
 use Rattle.theory.specs.acceptance.Table.{Fitting, Proper, standing, refusal, appendUnless, extended, recording}
 use Rattle.theory.specs.acceptance.Control.{countAt, profileAt, underIn, holderAt, giverAt, gaveIn, skippedAt, skippedIn, skipsIn, takenBy, givenBy, counted, updated, controlAfter}
 use Rattle.theory.specs.verdicts.Verdict.{Verdict, Race, Clear, Doubt}
-use Rattle.theory.specs.tables.Reckonings.{indicator}
+use Rattle.theory.specs.basics.Turns.{indicator}
 use Rattle.theory.specs.tables.Counters.{raise}
 use Rattle.theory.specs.feeding.Meaning.{Meaning, refuses, takes, judges, meaning}
 use Rattle.theory.specs.feeding.Step.{freshControl, freshState, freshSets}
@@ -33,7 +33,7 @@ use Rattle.theory.proofs.acceptance.Accepted.{fits-of}
 use Rattle.theory.proofs.acceptance.Owning.{who-none}
 use Rattle.theory.proofs.acceptance.ControlTable.{ExactControl, gave-same, same-refusal}
 use Rattle.theory.proofs.feeding.Simulation.{Shape, an-act, a-mark, shape-of, after-all, clocks-simulate}
-use Rattle.theory.proofs.totals.Kept.{Keeps, clocks-keep, sets-keep, fresh-cell}
+use Rattle.theory.proofs.totals.Kept.{CountsSo, clocks-keep, sets-keep, fresh-control-cell}
 
 -- Which takes are skipped
 
@@ -154,7 +154,7 @@ module _ {es : List Event} {control : List ℕ} (x : ExactControl es control) (s
 
 -- Lists of records
 
-module _ {S : Type 0} {c : Checker S} {R : List Event → S → Type 0} (k : Keeps c R) where
+module _ {S : Type 0} {c : Checker S} {R : List Event → S → Type 0} (k : CountsSo c R) where
   step-counted : (es : List Event) (s : S) (r : Record) → R es s → skippedIn (c .control s) ≡ skippedTakes es →
       skippedIn (c .control (c .next s r)) ≡ skippedTakes (appendUnless es r (refusal es r))
   step-counted es s r x same = decided (refusal es r) refl
@@ -175,7 +175,7 @@ module _ {S : Type 0} {c : Checker S} {R : List Event → S → Type 0} (k : Kee
   counted-from es s (r ∷ rs) x same = counted-from (appendUnless es r (refusal es r)) (c .next s r) rs (k .simulates .steps es s r x .1) (step-counted es s r x same)
 
   counts-skips : c .control (c .fresh) ≡ freshControl → CountsSkips c
-  counts-skips fresh rs = counted-from [] (c .fresh) rs (k .simulates .begins) (rw fresh (fresh-cell skippedAt (omega arith) (omega arith)))
+  counts-skips fresh rs = counted-from [] (c .fresh) rs (k .simulates .begins) (rw fresh (fresh-control-cell skippedAt (omega arith) (omega arith)))
 
 pub clocks-count-skips : CountsSkips byClocks
 unfolding freshState

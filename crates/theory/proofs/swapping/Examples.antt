@@ -12,7 +12,7 @@ use lib.ListN.{getD}
 use Rattle.theory.specs.order.Recording.{Op, take, give, miss, Event, act, lost, ActsIn, acts, no-events, an-act, _is_, Series, task, semaphore, flag, variable, profile, series}
 use Rattle.theory.specs.order.Path.{rule}
 use Rattle.theory.specs.fillings.Completion.{rounds, round, part, onEach}
-use Rattle.theory.specs.tables.Turns.{turns}
+use Rattle.theory.specs.basics.Turns.{turns}
 use Rattle.theory.specs.acceptance.Table.{standingRefusal}
 use Rattle.theory.specs.verdicts.Search.{judge}
 use Rattle.theory.specs.totals.Totals.{verdictPlace}

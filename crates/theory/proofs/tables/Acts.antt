@@ -10,7 +10,7 @@ use borrow.Author.Tests.{lt-ltb, eq-eqb, ne-eqb}
 use lib.Dec.{ltb, eqb}
 use lib.ListN.{set}
 use Rattle.theory.specs.history.History.{slots}
-use Rattle.theory.specs.tables.Turns.{turns}
+use Rattle.theory.specs.basics.Turns.{turns}
 use Rattle.theory.specs.fillings.Completion.{bit}
 use Rattle.theory.specs.tables.Rows.{cell, joinRow, alsoReleased, flow, noteActed, hub, rowCount, actedRow, tableRows}
 use Rattle.theory.specs.tables.Reckonings.{slotWords, clockOwn, hasSlot, withBit, withoutBit, clearSlot, addSlot, slotWord, slotPlace}

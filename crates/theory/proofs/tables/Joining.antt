@@ -7,8 +7,7 @@ use Prim.Native.Nat.{ℕ, zero, suc, max, _<_}
 use native.Mathlib.Omega.{arith}
 use lib.Dec.{ltb}
 use Rattle.theory.specs.order.Limits.{tasks}
-use Rattle.theory.specs.tables.Turns.{turns}
-use Rattle.theory.specs.acceptance.Table.{anyBelow}
+use Rattle.theory.specs.basics.Turns.{turns, anyBelow}
 use Rattle.theory.specs.tables.Rows.{cell, joinCell, anyNewer}
 use Rattle.theory.specs.tables.Joining.{OnePass}
 use Rattle.theory.proofs.basics.Reflects.{Reflects, right, wrong, at-most}

@@ -111,8 +111,8 @@ pub access-proper : {k t n : ℕ} → Proper k t n → accesses k ≡ true → (
 access-proper {k} p e = let f = p .act-fits (access-acts k e) in (f .task-fits, access-fits f e)
 
 -- what clashes with something is an access
-pub clash-access : (k : ℕ) (p : Op) → true ≡ kindClashes (numberedKind k) p → accesses k ≡ true
-clash-access k p e = of (numberedKind k) e
+pub clash-kind-access : (k : ℕ) (p : Op) → true ≡ kindClashes (numberedKind k) p → accesses k ≡ true
+clash-kind-access k p e = of (numberedKind k) e
   where
     of : (y : Kind) → true ≡ kindClashes y p → kindAccesses y ≡ true
     of (of-op o) e = and-elim-left (isAccess o) (isAccess p && rule o p) (sym e)

@@ -15,7 +15,7 @@ use Rattle.theory.specs.acceptance.Table.{Proper}
 use Rattle.theory.specs.acceptance.Control.{acceptanceCells, controlAfter}
 use Rattle.theory.specs.verdicts.Verdict.{Verdict, Race, Clear, Doubt}
 use Rattle.theory.specs.verdicts.Search.{judge}
-use Rattle.theory.specs.tables.Reckonings.{indicator}
+use Rattle.theory.specs.basics.Turns.{indicator}
 use Rattle.theory.specs.feeding.Meaning.{Meaning, takes, judges}
 use Rattle.theory.specs.feeding.Feeding.{acceptedAnswer}
 use Rattle.theory.specs.tables.Counters.{oneMore, raise}

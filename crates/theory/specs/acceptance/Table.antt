@@ -8,7 +8,7 @@ use lib.Dec.{leb, eqb}
 use lib.ListN.{length}
 use Rattle.theory.specs.declared.record.Record.{Record}
 use Rattle.theory.specs.order.Limits.{tasks, records}
-use Rattle.theory.specs.tables.Turns.{turns}
+use Rattle.theory.specs.basics.Turns.{anyBelow}
 use Rattle.theory.specs.order.Recording.{Op, take, give, start, join, owned, Effect, keeps, begins, ends, about, Event, act, lost, kind, kinds, lossMark, seriesSize, eventOf}
 use Rattle.theory.specs.fillings.Completion.{names}
 use Rattle.theory.specs.acceptance.Owning.{isSomebody, isBy, under, holder}
@@ -67,10 +67,6 @@ isAct r = not (isMark r)
 
 abbrev pub hasKind : Record → Op → Bool
 hasKind r o = eqb (r .kind) (kind o)
-
--- the test passes at one of the numbers below n at least
-abbrev pub anyBelow : ℕ → (ℕ → Bool) → Bool
-anyBelow n p = turns n (λ k b. b || p k) false
 
 -- what acceptance looks at: which tasks are live and unseen, how many records are accepted already, whether the recording is under the profile, and
 -- then which semaphores are held, and by whom

@@ -1,13 +1,13 @@
 -- The two reckonings on tables: clocks and sets, each for the recording as it arrived and for the fullest filling.
 use Prim.Native.Nat.{ℕ, _+_, _*_, _-_, _/_, _%_, _^_, max}
-use mathlib.Core.Bool.{Bool, true, false, cond, _&&_, not}
+use mathlib.Core.Bool.{Bool, cond, _&&_, not}
 use mathlib.Core.List.{List}
 use lib.Bits.{bitAnd, bitOr}
 use lib.Count.{trailingZeros}
 use lib.Dec.{ltb, eqb}
 use lib.ListN.{set}
 use Rattle.theory.specs.declared.masks.Masks.{Masks}
-use Rattle.theory.specs.tables.Turns.{turns}
+use Rattle.theory.specs.basics.Turns.{turns, indicator}
 use Rattle.theory.specs.order.Limits.{tasks}
 use Rattle.theory.specs.order.Recording.{lossMark, accesses}
 use Rattle.theory.specs.fillings.Completion.{bit, Filling, fills}
@@ -83,10 +83,6 @@ clockApart cells last k task on u = ltb (cell tasks cells (taskRow task) u) (lat
 
 abbrev pub setApart : List ℕ → List ℕ → ℕ → ℕ → ℕ → ℕ → Bool
 setApart cells last k task on u = ltb 0 (latestNumber last k on u) && not (hasSlot cells (taskRow task) (latestSlot k on u))
-
-abbrev pub indicator : Bool → ℕ
-indicator true = 1
-indicator false = 0
 
 -- the tasks that pass the test as a mask
 unfoldable pub maskOf : (ℕ → Bool) → ℕ

@@ -10,7 +10,7 @@ use Rattle.theory.specs.order.Limits.{variables}
 use Rattle.theory.specs.order.Recording.{Event, act, lost, isAccess}
 use Rattle.theory.specs.acceptance.Table.{recording}
 use Rattle.theory.specs.verdicts.Verdict.{Verdict, Race, Clear, Doubt}
-use Rattle.theory.specs.tables.Reckonings.{indicator}
+use Rattle.theory.specs.basics.Turns.{indicator}
 use Rattle.theory.specs.feeding.Meaning.{Meaning, refuses, takes, judges, meaning}
 use Rattle.theory.specs.feeding.Feeding.{Checker, runs, afterAll}
 use Rattle.theory.specs.totals.Totals.{total, anyRace, verdictPlace}
