@@ -17,8 +17,6 @@ use Rattle.theory.specs.fillings.Completion.{bit, names}
 use Rattle.theory.specs.acceptance.Table.{hasKind, Standing, Row, _when_, rows, lastRow, rowNumbers, isOneOf, OfRow, firstRow, standingRefusal, Fitting}
 use Rattle.theory.proofs.basics.Reflects.{Reflects, right, wrong, equal}
 
--- The series of the kinds
-
 -- Rows that do not apply
 
 -- where `anyBelow` fails, the test fails at each number below n

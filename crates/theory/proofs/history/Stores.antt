@@ -1,4 +1,4 @@
--- One number is-stored at several places, at one of them more than storeOnce: it does not matter how often. Assumes nothing.
+-- One number is stored at several places, at one of them more than once: it does not matter how often. Assumes nothing.
 use mathlib.Core.Path.{_≡_, refl, sym, _∙_, ap, subst}
 use mathlib.Core.Bool.{Bool, true, false, cond}
 use mathlib.Core.List.{List}

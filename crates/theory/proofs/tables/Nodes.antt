@@ -1,5 +1,5 @@
 -- Nodes and the rows that the tables have for them: one row for each node in range. That a task has acted has none: where it has, order
--- that has come to its next act has come to that (Acted.antt). Assumes nothing.
+-- that has come to its next act has come to that (fillings/HasActed.antt). Assumes nothing.
 use mathlib.Core.Path.{_≡_, refl, sym, _∙_, ap}
 use mathlib.Core.Bool.{Bool, true, false, cond, _&&_}
 use mathlib.Core.Logic.{_⊎_, inl, inr}
