@@ -1,11 +1,4 @@
-// The kinds of records, and what is looked up by them.
-use crate::limits::FLAGS;
-use crate::limits::PROFILES;
-use crate::limits::SEMAPHORES;
-use crate::limits::TASKS;
-use crate::limits::VARIABLES;
-
-// The number of each kind, as `kind` and `lossMark` of specs/order/Recording.antt have it.
+// The kinds of records. The number of each, as `kind` and `lossMark` of specs/order/Recording.antt have it.
 pub const READ: u8 = 0;
 
 pub const WRITE: u8 = 1;
@@ -43,21 +36,3 @@ pub const WRITES: usize = 1;
 
 // How many kinds there are.
 pub const KINDS: u8 = OWNED + 1;
-
-// The size of the series that the number of a kind's record is of, kind by kind, as `seriesSize` of Recording.antt has it. A mark has none, and is not
-// looked up.
-pub const SERIES: [u32; KINDS as usize] = [
-    VARIABLES,
-    VARIABLES,
-    SEMAPHORES,
-    SEMAPHORES,
-    FLAGS,
-    FLAGS,
-    TASKS,
-    TASKS,
-    VARIABLES,
-    VARIABLES,
-    SEMAPHORES,
-    VARIABLES,
-    PROFILES,
-];

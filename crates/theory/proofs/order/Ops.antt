@@ -115,7 +115,7 @@ other-tests o n = access-kind o ∙ decided (by-test (isAccess o))
     decided (wrong f) = refl
 
 -- the number of an access is a variable: tried out
-abbrev isVariable : Series → Bool
+abbrev pub isVariable : Series → Bool
 isVariable task = false
 isVariable semaphore = false
 isVariable flag = false
