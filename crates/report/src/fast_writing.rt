@@ -9,7 +9,8 @@ ghost use Rattle.text.specs.Printing.{bytes, recordDigits, recordText};
 ghost use Rattle.text.specs.Words.{littleBytes, digitPairs, numberWord};
 ghost use Rattle.text.specs.Wrote.{Wrote};
 
-// The first number that a record number's digits do not hold.
+// The first number that a record number's digits do not hold: ten to the power RECORD_DIGITS, written out, as constants have no powers. With a
+// greater one `put_number` does not meet what `number_word` requires, which is said by `recordDigits`.
 const TOO_LONG: u32 = 10_000_000;
 
 // The bytes of a number, the first counting least.

@@ -8,7 +8,7 @@ use native.Mathlib.Omega.{arith}
 use lib.ListN.{length, set, length-append}
 use lib.Seq.{sets, set-set, set-comm}
 use Rattle.text.specs.Bytes.{little}
-use Rattle.text.specs.Printing.{bytes, lastDigits, recordText}
+use Rattle.text.specs.Printing.{bytes, lastDigits, recordDigits, recordText}
 use Rattle.text.specs.Words.{littleBytes, numberWord, Opens}
 use Rattle.text.specs.ReportLines.{accessPart, accessLine}
 use Rattle.text.specs.Wrote.{Wrote}
@@ -90,11 +90,11 @@ digits-below (suc k) n zero = omega arith
 digits-below (suc k) n (suc i) = digits-below k n i
 
 pub number-bytes : (n : ℕ) → littleBytes 8 (numberWord n) ≡ bytes "=" ++ recordText n
-number-bytes n = ap (λ (k : ℕ). littleBytes (suc k) (numberWord n)) (sym (digits-long 7 n)) ∙ bytes-little (bytes "=" ++ recordText n) below
+number-bytes n = ap (λ (k : ℕ). littleBytes (suc k) (numberWord n)) (sym (digits-long recordDigits n)) ∙ bytes-little (bytes "=" ++ recordText n) below
   where
     below : Below 256 (bytes "=" ++ recordText n)
     below zero = omega arith
-    below (suc i) = digits-below 7 n i
+    below (suc i) = digits-below recordDigits n i
 
 -- A word that begins with a text
 

@@ -13,6 +13,7 @@ use Rattle.theory.specs.declared.record.Record.{Record}
 use Rattle.theory.specs.declared.state.State.{State}
 use Rattle.theory.specs.declared.state.Stepped.{Stepped}
 use Rattle.theory.specs.declared.state.SetState.{SetState}
+use Rattle.theory.specs.order.Limits.{tasks}
 use Rattle.theory.specs.order.Recording.{Op, Event, act, lost, kind, lossMark, eventOf, isAccess}
 use Rattle.theory.specs.fillings.Completion.{names, Named, arrived, full, Filling}
 use Rattle.theory.specs.acceptance.Table.{isLive, phase, Standing, standing, refusal, appendUnless, extended}
@@ -69,7 +70,7 @@ mark-filled {w} r {n = n} m = decided (equal (w n) 0)
   where
     decided : {b : Bool} → Reflects (w n ≡ 0) b → ProperMask (w n)
     decided (right e) = nobody e
-    decided (wrong f) = let (t, l, d) = some-bit 16 (w n) f (r .bounded n (m .fits)) in somebody f (t, bit-named (w n) t l (subst T (sym (eq-eqb _ _ d)) tt))
+    decided (wrong f) = let (t, l, d) = some-bit tasks (w n) f (r .bounded n (m .fits)) in somebody f (t, bit-named (w n) t l (subst T (sym (eq-eqb _ _ d)) tt))
 
 mark-live : {s : Standing} {n : ℕ} → MarkAllowed s n → (t : ℕ) → Named n t → s .live t ≡ true
 mark-live {n = n} m t k = m .live t (is-true (by-test (names n t)) (k .named))

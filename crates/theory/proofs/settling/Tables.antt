@@ -67,7 +67,7 @@ home-restricts home =
     asked : (mask : ℕ) → mask < 2 ^ tasks → ¬ (homeOnly home mask ≡ 0) → T (fills (homeOnly home))
     asked mask h n =
         let l = and-le-l mask home in
-        let (t, ht, q) = some-bit 16 (homeOnly home mask) n (omega arith) in
+        let (t, ht, q) = some-bit tasks (homeOnly home mask) n (omega arith) in
         let d = home-named home mask (bit-named (homeOnly home mask) t ht (subst T (sym (eq-eqb _ _ q)) tt)) in
         decided (named-home home (2 ^ tasks - 1) (every-named t ht) (d .1)) (at-most 1 (homeOnly home (2 ^ tasks - 1)))
 
