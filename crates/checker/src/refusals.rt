@@ -105,18 +105,18 @@ pub(crate) fn no_object(kind: u8, on: u32) -> bool
     }
 }
 
-// Row 3: the number is none of the kind's series.
+// Row 3: the number is none of the kind's series. The arms are in the order of the kind numbers, as the proof has them.
 fn outside(kind: u8, on: u32) -> bool
     ensures { λ r. ⌜ r ≡ leb (seriesSize kind) on ⌝ }
 {
     match kind {
         TAKE => no_semaphore(on),
         GIVE => no_semaphore(on),
-        MISS => no_semaphore(on),
         LOOK => no_flag(on),
         SET => no_flag(on),
         START => no_task(on),
         JOIN => no_task(on),
+        MISS => no_semaphore(on),
         OWNED => no_profile(on),
         _ => no_variable(on),
     }

@@ -65,18 +65,18 @@ same-true false b e = sym (not-true b e)
 
 -- Series
 
--- k is the kind of none of these ops
-abbrev pub NoneOf : List Op → ℕ → Type 0
-NoneOf [] k = Unit
-NoneOf (o ∷ os) k = (k ≢ kind o) × NoneOf os k
+-- k is the kind of none of these ops, as a `match` of the code knows it past its arms, beside what was known before, P
+abbrev pub PastArms : Type 0 → List Op → ℕ → Type 0
+PastArms P [] k = P
+PastArms P (o ∷ os) k = PastArms (P × (k ≢ kind o)) os k
 
 abbrev kindAmong : List Op → ℕ → Bool
 kindAmong [] k = false
 kindAmong (o ∷ os) k = eqb k (kind o) || kindAmong os k
 
-none-is : (os : List Op) (k : ℕ) → NoneOf os k → kindAmong os k ≡ false
-none-is [] k h = refl
-none-is (o ∷ os) k h = rw (ne-eqb k (kind o) (h .0)) (none-is os k (h .1))
+none-past : {P : Type 0} (os : List Op) (k : ℕ) → PastArms P os k → P × (kindAmong os k ≡ false)
+none-past [] k h = (h, refl)
+none-past (o ∷ os) k h = let ((p, n), e) = none-past os k h in (p, rw (ne-eqb k (kind o) n) e)
 
 -- the ops of these kinds that are over no variable
 abbrev pub overOthers : List Kind → List Op
@@ -89,9 +89,9 @@ unfolding turns
 series-tried = refl
 
 -- any other kind is over the variables
-pub series-else : (k : ℕ) → NoneOf (overOthers kinds) k → seriesSize k ≡ variables
+pub series-else : (k : ℕ) → PastArms Unit (overOthers kinds) k → seriesSize k ≡ variables
 series-else k n =
-    eqb-true (seriesSize k) variables (rw (none-is (overOthers kinds) k n) at (each-number (λ k. kindAmong (overOthers kinds) k || eqb (seriesSize k) variables) series-tried beyond k))
+    eqb-true (seriesSize k) variables (rw (none-past (overOthers kinds) k n .1) at (each-number (λ k. kindAmong (overOthers kinds) k || eqb (seriesSize k) variables) series-tried beyond k))
   where
     beyond : (k : ℕ) → length kinds ≤ k → (kindAmong (overOthers kinds) k || eqb (seriesSize k) variables) ≡ true
     beyond k h = rw (kind-above k h) (or-true (kindAmong (overOthers kinds) k))
