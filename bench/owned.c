@@ -2,8 +2,9 @@
  *
  * A recording of `generate` with SAME as a list, whose first record is `owned`. One pass of `order_feed` over it, and one over the same list
  * without that record, in which no take is skipped, by turns; both must give the same verdicts. The number of skipped takes must be that
- * of a count made here. Times are medians of processor time. With 0 rounds there is one pass of each, for callgrind: what is within
- * `take_skipped` are the takes that are skipped, and within `take_walked` the same takes of the other pass. */
+ * of a count made here. Times are medians of processor time; a take alone is one that is skipped, or the same of the other pass, between two
+ * readings of a clock. With 0 rounds there is one pass of each, for callgrind: what is within `take_skipped` are the takes that are skipped,
+ * and within `take_walked` the same takes of the other pass. */
 #include "list.h"
 
 static uint8_t skips[MOST];
@@ -41,6 +42,27 @@ static uint64_t time_feed(size_t from) {
     return now() - began;
 }
 
+/* A clock that is read in few nanoseconds; the processor ends what it has begun before it reads it. */
+static uint64_t wall(void) {
+    struct timespec t;
+    clock_gettime(CLOCK_MONOTONIC, &t);
+    return (uint64_t)t.tv_sec * 1000000000u + (uint64_t)t.tv_nsec;
+}
+
+/* The takes of `skips`, each alone, without what the clock itself takes. */
+static uint64_t time_takes(size_t from) {
+    uint32_t said[3];
+    uint64_t took = 0, clock = 0;
+    order_state_begin(&state);
+    for (size_t i = from; i < len; i++) {
+        uint64_t first = 0, began = 0;
+        if (skips[i]) first = wall(), began = wall();
+        order_state_feed(&state, (uint8_t)list[i][0], list[i][1], list[i][2], said);
+        if (skips[i]) took += wall() - began, clock += began - first;
+    }
+    return took > clock ? took - clock : 0;
+}
+
 /* Two functions, so that callgrind tells them apart. The words keep the compiler from making one of them, or a jump of the call. */
 __attribute__((noinline)) static void take_skipped(const uint32_t record[3], uint32_t said[3]) {
     order_state_feed(&state, ORDER_TAKE, record[1], record[2], said);
@@ -68,7 +90,7 @@ static void hold(uint32_t count, size_t expected) {
 }
 
 int main(int argc, char **argv) {
-    static uint64_t with[ROUNDS], without[ROUNDS];
+    static uint64_t with[ROUNDS], without[ROUNDS], alone[2][ROUNDS];
     size_t rounds = read_list("owned", argc, argv);
     if (!len || list[0][0] != ORDER_OWNED) return fprintf(stderr, "owned: the recording does not begin with owned\n"), 2;
     find_skips();
@@ -85,12 +107,13 @@ int main(int argc, char **argv) {
         hold(order_state_skipped(&state), repeats);
         without[round] = time_feed(1);
         hold(order_state_skipped(&state), 0);
+        for (size_t from = 0; from < 2; from++) alone[from][round] = time_takes(from);
     }
     if (memcmp(verdicts[0] + 1, verdicts[1] + 1, len - 1) != 0) return fprintf(stderr, "owned: verdicts differ\n"), 2;
-    double owned = median(with, rounds), plain = median(without, rounds);
     printf("%zu records, %zu takes, %zu skipped\n", len, takes, repeats);
-    printf("%-34s %9.1f ns a record\n", "with the profile", owned / (double)len);
-    printf("%-34s %9.1f ns a record\n", "without it, no take skipped", plain / (double)len);
-    printf("%-34s %9.1f ns a take\n", "spared", (plain - owned) / (double)takes);
+    printf("%-34s %9.1f ns a record %9.1f ns a take alone\n", "with the profile", median(with, rounds) / (double)len,
+           median(alone[0], rounds) / (double)repeats);
+    printf("%-34s %9.1f ns a record %9.1f ns a take alone\n", "without it, no take skipped", median(without, rounds) / (double)len,
+           median(alone[1], rounds) / (double)repeats);
     return 0;
 }

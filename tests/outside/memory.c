@@ -63,8 +63,8 @@ typedef void feed_call(uint32_t *, uint32_t *, uint32_t *, uint32_t *, uint8_t, 
 /* Tables, answers and totals are unset before their calls. Starts come first and joins last, so that there are tasks to act; an owned before
  * all of them or in their midst. */
 static void fed(const char *name, begin_call *begin, feed_call *feed, size_t size, int owned) {
-    static const uint8_t kinds[] = {ORDER_START, ORDER_WRITE, ORDER_GIVE, ORDER_SET, ORDER_OWNED, ORDER_LOST, ORDER_TAKE,
-                                    ORDER_GIVE,  ORDER_LOOK,  ORDER_MISS, ORDER_READ, ORDER_JOIN, ORDER_TAKE, 255};
+    static const uint8_t kinds[] = {ORDER_START, ORDER_WRITE, ORDER_GIVE, ORDER_SET,  ORDER_OWNED, ORDER_LOST, ORDER_FRESH, ORDER_TAKE,
+                                    ORDER_GIVE,  ORDER_LOOK,  ORDER_MISS, ORDER_READ, ORDER_BUMP,  ORDER_JOIN, ORDER_TAKE,  255};
     static const uint32_t numbers[] = {0, 1, 3, 15, 16, 31, 32, 63, 64, 32768, 65535, 65536, UINT32_MAX};
     enum { KINDS = sizeof kinds, NUMBERS = sizeof numbers / sizeof numbers[0] };
     uint32_t *control = cells(ORDER_CONTROL_CELLS), *last = cells(ORDER_HISTORY_CELLS), *arrived = cells(size), *full = cells(size);

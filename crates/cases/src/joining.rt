@@ -7,6 +7,7 @@ use theory::COLUMNS;
 use theory::Clocks;
 use theory::FIRST_SEMAPHORE;
 ghost use Prim.Native.Nat.{_<_};
+ghost use Rattle.theory.specs.order.Limits.{tasks};
 
 // Where the clocks of task 1 and of semaphore 4 begin.
 const TASK: usize = COLUMNS;
@@ -15,7 +16,7 @@ const SEMAPHORE: usize = (FIRST_SEMAPHORE + 4) * COLUMNS;
 
 // The task's entries are all 5; the semaphore's are all `whole`, but for one.
 fn clocks(whole: u32, at: usize, entry: u32) -> Clocks
-    requires { ⌜ at < 16 ⌝ }
+    requires { ⌜ at < tasks ⌝ }
 {
     let mut cells = [0u32; CLOCK_CELLS];
     for c in 0..COLUMNS {
@@ -39,7 +40,7 @@ fn tell_joined(a: Acquired) {
 }
 
 fn run_joining(name: &[u8], whole: u32, at: usize, entry: u32)
-    requires { ⌜ at < 16 ⌝ }
+    requires { ⌜ at < tasks ⌝ }
 {
     line(name);
     let mut cells = clocks(whole, at, entry);

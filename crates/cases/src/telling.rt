@@ -3,7 +3,6 @@ use theory::Answer;
 use theory::Excuse;
 use theory::Masks;
 use theory::Pairs;
-use theory::RecordNumber;
 
 pub(crate) fn line(text: &[u8]) {
     io::write_all(1, text);

@@ -38,7 +38,7 @@ ghost use Rattle.theory.proofs.history.Accesses.{OfAccess};
 ghost use Rattle.theory.proofs.tables.Bits.{Halved};
 
 // An access is judged by what was kept before it, counted by its verdict, then kept itself.
-fn take_in(
+fn take_access(
     control: &mut Control,
     last: &mut History,
     kind: u8,
@@ -82,7 +82,7 @@ pub(crate) fn access_by_clocks(
     let words = clock_words(clocks, fullclocks, last, kind, task, v);
     clocks::own(clocks, task, number);
     clocks::own(fullclocks, task, number);
-    take_in(control, last, kind, task, v, number, words)
+    take_access(control, last, kind, task, v, number, words)
 }
 
 // An act that is no access, by the clocks: it is kept nowhere, may empty the history of a variable, and passes order on.
@@ -131,7 +131,7 @@ fn access_by_sets(
     let masks = set_masks(sets, fullsets, last, kind, task, v);
     sets::own(sets, kind, task, v);
     sets::own(fullsets, kind, task, v);
-    take_in(control, last, kind, task, v, number, as_words(masks))
+    take_access(control, last, kind, task, v, number, as_words(masks))
 }
 
 // An act, by the sets.

@@ -28,7 +28,7 @@ ghost use lib.Bits.{bitAnd};
 ghost use Rattle.theory.specs.order.Limits.{tasks, variables, entries};
 ghost use Rattle.theory.specs.order.Recording.{accesses};
 ghost use Rattle.theory.specs.totals.Totals.{controlCells};
-ghost use Rattle.theory.specs.entries.Table.{pairedAt, entryCount, marked, pairs, entriesFull, entered, pairInRange, enters, afterEntry, accessInRange, openTasks, excuseOpen, excuseBy};
+ghost use Rattle.theory.specs.entries.Table.{pairedAt, entryCount, marked, pairs, entriesFull, entered, pairInRange, enters, afterEntry, accessInRange, openTasks, excuseOpen, tablesExcuse};
 ghost use Rattle.theory.proofs.history.Accesses.{OfAccess};
 
 // Whether as many entries were taken in as there is room for.
@@ -68,7 +68,7 @@ fn pair(control: &mut Control, accepted: bool, v: Variable, t: Task, u: Task)
 }
 
 // An entry is taken in: the two tasks are paired whichever of them acts, and it is counted.
-fn take_in(control: &mut Control, v: Variable, low: Task, high: Task, accepted: bool)
+fn enter_pair(control: &mut Control, v: Variable, low: Task, high: Task, accepted: bool)
     requires { ⌜ (v .0 < variables) × (low .0 < tasks) × (high .0 < tasks) × (entryCount (now control) < entries) ⌝ }
     ensures { λ _. ⌜ now (control .exit) ≡ entered (v .0) (low .0) (high .0) accepted (now (control .entry)) ⌝ }
 {
@@ -89,7 +89,7 @@ pub fn enter(control: &mut Control, v: u32, low: u32, high: u32, accepted: bool)
     ensures { λ r. ⌜ (r ≡ enters v low high (now (control .entry))) × (now (control .exit) ≡ afterEntry v low high accepted (now (control .entry))) ⌝ }
 {
     if both(pair_in_range(v, low, high), !entries_full(control)) {
-        take_in(control, Variable(v), Task(low), Task(high), accepted);
+        enter_pair(control, Variable(v), Task(low), Task(high), accepted);
         return true;
     }
     false
@@ -150,7 +150,7 @@ pub fn excuse(
     r: Record,
     partner: RecordNumber,
 ) -> Excuse
-    ensures { λ e. ⌜ e ≡ excuseBy (now (control .entry)) (now (last .entry)) (now (fullclocks .entry)) r (partner .0) ⌝ }
+    ensures { λ e. ⌜ e ≡ tablesExcuse (now (control .entry)) (now (last .entry)) (now (fullclocks .entry)) r (partner .0) ⌝ }
 {
     if control[ENTRIES] == 0 {
         return Excuse {

@@ -18,7 +18,7 @@ ghost use Rattle.theory.specs.lazy.Fold.{lazyAfter};
 ghost use Rattle.theory.specs.lazy.Lent.{lent};
 ghost use Rattle.theory.proofs.history.Accesses.{OfAccess};
 ghost use Rattle.theory.proofs.feeding.Listed.{clippedKind, clipped};
-ghost use Rattle.theory.proofs.lazy.Code.{Within};
+ghost use Rattle.theory.proofs.lazy.Code.{WithinCount};
 
 // A number as a kind: those that are no kind's are all taken for the first of them.
 fn kind_of(k: u32) -> u8
@@ -49,7 +49,7 @@ pub(crate) fn follow(
     counts: &mut Counts,
     walk: Walk,
 ) -> Followed
-    requires { ⌜ (upto ≤ length (now list)) × OfAccess (q .kind) (q .task) (q .on) × Within (now control) (walk .walked) ⌝ }
+    requires { ⌜ (upto ≤ length (now list)) × OfAccess (q .kind) (q .task) (q .on) × WithinCount (now control) (walk .walked) ⌝ }
     ensures { λ f. let s = lent nodes counts in ⌜ runOf (f .refused) (now (control .exit)) (s .exit (f .walk))
         ≡ followed (lazyAfter q) (now (control .entry)) (s .entry walk) (take upto (map recordIn (now (list .entry)))) ⌝ }
 {

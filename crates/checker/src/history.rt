@@ -12,11 +12,12 @@ use theory::RecordNumber;
 use theory::Task;
 use theory::VARIABLES;
 use theory::Variable;
+use theory::WRITES;
 ghost use mathlib.Core.Path.{_≡_};
-ghost use mathlib.Core.Bool.{true, cond};
+ghost use mathlib.Core.Bool.{cond};
 ghost use Prim.Native.Nat.{_<_};
 ghost use lib.Dec.{ltb, eqb};
-ghost use lib.ListN.{set, length};
+ghost use lib.ListN.{length};
 ghost use Rattle.theory.specs.order.Limits.{tasks, variables};
 ghost use Rattle.theory.specs.order.Recording.{Op, kind as number, accesses, numberedKind};
 ghost use Rattle.theory.specs.order.Path.{clashes};
@@ -43,9 +44,6 @@ pub(crate) fn is_access(kind: u8) -> bool
 {
     ask_at(kind) < ASKERS
 }
-
-// The number of a write among the kinds of access.
-const WRITES: usize = 1;
 
 // The rule of conflict, of two kinds of access by their numbers: they clash, unless they are one kind and no writes.
 fn conflict(one: usize, other: usize) -> bool

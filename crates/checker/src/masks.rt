@@ -13,7 +13,8 @@ ghost use mathlib.Core.Bool.{true, cond, _||_};
 ghost use Prim.Native.Nat.{_<_, _+_, _*_, _-_, _%_, _^_};
 ghost use Rattle.theory.specs.order.Limits.{tasks, variables};
 ghost use Rattle.theory.specs.order.Recording.{accesses};
-ghost use Rattle.theory.specs.tables.Reckonings.{wordBits, indicator, lowestTask, masksBy};
+ghost use Rattle.theory.specs.basics.Turns.{indicator};
+ghost use Rattle.theory.specs.tables.Reckonings.{wordBits, lowestTask, masksBy};
 ghost use Rattle.theory.specs.feeding.Step.{answerByMasks};
 ghost use Rattle.theory.proofs.tables.Bits.{Halved};
 
@@ -102,7 +103,7 @@ fn lowest_or_0(mask: u16) -> Task
     Task(u16::trailing_zeros(mask) % TASKS)
 }
 
-fn unordered(race: bool, number: RecordNumber, partner: RecordNumber) -> Answer
+fn race_or_doubt(race: bool, number: RecordNumber, partner: RecordNumber) -> Answer
     ensures { λ r. ⌜ r ≡ cond race (Answer.Race number partner) (Answer.Doubt number partner) ⌝ }
 {
     if race {
@@ -116,7 +117,7 @@ fn answer_by(race: bool, doubt: bool, number: RecordNumber, partner: RecordNumbe
     ensures { λ r. ⌜ r ≡ cond (race || doubt) (cond race (Answer.Race number partner) (Answer.Doubt number partner)) (Answer.Clear number) ⌝ }
 {
     if either(race, doubt) {
-        return unordered(race, number, partner);
+        return race_or_doubt(race, number, partner);
     }
     Answer::Clear(number)
 }

@@ -10,37 +10,39 @@ use crate::masks::MASKS;
 use crate::rows::has_bit;
 use theory::COUNT;
 use theory::Control;
-use theory::FLAGS;
 use theory::GIVE;
 use theory::JOIN;
 use theory::KINDS;
+use theory::LAST_FLAG;
+use theory::LAST_SEMAPHORE;
+use theory::LAST_TASK;
+use theory::LAST_VARIABLE;
 use theory::LOOK;
 use theory::LOST;
+use theory::MISS;
 use theory::OWNED;
+use theory::PROFILES;
 use theory::RECORDS;
 use theory::Record;
-use theory::SEMAPHORES;
-use theory::SERIES;
 use theory::SET;
 use theory::START;
 use theory::Semaphore;
 use theory::TAKE;
 use theory::TASKS;
 use theory::Task;
-use theory::VARIABLES;
 ghost use mathlib.Core.Path.{_≡_};
 ghost use mathlib.Core.Bool.{cond, not, _&&_, _||_};
 ghost use Prim.Native.Nat.{_<_, _^_};
 ghost use lib.Dec.{leb, eqb};
-ghost use lib.ListN.{length};
-ghost use Rattle.theory.specs.order.Limits.{tasks, semaphores, variables, records};
-ghost use Rattle.theory.specs.order.Recording.{lossMark, kinds, kindSeries};
+ghost use Rattle.theory.specs.order.Limits.{tasks, semaphores, flags, variables, profiles, records};
+ghost use Rattle.theory.specs.order.Recording.{lossMark, seriesSize};
 ghost use Rattle.theory.proofs.acceptance.Rows.{OfAct};
 ghost use Rattle.theory.specs.fillings.Completion.{names};
-ghost use Rattle.theory.specs.acceptance.Table.{anyBelow, firstRow};
+ghost use Rattle.theory.specs.basics.Turns.{anyBelow};
+ghost use Rattle.theory.specs.acceptance.Table.{firstRow};
 ghost use Rattle.theory.specs.acceptance.Control.{liveIn, unseenIn, countIn, underIn, heldIn, holdsIn, controlStanding, controlRefusal};
 ghost use Rattle.theory.proofs.acceptance.Plain.{commonRows};
-ghost use Rattle.theory.proofs.tables.HandOver.{HandsOver};
+ghost use Rattle.theory.proofs.tables.HandOver.{ObjectKind};
 
 // The last number of a kind, and the last mask.
 const LAST_KIND: u8 = KINDS - 1;
@@ -51,38 +53,77 @@ const LAST_MASK: u32 = MASKS - 1;
 fn no_task(task: u32) -> bool
     ensures { λ r. ⌜ r ≡ leb tasks task ⌝ }
 {
-    TASKS <= task
+    match task {
+        0..=LAST_TASK => false,
+        _ => true,
+    }
+}
+
+fn no_semaphore(on: u32) -> bool
+    ensures { λ r. ⌜ r ≡ leb semaphores on ⌝ }
+{
+    match on {
+        0..=LAST_SEMAPHORE => false,
+        _ => true,
+    }
+}
+
+fn no_flag(on: u32) -> bool
+    ensures { λ r. ⌜ r ≡ leb flags on ⌝ }
+{
+    match on {
+        0..=LAST_FLAG => false,
+        _ => true,
+    }
 }
 
 pub(crate) fn no_variable(on: u32) -> bool
     ensures { λ r. ⌜ r ≡ leb variables on ⌝ }
 {
-    VARIABLES <= on
+    match on {
+        0..=LAST_VARIABLE => false,
+        _ => true,
+    }
+}
+
+// There is one profile, so that a range would be one number.
+fn no_profile(on: u32) -> bool
+    ensures { λ r. ⌜ r ≡ leb profiles on ⌝ }
+{
+    PROFILES <= on
 }
 
 // There is no such semaphore, or, where a flag is looked at or set, no such flag.
 pub(crate) fn no_object(kind: u8, on: u32) -> bool
-    requires { ⌜ HandsOver kind ⌝ }
-    ensures { λ r. ⌜ r ≡ leb (kindSeries kind) on ⌝ }
+    requires { ⌜ ObjectKind kind ⌝ }
+    ensures { λ r. ⌜ r ≡ leb (seriesSize kind) on ⌝ }
 {
     match kind {
-        LOOK => FLAGS <= on,
-        SET => FLAGS <= on,
-        _ => SEMAPHORES <= on,
+        LOOK => no_flag(on),
+        SET => no_flag(on),
+        _ => no_semaphore(on),
     }
 }
 
-// Row 3: the number is none of the kind's series.
+// Row 3: the number is none of the kind's series. The arms are in the order of the kind numbers, as the proof has them.
 fn outside(kind: u8, on: u32) -> bool
-    requires { ⌜ kind < length kinds ⌝ }
-    ensures { λ r. ⌜ r ≡ leb (kindSeries kind) on ⌝ }
+    ensures { λ r. ⌜ r ≡ leb (seriesSize kind) on ⌝ }
 {
-    let series = SERIES;
-    series[kind as usize] <= on
+    match kind {
+        TAKE => no_semaphore(on),
+        GIVE => no_semaphore(on),
+        LOOK => no_flag(on),
+        SET => no_flag(on),
+        START => no_task(on),
+        JOIN => no_task(on),
+        MISS => no_semaphore(on),
+        OWNED => no_profile(on),
+        _ => no_variable(on),
+    }
 }
 
 // Row 5: no further record is taken.
-fn full(control: &Control) -> bool
+fn no_room(control: &Control) -> bool
     ensures { λ r. ⌜ r ≡ leb records (countIn (now (control .entry))) ⌝ }
 {
     RECORDS <= control[COUNT]
@@ -184,7 +225,7 @@ fn mark_refusal(control: &Control, r: Record) -> u32
     if no_mask(r.on) {
         return 4;
     }
-    if full(control) {
+    if no_room(control) {
         return 5;
     }
     if names_any_dead(control, r.on) {
@@ -206,7 +247,7 @@ pub(crate) fn common_refusal(control: &Control, task: u32, outside: bool) -> u32
     if outside {
         return 3;
     }
-    if full(control) {
+    if no_room(control) {
         return 5;
     }
     if !is_live(control, Task(task)) {

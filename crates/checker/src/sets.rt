@@ -217,7 +217,7 @@ fn keep_under(cells: &mut Sets, a: usize, kind: u8, task: Task, v: Variable)
 }
 
 // An access is kept anew in each of its slots.
-fn keep_anew(cells: &mut Sets, kind: u8, task: Task, v: Variable)
+fn keep_in_slots(cells: &mut Sets, kind: u8, task: Task, v: Variable)
     requires { ⌜ (task .0 < tasks) × (v .0 < variables) ⌝ }
     ensures { λ _. ⌜ now (cells .exit) ≡ underEach (λ s b. addSlot (task .0) s (clearSlot s b)) kind (v .0) (task .0) (now (cells .entry)) ⌝ }
 {
@@ -241,7 +241,7 @@ pub(crate) fn own(cells: &mut Sets, kind: u8, task: Task, v: Variable)
     requires { ⌜ (task .0 < tasks) × (v .0 < variables) ⌝ }
     ensures { λ _. ⌜ now (cells .exit) ≡ setOwn kind (task .0) (v .0) (now (cells .entry)) ⌝ }
 {
-    keep_anew(cells, kind, task, v);
+    keep_in_slots(cells, kind, task, v);
     note_acted(cells, task);
 }
 

@@ -7,7 +7,7 @@ ghost use mathlib.Core.Path.{_≡_};
 ghost use mathlib.Core.Bool.{cond};
 ghost use mathlib.Core.List.{[], _∷_};
 ghost use Rattle.theory.specs.acceptance.Control.{skippedIn};
-ghost use Rattle.theory.specs.tables.Reckonings.{indicator};
+ghost use Rattle.theory.specs.basics.Turns.{indicator};
 ghost use Rattle.theory.specs.totals.Totals.{totalsOf, anyRace};
 
 // Writes how many accesses of a variable were Clear, Race and Doubt so far, and returns 1. Where there is no such variable it returns 0, and

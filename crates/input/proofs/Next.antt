@@ -39,16 +39,16 @@ ended-once true before after e = e ∙ sym (ap (λ (l : List ℕ). ended true l)
 ended-once false before after e = refl
 
 -- a piece lies within what was read of its block, and has some bytes unless it is the last
-abbrev pub Within : List ℕ → Span → Type 0
-Within block r = (r .from ≤ r .end) × (r .end ≤ r .len) × (r .len ≤ length block) × (r .more ≡ true → r .from < r .end)
+abbrev pub WithinBlock : List ℕ → Span → Type 0
+WithinBlock block r = (r .from ≤ r .end) × (r .end ≤ r .len) × (r .len ≤ length block) × (r .more ≡ true → r .from < r .end)
 
-pub piece-within : (lines : Bool) (block : List ℕ) (from len : ℕ) (r : Span) → (r ≡ pieceAt lines block from len) × (from < r .end) × (r .end ≤ len) → len ≤ length block → Within block r
+pub piece-within : (lines : Bool) (block : List ℕ) (from len : ℕ) (r : Span) → (r ≡ pieceAt lines block from len) × (from < r .end) × (r .end ≤ len) → len ≤ length block → WithinBlock block r
 piece-within lines block from len r e h =
     let f : r .from ≡ from = ap (λ (s : Span). s .from) (e .0) in
     let l : r .len ≡ len = ap (λ (s : Span). s .len) (e .0) in
     (omega (arith, e .1), omega (arith, e .2), omega arith, λ _. omega (arith, e .1))
 
-pub last-within : (begun : Bool) (block : List ℕ) (r : Span) → r ≡ lastPiece begun block → Within block r
+pub last-within : (begun : Bool) (block : List ℕ) (r : Span) → r ≡ lastPiece begun block → WithinBlock block r
 last-within begun block r e =
     let f : r .from ≡ 0 = ap (λ (s : Span). s .from) e in
     let l : r .len ≡ r .end = ap (λ (s : Span). s .len) e ∙ sym (ap (λ (s : Span). s .end) e) in

@@ -25,12 +25,12 @@ pieceAt lines block from len =
     let most = furthest from len in record { from = from; end = cond lines (afterLf block from most) most; len = len; more = true }
 
 -- the last piece, of so many bytes
-abbrev pub lastOf : ℕ → Span
-lastOf end = record { from = 0; end = end; len = end; more = false }
+abbrev pub endingPiece : ℕ → Span
+endingPiece end = record { from = 0; end = end; len = end; more = false }
 
 -- it is LF, where a line has begun that none ends, and else nothing
 abbrev pub lastPiece : Bool → List ℕ → Span
-lastPiece begun block = lastOf (cond begun (min 1 (length block)) 0)
+lastPiece begun block = endingPiece (cond begun (min 1 (length block)) 0)
 
 -- the block with that LF
 abbrev pub ended : Bool → List ℕ → List ℕ

@@ -5,7 +5,7 @@ ghost use mathlib.Core.Path.{_≡_};
 ghost use mathlib.Core.Bool.{true, false};
 ghost use Prim.Native.Nat.{_<_, _≤_};
 ghost use lib.ListN.{length};
-ghost use Rattle.input.specs.Pieces.{furthest, afterLf, pieceAt, lastOf, lastPiece, ended, isLeft, nextOf};
+ghost use Rattle.input.specs.Pieces.{furthest, afterLf, pieceAt, endingPiece, lastPiece, ended, isLeft, nextOf};
 
 // A piece has so many bytes at most.
 pub const PIECE: usize = 4096;
@@ -80,7 +80,7 @@ fn piece_at(block: &[u8], from: usize, len: usize, lines: bool) -> Span
 
 // The last piece, of so many bytes.
 fn last_of(end: usize) -> Span
-    ensures { λ r. ⌜ r ≡ lastOf end ⌝ }
+    ensures { λ r. ⌜ r ≡ endingPiece end ⌝ }
 {
     Span {
         from: 0,

@@ -10,7 +10,7 @@ use Rattle.theory.specs.declared.state.State.{State}
 use Rattle.text.specs.declared.parsed.Parsed.{Parsed}
 use Rattle.text.specs.LineForm.{parseOf}
 use Rattle.text.specs.Reading.{lineAt, nextAt, LineStarts}
-use Rattle.text.proofs.Reading.{moved}
+use Rattle.text.proofs.Reading.{moves-on}
 use Rattle.text.proofs.Reporting.{Left, left-start, left-taken}
 use Rattle.report.specs.declared.answering.Reached.{Reached}
 use Rattle.report.specs.Held.{HeldAnswered}
@@ -20,7 +20,7 @@ pub never : {b : Bool} → b ≡ true → b ≡ false → ⊥
 never e f = subst T (sym e ∙ f) tt
 
 -- the line that begins there is held, and p is the place after it
-pub record Held (text : List ℕ) (end begins : ℕ) (parsed : Parsed) (p : ℕ) : Type 0 where
+pub record HeldAhead (text : List ℕ) (end begins : ℕ) (parsed : Parsed) (p : ℕ) : Type 0 where
   pub within : begins < end
   pub says : parsed ≡ parseOf (lineAt text begins)
   pub next : p ≡ nextAt text begins
@@ -30,7 +30,7 @@ pub record Ahead (text : List ℕ) (end : ℕ) (memory : List ℕ) (start : ℕ)
     (p : ℕ) (going held : Bool) (parsed : Parsed) : Type 0 where
   pub begins : ℕ
   pub left : Left text end memory start s₀ n₀ p₀ report (reached .at) s (reached .lines) begins
-  pub holds : held ≡ true → Held text end begins parsed p
+  pub holds : held ≡ true → HeldAhead text end begins parsed p
   pub begun : held ≡ false → going ≡ true → p ≡ begins
   pub over : going ≡ false → end ≤ begins
 
@@ -78,5 +78,5 @@ pub less-ahead : (text : List ℕ) (end p p′ : ℕ) (going : Bool) → LineSta
 less-ahead text end p p′ going w g e = rw g (by (ltb p end) refl)
   where
     by : (b : Bool) → ltb p end ≡ b → ahead end p′ b < ahead end p true
-    by true h = let m = moved text end p w (ltb-true p end h) e in omega (arith, m .0, m .1)
+    by true h = let m = moves-on text end p w (ltb-true p end h) e in omega (arith, m .0, m .1)
     by false h = omega arith

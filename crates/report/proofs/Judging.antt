@@ -13,7 +13,7 @@ use Rattle.theory.specs.declared.answer.Answer.{Answer}
 use Rattle.theory.specs.declared.answer.Answer.the-variants.{Refused, Accepted, Clear, Race, Doubt}
 use Rattle.theory.specs.declared.excuse.Excuse.{Excuse}
 use Rattle.theory.specs.declared.record.Record.{Record}
-use Rattle.theory.specs.entries.Table.{entryCount, excuseOf, excuseBy}
+use Rattle.theory.specs.entries.Table.{entryCount, excuseOf, tablesExcuse}
 use Rattle.theory.specs.feeding.Meaning.{meaning}
 use Rattle.theory.specs.feeding.Step.{answerNumbers}
 use Rattle.theory.proofs.answer.Answer.{the-type}
@@ -23,17 +23,17 @@ use Rattle.text.specs.ReportLines.{accessLine, raceWord, reportLine, excusedFor
 use Rattle.text.specs.Words.{Opens}
 use Rattle.text.proofs.Bytes.{allBelow}
 use Rattle.text.proofs.Words.{opens-with}
-use Rattle.report.specs.declared.telling.Judged.{Judged}
-use Rattle.report.specs.Verdicts.{Tells}
+use Rattle.report.specs.declared.telling.VerdictTold.{VerdictTold}
+use Rattle.report.specs.Verdicts.{TellsVerdict}
 
-pub told-so : (verdict rest : List ℕ) (j : Judged) (number partner : ℕ)
+pub told-so : (verdict rest : List ℕ) (j : VerdictTold) (number partner : ℕ)
     → j ≡ record { number = number; word = little (bytes "=" ++ verdict ++ rest); len = length (bytes "=" ++ verdict); partner = partner }
     → length (bytes "=" ++ verdict ++ rest) ≡ 8 → allBelow 256 (bytes "=" ++ verdict ++ rest) ≡ true
     → (j .number ≡ number) × Opens (bytes "=" ++ verdict) (j .word) (j .len) × (j .partner ≡ partner)
 told-so verdict rest j number partner e l b = (
-  ap (λ (t : Judged). t .number) e,
-  subst (λ (t : Judged). Opens (bytes "=" ++ verdict) (t .word) (t .len)) (sym e) (opens-with (bytes "=" ++ verdict) rest l b),
-  ap (λ (t : Judged). t .partner) e,
+  ap (λ (t : VerdictTold). t .number) e,
+  subst (λ (t : VerdictTold). Opens (bytes "=" ++ verdict) (t .word) (t .len)) (sym e) (opens-with (bytes "=" ++ verdict) rest l b),
+  ap (λ (t : VerdictTold). t .partner) e,
 )
 
 -- By the case of an answer
@@ -50,7 +50,7 @@ pub not-case : (a : Answer) (ks : List ℕ) (k : ℕ) → T (not (hasKey ks k)) 
 not-case a ks k h o e = miss ks k h (subst (OneOf ks) (sym (case-tag a) ∙ e) o)
 
 -- by document 01, from the answer's three numbers
-abbrev pub plainly : ℕ → ℕ → ℕ → Judged
+abbrev pub plainly : ℕ → ℕ → ℕ → VerdictTold
 plainly case number partner =
     record {
       number = number;
@@ -60,7 +60,7 @@ plainly case number partner =
     }
 
 pub tells-plainly : (a : Answer) → 2 ≤ getD (answerNumbers a) 0 0 → (line : ℕ) (r : Record)
-    → Tells (reportLine line r a) (r .task) (r .on) (plainly (getD (answerNumbers a) 0 0) (getD (answerNumbers a) 1 0) (getD (answerNumbers a) 2 0))
+    → TellsVerdict (reportLine line r a) (r .task) (r .on) (plainly (getD (answerNumbers a) 0 0) (getD (answerNumbers a) 1 0) (getD (answerNumbers a) 2 0))
 unfolding allBelow
 tells-plainly (Refused n) h line r = absurd (omega arith)
 tells-plainly (Accepted n) h line r = absurd (omega arith)
@@ -87,14 +87,14 @@ no-race-line line r x (Race n w) h = absurd (h refl)
 no-race-line line r x (Doubt n w) h = refl
 
 -- nothing is excused
-pub none-taken : (control last fullclocks : List ℕ) (r : Record) (w : ℕ) → entryCount control ≡ 0 → excuseBy control last fullclocks r w ≡ excuseOf false w
-unfolding excuseBy
+pub none-taken : (control last fullclocks : List ℕ) (r : Record) (w : ℕ) → entryCount control ≡ 0 → tablesExcuse control last fullclocks r w ≡ excuseOf false w
+unfolding tablesExcuse
 none-taken control last fullclocks r w h = rw h
 
 -- a Race by its excuse
-pub tells-race : (task on : ℕ) (x : Excuse) (j : Judged) (number : ℕ)
+pub tells-race : (task on : ℕ) (x : Excuse) (j : VerdictTold) (number : ℕ)
     → (j .number ≡ number) × Opens (bytes "=" ++ raceWord (x .known)) (j .word) (j .len) × (j .partner ≡ x .partner .0)
-    → Tells (accessLine number task on (raceWord (x .known)) (x .partner .0)) task on j
+    → TellsVerdict (accessLine number task on (raceWord (x .known)) (x .partner .0)) task on j
 tells-race task on x j number t = let l = letters (x .known) in
     record {
       verdict = raceWord (x .known);

@@ -5,10 +5,10 @@ use Prim.Native.Nat.{ℕ, _≤_}
 use Rattle.text.specs.Printing.{bytes}
 use Rattle.text.specs.ReportLines.{accessLine}
 use Rattle.text.specs.Words.{Opens}
-use Rattle.report.specs.declared.telling.Judged.{Judged}
+use Rattle.report.specs.declared.telling.VerdictTold.{VerdictTold}
 
 -- the line is that of an access, with a verdict's word of two to five letters
-pub record Tells (line : List ℕ) (task on : ℕ) (j : Judged) : Type 0 where
+pub record TellsVerdict (line : List ℕ) (task on : ℕ) (j : VerdictTold) : Type 0 where
   pub verdict : List ℕ
   pub opens : Opens (bytes "=" ++ verdict) (j .word) (j .len)
   pub least : 3 ≤ j .len

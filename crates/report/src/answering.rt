@@ -1,7 +1,5 @@
 // Lines answered: each is fed, and what the report has for it is written.
-use crate::parsing::parse_line;
 use crate::reader::read_record;
-use crate::scan::rest_start;
 use crate::writing::put_answer;
 use crate::writing::put_refused;
 use checker::step_in_place;

@@ -13,7 +13,7 @@ use theory::RECORDS;
 use theory::TASKS;
 use theory::VARIABLES;
 ghost use mathlib.Core.Path.{_≡_};
-ghost use Rattle.text.specs.EntryForm.{afterSpaces, wordAfter, recordField, inRange, withinRange, markedBy, entryOf};
+ghost use Rattle.text.specs.EntryForm.{afterSpaces, wordAfter, recordField, inRange, withinRange, markedEntry, entryOf};
 ghost use Rattle.text.specs.LineForm.{fieldOf};
 
 // What follows the first k spaces; nothing where there are fewer.
@@ -85,8 +85,8 @@ fn within_range(e: Entry) -> EntryLine
 }
 
 // The entry of four numbers and the last word, `mark=accepted` or `mark=open`.
-fn marked(rec: u32, var: u32, low: u32, high: u32, mark: &[u8]) -> EntryLine
-    ensures { λ r. ⌜ r ≡ markedBy rec var low high (now (mark .entry)) ⌝ }
+fn marked_entry(rec: u32, var: u32, low: u32, high: u32, mark: &[u8]) -> EntryLine
+    ensures { λ r. ⌜ r ≡ markedEntry rec var low high (now (mark .entry)) ⌝ }
 {
     let accepted = is_word(b"mark=accepted", mark);
     let open = is_word(b"mark=open", mark);
@@ -118,5 +118,5 @@ pub(crate) fn parse_entry(line: &[u8]) -> EntryLine
     let Number::Value(high) = word_field(line, 3, b"high=") else {
         return EntryLine::Nothing;
     };
-    marked(rec, var, low, high, after_spaces(line, 4))
+    marked_entry(rec, var, low, high, after_spaces(line, 4))
 }

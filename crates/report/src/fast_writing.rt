@@ -6,16 +6,17 @@ ghost use mathlib.Core.Path.{_≡_};
 ghost use mathlib.Core.List.{_++_};
 ghost use lib.ListN.{length};
 ghost use Rattle.text.specs.Printing.{bytes, recordDigits, recordText};
-ghost use Rattle.text.specs.Words.{bytesOf, digitPairs, numberWord};
+ghost use Rattle.text.specs.Words.{littleBytes, digitPairs, numberWord};
 ghost use Rattle.text.specs.Wrote.{Wrote};
 
-// The first number that a record number's digits do not hold.
+// The first number that a record number's digits do not hold: ten to the power RECORD_DIGITS, written out, as constants have no powers. With a
+// greater one `put_number` does not meet what `number_word` requires, which is said by `recordDigits`.
 const TOO_LONG: u32 = 10_000_000;
 
 // The bytes of a number, the first counting least.
 pub(crate) fn put_eight(out: &mut [u8], at: usize, w: u64) -> usize
     requires { ⌜ at + 8 ≤ length (now out) ⌝ }
-    ensures { λ r. ⌜ Wrote (now (out .entry)) at (bytesOf 8 w) (now (out .exit)) r ⌝ }
+    ensures { λ r. ⌜ Wrote (now (out .entry)) at (littleBytes 8 w) (now (out .exit)) r ⌝ }
 {
     out[at] = (w % 256) as u8;
     out[at + 1] = (w / 256 % 256) as u8;

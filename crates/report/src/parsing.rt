@@ -23,7 +23,7 @@ pub(crate) fn past(s: &[u8], at: usize) -> usize
 }
 
 // What follows the op of an act: `task=T on=N`.
-fn act(kind: u8, s: &[u8]) -> Parsed
+fn parse_act(kind: u8, s: &[u8]) -> Parsed
     ensures { λ r. ⌜ r ≡ parseAct kind (now (s .entry)) ⌝ }
 {
     let e = place_of(s, 0, SPACE);
@@ -38,7 +38,7 @@ fn act(kind: u8, s: &[u8]) -> Parsed
 }
 
 // What follows `op=lost`: `tasks=M`.
-fn mark(s: &[u8]) -> Parsed
+fn parse_mark(s: &[u8]) -> Parsed
     ensures { λ r. ⌜ r ≡ parseMark (now (s .entry)) ⌝ }
 {
     let Number::Value(on) = field(b"tasks=", s) else {
@@ -61,7 +61,7 @@ pub fn parse_line(line: &[u8]) -> Parsed
     }
     let p = past(line, op_end(k));
     if k == LOST {
-        return mark(&line[p..]);
+        return parse_mark(&line[p..]);
     }
-    act(k, &line[p..])
+    parse_act(k, &line[p..])
 }

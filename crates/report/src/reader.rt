@@ -1,5 +1,5 @@
 // The line reader: it holds the text that it was lent and how far it has read, and every line of a text comes through it.
-use crate::short::record_at;
+use crate::short::line_taken;
 use text::Parsed;
 ghost use mathlib.Core.Path.{_≡_};
 ghost use Rattle.text.specs.LineForm.{parseOf};
@@ -22,7 +22,7 @@ pub fn next_record(reader: &mut LineReader) -> Parsed
     ensures { λ r. ⌜ (r ≡ parseOf (lineAt (now (now (reader .entry) .text)) (now (reader .entry) .at)))
         × (now (reader .exit) ≡ record { text = now (reader .entry) .text; at = nextAt (now (now (reader .entry) .text)) (now (reader .entry) .at) }) ⌝ }
 {
-    let taken = record_at(reader.text, reader.at);
+    let taken = line_taken(reader.text, reader.at);
     reader.at = taken.next;
     taken.parsed
 }

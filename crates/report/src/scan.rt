@@ -3,9 +3,9 @@ ghost use mathlib.Core.Path.{_≡_};
 ghost use mathlib.Core.Bool.{true, cond};
 ghost use Prim.Native.Nat.{_+_, _-_, _≤_, _<_};
 ghost use lib.Dec.{eqb, ltb};
-ghost use lib.ListN.{length, drop, getD};
+ghost use lib.ListN.{length, drop};
 ghost use Rattle.text.specs.Bytes.{indexOf};
-ghost use Rattle.text.specs.Lines.{lf, lineEnd, linesOf, lfBit, lfCount};
+ghost use Rattle.text.specs.Lines.{lineEnd, linesOf, lfBit, lfCount};
 ghost use Rattle.text.specs.Reading.{lineAt, placeAfter, LastLf};
 
 pub(crate) const LF: u8 = 10;

@@ -148,13 +148,13 @@ fn short_line(s: &[u8], p: usize) -> Short
 }
 
 // What the line at a place says, and the place after it and its LF.
-pub(crate) struct Taken {
+pub(crate) struct LineTaken {
     pub parsed: Parsed,
     pub next: usize,
 }
 
 // Reads the line that begins at a place: as a short line, or else as a part of the text that is taken apart. From the end of the text on it is empty.
-pub(crate) fn record_at(text: &[u8], at: usize) -> Taken
+pub(crate) fn line_taken(text: &[u8], at: usize) -> LineTaken
     ensures { λ r. ⌜ r ≡ record { parsed = parseOf (lineAt (now (text .entry)) at); next = nextAt (now (text .entry)) at } ⌝ }
 {
     let s = short_line(text, at);
@@ -164,7 +164,7 @@ pub(crate) fn record_at(text: &[u8], at: usize) -> Taken
             task: s.task,
             on: s.on,
         };
-        return Taken {
+        return LineTaken {
             parsed: Parsed::Record(record),
             next: s.to,
         };
@@ -173,7 +173,7 @@ pub(crate) fn record_at(text: &[u8], at: usize) -> Taken
     let next = place_after(text, at, line.len());
     // made anew, so that no record is copied where the line is short
     let Parsed::Record(r) = parse_line(line) else {
-        return Taken {
+        return LineTaken {
             parsed: Parsed::Nothing,
             next,
         };
@@ -183,7 +183,7 @@ pub(crate) fn record_at(text: &[u8], at: usize) -> Taken
         task: r.task,
         on: r.on,
     };
-    Taken {
+    LineTaken {
         parsed: Parsed::Record(record),
         next,
     }

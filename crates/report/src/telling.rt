@@ -17,15 +17,15 @@ ghost use Rattle.text.specs.Printing.{bytes};
 ghost use Rattle.theory.specs.declared.record.Record.{Record};
 ghost use Rattle.theory.specs.feeding.Meaning.{meaning};
 ghost use Rattle.theory.specs.feeding.Step.{answerNumbers};
-ghost use Rattle.theory.specs.entries.Table.{excuseBy};
+ghost use Rattle.theory.specs.entries.Table.{tablesExcuse};
 ghost use Rattle.text.specs.ReportLines.{reportLine, raceWord, excusedFor, partnerIn};
 ghost use Rattle.text.specs.Bytes.{little};
 ghost use Rattle.text.specs.Words.{Opens};
-ghost use Rattle.report.specs.Verdicts.{Tells};
+ghost use Rattle.report.specs.Verdicts.{TellsVerdict};
 
 // What an accepted access's line says of its verdict: the access's record number, `=` and the verdict's word as eight bytes, how many of them these are,
 // and the partner's record number.
-pub(crate) struct Judged {
+pub(crate) struct VerdictTold {
     pub(crate) number: u32,
     pub(crate) word: u64,
     pub(crate) len: usize,
@@ -83,10 +83,10 @@ fn partner_of(a: Answer) -> u32
     }
 }
 
-fn told(number: u32, word: &[u8; 8], len: usize, partner: u32) -> Judged
+fn told_by_word(number: u32, word: &[u8; 8], len: usize, partner: u32) -> VerdictTold
     ensures { λ r. ⌜ r ≡ record { number = number; word = little (now (word .entry)); len = len; partner = partner } ⌝ }
 {
-    Judged {
+    VerdictTold {
         number,
         word: eight(word, 0),
         len,
@@ -95,22 +95,22 @@ fn told(number: u32, word: &[u8; 8], len: usize, partner: u32) -> Judged
 }
 
 // A Race as it is excused.
-fn told_race(number: u32, x: Excuse) -> Judged
+fn told_race(number: u32, x: Excuse) -> VerdictTold
     ensures { λ r. ⌜ (r .number ≡ number) × Opens (bytes "=" ++ raceWord (x .known)) (r .word) (r .len) × (r .partner ≡ x .partner .0) ⌝ }
 {
     if x.known {
-        return told(number, b"=known  ", 6, x.partner.0);
+        return told_by_word(number, b"=known  ", 6, x.partner.0);
     }
-    told(number, b"=race   ", 5, x.partner.0)
+    told_by_word(number, b"=race   ", 5, x.partner.0)
 }
 
 // The verdict of an access, by document 01.
-fn told_plain(a: Answer) -> Judged
+fn told_plain(a: Answer) -> VerdictTold
     requires { ⌜ 2 ≤ getD (answerNumbers a) 0 0 ⌝ }
-    ensures { λ j. ⌜ ((line : ℕ) (r : Record) → Tells (reportLine line r a) (r .task) (r .on) j) ⌝ }
+    ensures { λ j. ⌜ ((line : ℕ) (r : Record) → TellsVerdict (reportLine line r a) (r .task) (r .on) j) ⌝ }
 {
     let case = case_of(a);
-    Judged {
+    VerdictTold {
         number: number_of(a),
         word: pick(
             case == RACE,
@@ -129,10 +129,10 @@ pub(crate) fn told_answer(
     control: &Control,
     last: &History,
     fullclocks: &Clocks,
-) -> Judged
+) -> VerdictTold
     requires { ⌜ 2 ≤ getD (answerNumbers a) 0 0 ⌝ }
-    ensures { λ j. let excused = excuseBy (now (control .entry)) (now (last .entry)) (now (fullclocks .entry)) r (partnerIn (meaning a)) in
-        ⌜ ((line : ℕ) → Tells (excusedFor line r excused (meaning a)) (r .task) (r .on) j) ⌝ }
+    ensures { λ j. let excused = tablesExcuse (now (control .entry)) (now (last .entry)) (now (fullclocks .entry)) r (partnerIn (meaning a)) in
+        ⌜ ((line : ℕ) → TellsVerdict (excusedFor line r excused (meaning a)) (r .task) (r .on) j) ⌝ }
 {
     if control[ENTRIES] == 0 {
         return told_plain(a);

@@ -160,7 +160,7 @@ fn opened(kind: u8, o: &[u8; 8]) -> Opening
 }
 
 // A number below 16 that differs from op to op, by the letters of the word. Of two words with one number the later would be read the slow way.
-fn slot(bytes: u64) -> u64 {
+fn hash_slot(bytes: u64) -> u64 {
     bytes / 16_777_216 * 2665 / 4_294_967_296 % 16
 }
 
@@ -169,12 +169,12 @@ fn slot(bytes: u64) -> u64 {
 fn guess(bytes: u64) -> Opening
     ensures { λ r. ⌜ (r .kind < length words) × (r .bytes ≡ little (kindOpening (r .kind))) × (r .len ≡ opBytes (kindOpening (r .kind))) ⌝ }
 {
-    let at = slot(bytes);
+    let at = hash_slot(bytes);
     let openings = OPENINGS;
     let mut k: u8 = 0;
     while k < KINDS {
         let o = opened(k, &openings[k as usize]);
-        if slot(o.bytes) == at {
+        if hash_slot(o.bytes) == at {
             return o;
         }
         k += 1;

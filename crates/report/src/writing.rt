@@ -1,9 +1,8 @@
 // Report lines, written into lent memory. Each function writes at a place and returns the place after what it wrote.
 use crate::fast_writing::put_eight;
 use crate::fast_writing::put_number;
-use crate::telling::Judged;
+use crate::telling::VerdictTold;
 use crate::telling::told_answer;
-use checker::excuse;
 use theory::Answer;
 use theory::Clocks;
 use theory::Control;
@@ -19,7 +18,7 @@ ghost use Rattle.text.specs.LineForm.{digits};
 ghost use Rattle.text.specs.Lines.{lineRoom};
 ghost use Rattle.text.specs.Printing.{bytes, lastDigit, decimal, recordDigits, recordText};
 ghost use Rattle.theory.specs.feeding.Meaning.{meaning};
-ghost use Rattle.theory.specs.entries.Table.{excuseBy};
+ghost use Rattle.theory.specs.entries.Table.{tablesExcuse};
 ghost use Rattle.text.specs.ReportLines.{accessPart, accessLine, refusedAs, refusedLine, excusedFor, partnerIn};
 ghost use Rattle.text.specs.Words.{Opens};
 ghost use Rattle.text.specs.Wrote.{Wrote};
@@ -139,7 +138,7 @@ fn put_access_part(out: &mut [u8], at: usize, number: u32, task: u32, variable: 
 }
 
 // The line of an accepted access. The bytes after the verdict's word are written over.
-fn put_access_line(out: &mut [u8], at: usize, r: Record, j: Judged) -> usize
+fn put_access_line(out: &mut [u8], at: usize, r: Record, j: VerdictTold) -> usize
     requires { ⌜ (at + 44 + length (decimal (r .task)) + length (decimal (r .on)) + j .len ≤ length (now out)) × (3 ≤ j .len) × (j .len ≤ 8) ⌝ }
     ensures { λ to. ⌜ ((w : List ℕ) → Opens (bytes "=" ++ w) (j .word) (j .len) → Wrote (now (out .entry)) at (accessLine (j .number) (r .task) (r .on) w (j .partner)) (now (out .exit)) to) ⌝ }
 {
@@ -184,7 +183,7 @@ pub(crate) fn put_answer(
     fullclocks: &Clocks,
 ) -> usize
     requires { ⌜ (at + lineRoom ≤ length (now out)) × (r .task < 10 ^ digits) × (r .on < 10 ^ digits) ⌝ }
-    ensures { λ to. let excused = excuseBy (now (control .entry)) (now (last .entry)) (now (fullclocks .entry)) r (partnerIn (meaning a)) in
+    ensures { λ to. let excused = tablesExcuse (now (control .entry)) (now (last .entry)) (now (fullclocks .entry)) r (partnerIn (meaning a)) in
         ⌜ Wrote (now (out .entry)) at (excusedFor line r excused (meaning a)) (now (out .exit)) to × (to ≤ at + lineRoom) ⌝ }
 {
     if let Answer::Refused(number) = a {

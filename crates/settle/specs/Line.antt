@@ -1,5 +1,4 @@
 -- What a line is taken for: where it says no record, one of no kind, which the step refuses by the same row.
-use mathlib.Core.List.{List}
 use lib.ListN.{length}
 use Rattle.theory.specs.declared.record.Record.{Record}
 use Rattle.theory.specs.order.Recording.{kinds}

@@ -9,7 +9,7 @@ ghost use Rattle.theory.specs.order.Limits.{tasks};
 ghost use Rattle.settle.specs.Argument.{bitOf, taskIn, saysNone};
 
 // The tasks that are named, and whether nothing else is.
-pub(crate) struct Named {
+pub(crate) struct NamedTasks {
     pub home: u32,
     pub good: bool,
 }
@@ -62,11 +62,11 @@ fn says_none(w: &[u8]) -> bool
 }
 
 // The set with one argument more: one that names no task spoils it.
-fn with_argument(so_far: Named, i: usize) -> Named {
+fn with_argument(so_far: NamedTasks, i: usize) -> NamedTasks {
     let mut word = [0u8; DIGITS];
     let n = os::arg(i, &mut word);
     let bit = task_in(&word[..n]);
-    Named {
+    NamedTasks {
         home: so_far.home | bit,
         good: so_far.good && bit != 0,
     }
@@ -80,8 +80,8 @@ fn none_alone() -> bool {
 }
 
 // The set of all arguments.
-pub(crate) fn home_of() -> Named {
-    let mut named = Named {
+pub(crate) fn home_of() -> NamedTasks {
+    let mut named = NamedTasks {
         home: 0,
         good: true,
     };

@@ -11,7 +11,7 @@ ghost use Rattle.theory.specs.order.Limits.{tasks};
 ghost use Rattle.text.specs.Printing.{decimal};
 ghost use Rattle.text.specs.Wrote.{Wrote};
 ghost use Rattle.io.specs.Counts.{Counts};
-ghost use Rattle.settle.specs.Table.{named, namedBelow};
+ghost use Rattle.settle.specs.Table.{commaTask, namedBelow};
 
 // Room for the tasks of a mask: a comma and at most two digits each.
 const ROOM: usize = 3 * TASKS as usize;
@@ -40,7 +40,7 @@ fn put_task(out: &mut [u8], at: usize, t: u32) -> usize
 // A task of the mask, behind a comma.
 fn put_named(out: &mut [u8], at: usize, mask: u16, t: u32) -> usize
     requires { ⌜ (at + 3 ≤ length (now out)) × (t < tasks) ⌝ }
-    ensures { λ r. ⌜ Wrote (now (out .entry)) at (named mask t) (now (out .exit)) r × (r ≤ at + 3) ⌝ }
+    ensures { λ r. ⌜ Wrote (now (out .entry)) at (commaTask mask t) (now (out .exit)) r × (r ≤ at + 3) ⌝ }
 {
     if has(mask, t) {
         let number = put_byte(out, at, b',');

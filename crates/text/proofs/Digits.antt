@@ -88,9 +88,9 @@ pub record Fills (n w : ℕ) : Type 0 where
   pub filled : 0 < w → 10 ^ w ≤ n
 
 -- a number below 10 ^ suc k has at most suc k digits
-pub fills : (k n : ℕ) → n < 10 ^ suc k → (w : ℕ) × Fills n w × (w ≤ k)
-fills zero n h = (0, record { wide = width-small n h; below = h; filled = λ p. absurd (omega arith) }, omega arith)
-fills (suc k) n h = go (ltb n 10) refl (fills k (n / 10))
+pub fits-digits : (k n : ℕ) → n < 10 ^ suc k → (w : ℕ) × Fills n w × (w ≤ k)
+fits-digits zero n h = (0, record { wide = width-small n h; below = h; filled = λ p. absurd (omega arith) }, omega arith)
+fits-digits (suc k) n h = go (ltb n 10) refl (fits-digits k (n / 10))
   where
     at-least : (w : ℕ) → 10 ≤ n → (0 < w → 10 ^ w ≤ n / 10) → 10 ^ w ≤ n / 10
     at-least zero l a = omega arith
@@ -143,4 +143,4 @@ length-more n h = ap length (decimal-more n h) ∙ length-append (decimal (n / 1
 -- a number below 10 ^ k has at most k digits, for each k from 1 on
 pub decimal-fits : (k n : ℕ) → n < 10 ^ suc k → length (decimal n) ≤ suc k
 unfolding decimal
-decimal-fits k n h = let (w, f, g) = fills k n h in omega (arith, digits-long (width n) n, f .wide)
+decimal-fits k n h = let (w, f, g) = fits-digits k n h in omega (arith, digits-long (width n) n, f .wide)

@@ -1,7 +1,5 @@
 -- The file of accepted faults: however it is cut, what is said for it is what is said for its lines. Assumes nothing.
-use mathlib.Core.Path.{_≡_, ap}
-use mathlib.Core.List.{List}
-use Prim.Native.Nat.{ℕ}
+use mathlib.Core.Path.{ap}
 use Rattle.text.specs.Stream.{HeldEnough, CutsAlike}
 use Rattle.text.specs.EntryForm.{entryOf}
 use Rattle.text.specs.Entries.{saidForEntry, controlWith, entryReader}
@@ -15,5 +13,5 @@ entries-held =
       same-next = λ control l. ap (controlWith control) (held-same entryOf long-entry l);
     }
 
-pub entries-cut : CutsAlike entryReader
-entries-cut = cuts-alike entryReader entries-held
+pub entry-reader-cuts : CutsAlike entryReader
+entry-reader-cuts = cuts-alike entryReader entries-held

@@ -2,10 +2,9 @@
 use mathlib.Core.Path.{_≡_, refl, sym, ap, _∙_}
 use mathlib.Core.Bool.{Bool, true, false, cond, _&&_}
 use mathlib.Core.List.{List, [], _∷_, _++_, append-nil}
-use Prim.Native.Nat.{ℕ, suc, _+_, _*_, _^_, _≤_, _<_}
+use Prim.Native.Nat.{ℕ, _+_, _≤_, _<_}
 use native.Mathlib.Numerals.{add-one}
 use native.Mathlib.Omega.{arith}
-use lib.Dec.{eqb}
 use lib.ListN.{length, take, getD, length-append, length-take}
 use lib.Seq.{sets, length-sets, take-suc, take-all}
 use borrow.Author.Tests.{eq-eqb, ne-eqb}
@@ -17,7 +16,7 @@ use Rattle.text.specs.declared.progress.Progress.{Progress}
 use Rattle.text.specs.Lines.{lf, lineRoom}
 use Rattle.text.specs.Wrote.{Wrote}
 use Rattle.text.specs.EntryForm.{entryOf}
-use Rattle.text.specs.Stream.{Pending, pending, heldMost, byteSaid, byteKept, pieceSaid, pieceKept, pendingIn, progressTo}
+use Rattle.text.specs.Stream.{Pending, pending, heldMost, byteSaid, byteKept, pieceSaid, pieceKept, pendingIn}
 use Rattle.text.specs.ReportLines.{refusedEntry}
 use Rattle.text.specs.Entries.{saidForEntry, controlWith, entryReader}
 use Rattle.text.specs.Answers.{PieceFits}
@@ -46,12 +45,12 @@ pub taken-in : (n : ℕ) (control : List ℕ) {l : EntryLine} {e : Entry} → l 
 taken-in n control q h = rw (q, h)
 
 -- memory at entry and at exit
-abbrev pub twice : List ℕ → List ℕ → Twice (List ℕ)
-twice before after = record { entry = before; exit = after }
+abbrev pub bothTimes : List ℕ → List ℕ → Twice (List ℕ)
+bothTimes before after = record { entry = before; exit = after }
 
 -- Byte by byte
 
-pub none-read : {out line control : List ℕ} {begun : Progress} → begun .held ≤ heldMost → EntriesRead (twice out out) (twice line line) (twice control control) begun [] begun
+pub none-read : {out line control : List ℕ} {begun : Progress} → begun .held ≤ heldMost → EntriesRead (bothTimes out out) (bothTimes line line) (bothTimes control control) begun [] begun
 unfolding pieceSaid pieceKept
 none-read h = record { wrote = wrote-nothing; keeps = refl; room = omega arith; short = h; holds = refl; counted = omega arith }
 
@@ -77,7 +76,7 @@ module _ {out line control : List ℕ} {begun : Progress} {b : ℕ} where
   pub line-read : {out′ control′ : List ℕ} {at : ℕ} → b ≡ lf
       → Wrote out (begun .at) (saidForEntry (begun .lines + 1) control (entryOf (take (begun .held) line))) out′ at
       → control′ ≡ controlWith control (entryOf (take (begun .held) line)) → at ≤ begun .at + lineRoom
-      → EntriesRead (twice out out′) (twice line line) (twice control control′) begun (b ∷ []) (record { lines = begun .lines + 1; held = 0; at = at })
+      → EntriesRead (bothTimes out out′) (bothTimes line line) (bothTimes control control′) begun (b ∷ []) (record { lines = begun .lines + 1; held = 0; at = at })
   line-read {out′} {control′} {at} e w q r =
       record {
         wrote = rw (at-lf line control begun b e .0) w;
@@ -91,7 +90,7 @@ module _ {out line control : List ℕ} {begun : Progress} {b : ℕ} where
   -- any other byte is held, if there is room
   pub byte-read : {line′ : List ℕ} {n : ℕ} → (b ≡ lf → ⊥) → heldMost ≤ length line
       → (n ≡ length (take heldMost (take (begun .held) line ++ (b ∷ [])))) × (line′ ≡ sets line 0 (take heldMost (take (begun .held) line ++ (b ∷ []))))
-      → EntriesRead (twice out out) (twice line line′) (twice control control) begun (b ∷ []) (record { lines = begun .lines; held = n; at = begun .at })
+      → EntriesRead (bothTimes out out) (bothTimes line line′) (bothTimes control control) begun (b ∷ []) (record { lines = begun .lines; held = n; at = begun .at })
   byte-read {line′} {n} d h (f, g) =
       record {
         wrote = rw (at-other line control begun b d .0) wrote-nothing;
@@ -110,8 +109,8 @@ module _ {out line control : List ℕ} {begun : Progress} {b : ℕ} where
 
 -- some bytes, and others after them
 read-both : {out out′ out″ line line′ line″ control control′ control″ : List ℕ} {begun mid ended : Progress} (s t : List ℕ)
-    → EntriesRead (twice out out′) (twice line line′) (twice control control′) begun s mid → EntriesRead (twice out′ out″) (twice line′ line″) (twice control′ control″) mid t ended
-    → EntriesRead (twice out out″) (twice line line″) (twice control control″) begun (s ++ t) ended
+    → EntriesRead (bothTimes out out′) (bothTimes line line′) (bothTimes control control′) begun s mid → EntriesRead (bothTimes out′ out″) (bothTimes line′ line″) (bothTimes control′ control″) mid t ended
+    → EntriesRead (bothTimes out out″) (bothTimes line line″) (bothTimes control control″) begun (s ++ t) ended
 read-both {line = line} {control = control} {begun = begun} s t v w =
     record {
       wrote = rw (said-append entryReader entries-held (pendingIn control begun line) s t, ← v .keeps) (v .wrote then w .wrote);
@@ -124,18 +123,18 @@ read-both {line = line} {control = control} {begun = begun} s t v w =
 
 -- the byte at i is read after those before it
 pub read-next : {out out′ out″ line line′ line″ control control′ control″ : List ℕ} {begun mid ended : Progress} (piece : List ℕ) {i : ℕ} → i < length piece
-    → EntriesRead (twice out out′) (twice line line′) (twice control control′) begun (take i piece) mid
-    → EntriesRead (twice out′ out″) (twice line′ line″) (twice control′ control″) mid (getD piece i 0 ∷ []) ended
-    → EntriesRead (twice out out″) (twice line line″) (twice control control″) begun (take (i + 1) piece) ended
+    → EntriesRead (bothTimes out out′) (bothTimes line line′) (bothTimes control control′) begun (take i piece) mid
+    → EntriesRead (bothTimes out′ out″) (bothTimes line′ line″) (bothTimes control′ control″) mid (getD piece i 0 ∷ []) ended
+    → EntriesRead (bothTimes out out″) (bothTimes line line″) (bothTimes control control″) begun (take (i + 1) piece) ended
 read-next piece {i} h v w = rw (add-one i, take-suc piece i 0 h) (read-both (take i piece) (getD piece i 0 ∷ []) v w)
 
-pub read-all : {out line control : Twice (List ℕ)} {begun ended : Progress} (piece : List ℕ) {i : ℕ} → length piece ≤ i
+pub entries-all-read : {out line control : Twice (List ℕ)} {begun ended : Progress} (piece : List ℕ) {i : ℕ} → length piece ≤ i
     → EntriesRead out line control begun (take i piece) ended → EntriesRead out line control begun piece ended
-read-all piece {i} h w = rw (take-all i piece h) at w
+entries-all-read piece {i} h w = rw (take-all i piece h) at w
 
 -- there is room for the byte at i
 pub next-fits : {out out′ line line′ control control′ : List ℕ} {begun mid : Progress} (piece : List ℕ) {i : ℕ} → i < length piece
-    → EntriesFit out line begun (length piece) → EntriesRead (twice out out′) (twice line line′) (twice control control′) begun (take i piece) mid
+    → EntriesFit out line begun (length piece) → EntriesRead (bothTimes out out′) (bothTimes line line′) (bothTimes control control′) begun (take i piece) mid
     → EntriesFit out′ line′ mid 1
 next-fits piece {i} h f w =
     let l = length-take i piece in
@@ -159,8 +158,8 @@ same-progress p e f = rw (← e, ← f)
 -- and what is held then is written back
 pub piece-read : {out out′ piece held held′ zeros line line′ control control′ : List ℕ} {begun ended : Progress} {to to′ : ℕ}
     → PieceFits out piece held begun → heldMost ≤ length zeros → Wrote zeros 0 (take (begun .held) held) line to
-    → EntriesRead (twice out out′) (twice line line′) (twice control control′) begun piece ended → Wrote held 0 (take (ended .held) line′) held′ to′
-    → EntriesAnswered (twice out out′) (twice held held′) (twice control control′) begun piece ended
+    → EntriesRead (bothTimes out out′) (bothTimes line line′) (bothTimes control control′) begun piece ended → Wrote held 0 (take (ended .held) line′) held′ to′
+    → EntriesAnswered (bothTimes out out′) (bothTimes held held′) (bothTimes control control′) begun piece ended
 piece-read {out} {out′} {piece} {held} {held′} {zeros} {line} {line′} {control} {control′} {begun} {ended} {to} f h w r v =
     record {
       progress = same-progress ended (sym kept-long ∙ ap (λ (k : Pending (List ℕ)). length (k .held)) keeps) (r .wrote .place ∙ ap (λ (k : Pending (List ℕ)). begun .at + length (pieceSaid entryReader k piece)) same)
@@ -195,9 +194,9 @@ piece-read {out} {out′} {piece} {held} {held′} {zeros} {line} {line′} {con
 
 -- so much of the line is there to be written back
 pub back-fits : {out out′ line line′ control control′ zeros bs piece : List ℕ} {begun ended : Progress} {to : ℕ} → heldMost ≤ length zeros → Wrote zeros 0 bs line to
-    → EntriesRead (twice out out′) (twice line line′) (twice control control′) begun piece ended → ended .held ≤ length line′
+    → EntriesRead (bothTimes out out′) (bothTimes line line′) (bothTimes control control′) begun piece ended → ended .held ≤ length line′
 back-fits h w r = omega (arith, r .short, r .holds, as-long w)
 
 pub back-room : {out out′ line line′ control control′ piece : List ℕ} {begun ended : Progress} {room : ℕ} → heldMost ≤ room
-    → EntriesRead (twice out out′) (twice line line′) (twice control control′) begun piece ended → 0 + length (take (ended .held) line′) ≤ room
+    → EntriesRead (bothTimes out out′) (bothTimes line line′) (bothTimes control control′) begun piece ended → 0 + length (take (ended .held) line′) ≤ room
 back-room {line′ = line′} {ended = ended} h r = omega (arith, r .short, length-take (ended .held) line′)

@@ -9,7 +9,7 @@ use native.Mathlib.Omega.{arith}
 use lib.Dec.{ltb, eqb}
 use lib.ListN.{length, take, drop, length-append}
 use lib.Seq.{drop-drop}
-use borrow.Author.Tests.{eqb-true, eq-eqb}
+use borrow.Author.Tests.{eqb-true}
 use Rattle.theory.specs.order.Limits.{tasks, variables, records}
 use Rattle.theory.proofs.basics.Reflects.{Reflects, right, wrong, both, same-as, at-most}
 use Rattle.text.specs.declared.entry.Entry.{Entry}
@@ -18,7 +18,7 @@ use Rattle.text.specs.declared.number.Number.{Number}
 use Rattle.text.specs.Bytes.{indexOf, upTo, after, startsWith, isWord}
 use Rattle.text.specs.LineForm.{readDigits, space, fieldOf}
 use Rattle.text.specs.EntryForm.{afterSpaces, wordAfter, recName, varName, lowName, highName, markWord, fewerDigits, recordWide, readRecordNumber, recordField, inRange, withinRange}
-use Rattle.text.specs.EntryForm.{markedBy, entryBy, entryOf, entryText, InForm, EntryTaken, OnlyEntryText, OnlyInForm, LongEntry, TextOf, EntryWritten}
+use Rattle.text.specs.EntryForm.{markedEntry, entryBy, entryOf, entryText, InForm, EntryTaken, OnlyEntryText, OnlyInForm, LongEntry, TextOf, EntryWritten}
 use Rattle.text.specs.Printing.{bytes, lastDigits, widthIn, width, decimal, recordDigits}
 use Rattle.text.proofs.Bytes.{Without, without-append, before-seam, after-seam, joined, is-the-word}
 use Rattle.text.proofs.Digits.{none-above, digits-long, decimal-fits}
@@ -108,9 +108,9 @@ record Said (s : List ℕ) (e : Entry) : Type 0 where
   can : InForm e
 
 -- the last word is the mark of the entry
-marked : (rec var low high : ℕ) (s : List ℕ) (e : Entry) → markedBy rec var low high s ≡ EntryLine.Entry e
+marked : (rec var low high : ℕ) (s : List ℕ) (e : Entry) → markedEntry rec var low high s ≡ EntryLine.Entry e
     → (t : Bool) × (s ≡ markWord t) × (record { rec = rec; var = var; low = low; high = high; accepted = t } ≡ e) × InForm e
-unfolding markedBy
+unfolding markedEntry
 marked rec var low high s e h = picked (isWord (markWord true) s) (isWord (markWord false) s) refl refl h
   where
     made : Bool → Entry
@@ -263,8 +263,8 @@ record-whole : (k n : ℕ) → Without space (recName ++ lastDigits k n)
 unfolding indexOf
 record-whole k n = without-append space recName (lastDigits k n) refl (digits-whole space k n (omega arith))
 
-mark-read : (rec var low high : ℕ) (t : Bool) → markedBy rec var low high (markWord t) ≡ withinRange (record { rec = rec; var = var; low = low; high = high; accepted = t })
-unfolding markedBy isWord startsWith
+mark-read : (rec var low high : ℕ) (t : Bool) → markedEntry rec var low high (markWord t) ≡ withinRange (record { rec = rec; var = var; low = low; high = high; accepted = t })
+unfolding markedEntry isWord startsWith
 mark-read rec var low high true = refl
 mark-read rec var low high false = refl
 
@@ -302,8 +302,8 @@ word-cut k s t e q c = cut-before t e 0 c ∙ ap (upTo space) q
 
 -- the last word is one of the two marks
 pub mark-known : (rec var low high : ℕ) (s : List ℕ) (t : Bool) → t ≡ isWord (markWord true) s → (t || isWord (markWord false) s) ≡ true
-    → markedBy rec var low high s ≡ withinRange (record { rec = rec; var = var; low = low; high = high; accepted = t })
-unfolding markedBy
+    → markedEntry rec var low high s ≡ withinRange (record { rec = rec; var = var; low = low; high = high; accepted = t })
+unfolding markedEntry
 mark-known rec var low high s t e f = rw (← e, f)
 
 -- what the fields say is what the line says

@@ -10,7 +10,7 @@ use Rattle.theory.specs.feeding.Meaning.{Meaning, refuses, takes, judges}
 use Rattle.theory.specs.feeding.Step.{freshState}
 use Rattle.theory.specs.totals.Totals.{entriesAt}
 use Rattle.theory.specs.entries.Table.{entryCount, excuseOf}
-use Rattle.theory.proofs.totals.Kept.{fresh-cell}
+use Rattle.theory.proofs.totals.Kept.{fresh-control-cell}
 use Rattle.theory.proofs.entries.Kept.{taken-kept, no-excuse}
 use Rattle.text.specs.declared.parsed.Parsed.{Parsed}
 use Rattle.text.specs.ReportLines.{lineFor, excusedFor, partnerIn}
@@ -36,4 +36,4 @@ none-after s (Parsed.Record r) e = taken-kept s r ∙ e
 
 pub none-fresh : NoEntries freshState
 unfolding freshState
-none-fresh = fresh-cell entriesAt (omega arith) (omega arith)
+none-fresh = fresh-control-cell entriesAt (omega arith) (omega arith)

@@ -27,7 +27,7 @@ use Rattle.text.proofs.Bytes.{Without, and-true, index-none, index-fits
 use Rattle.text.proofs.Wrote.{sets-append, _then_, front, as-long}
 use Rattle.text.proofs.Lines.{no-lines, lines-of, lines-fit, line-last}
 use Rattle.text.proofs.Reading.{lf-within}
-use Rattle.text.proofs.Pieces.{holding, parse-held, said-append, after-append, rest-held, line-said, line-after}
+use Rattle.text.proofs.Pieces.{keptWith, parse-held, said-append, after-append, rest-held, line-said, line-after}
 use Rattle.text.proofs.Reporting.{linesIn, lines-in, from-place, line-without}
 
 -- What is held
@@ -38,8 +38,8 @@ take-past n a b h =
     ap (λ (k : ℕ). take k (a ++ b)) q ∙ take-append-add a b (n - length a)
 
 -- a list has n elements before place n, if it has so many
-pub counted : (n : ℕ) (l : List ℕ) → n ≤ length l → n ≡ length (take n l)
-counted n l h = omega (arith, length-take n l)
+pub length-taken : (n : ℕ) (l : List ℕ) → n ≤ length l → n ≡ length (take n l)
+length-taken n l h = omega (arith, length-take n l)
 
 pub take-min : (n : ℕ) (s : List ℕ) → take (min n (length s)) s ≡ take n s
 take-min n s = picked (leb n (length s)) refl
@@ -105,7 +105,7 @@ held-rest memory s i {m} {memory′} =
 -- What a piece makes of it
 
 -- as many bytes as are held at most are a line's beginning as it stands
-cut-none : (s : State) (n : ℕ) {h : List ℕ} → length h ≤ heldMost → kept s n h ≡ holding s n h
+cut-none : (s : State) (n : ℕ) {h : List ℕ} → length h ≤ heldMost → kept s n h ≡ keptWith s n h
 cut-none s n {h} q = ap (kept s n) (sym (take-all heldMost h q))
 
 pub piece-held : (s : State) (n : ℕ) (h l : List ℕ) → length h ≤ heldMost → Without lf l

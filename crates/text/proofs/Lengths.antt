@@ -8,6 +8,7 @@ use Rattle.theory.specs.declared.record.Record.{Record}
 use Rattle.theory.specs.declared.answer.Answer.{Answer}
 use Rattle.theory.specs.verdicts.Verdict.{Verdict, Race, Clear, Doubt}
 use Rattle.theory.specs.feeding.Meaning.{Meaning, refuses, takes, judges, meaning, refusalNumber}
+use Rattle.text.specs.Lines.{lineRoom}
 use Rattle.text.specs.LineForm.{digits}
 use Rattle.text.specs.Printing.{bytes, lastDigits, decimal, recordDigits}
 use Rattle.text.specs.ReportLines.{accessPart, accessLine, refusedAs, refusedLine, wordFor, lineFor, reportLine}
@@ -28,36 +29,36 @@ unfolding refusedAs
 length-refused name line number = simp length-append (omega arith)
 
 -- a refusal, by any line number and any number of 32 bits, of a line or of an entry
-pub refused-fits : (name : List ℕ) (line number : ℕ) → length name ≤ 6 → line < 2 ^ 64 → number < 2 ^ 32 → length (refusedAs name line number) ≤ 64
+pub refused-fits : (name : List ℕ) (line number : ℕ) → length name ≤ 6 → line < 2 ^ 64 → number < 2 ^ 32 → length (refusedAs name line number) ≤ lineRoom
 refused-fits name line number l h g =
     omega (arith, length-refused name line number, decimal-fits 19 line (omega arith), decimal-fits 9 number (omega arith))
 
-pub refused-line-fits : (line number : ℕ) → line < 2 ^ 64 → number < 2 ^ 32 → length (refusedLine line number) ≤ 64
+pub refused-line-fits : (line number : ℕ) → line < 2 ^ 64 → number < 2 ^ 32 → length (refusedLine line number) ≤ lineRoom
 refused-line-fits line number h g = refused-fits (bytes "line=") line number (omega arith) h g
 
 -- an access, by a task and a variable that a line can say
 pub access-line-fits : (number task variable : ℕ) (verdict : List ℕ) (partner : ℕ)
-    → task < 10 ^ digits → variable < 10 ^ digits → length verdict ≤ 5 → length (accessLine number task variable verdict partner) ≤ 64
+    → task < 10 ^ digits → variable < 10 ^ digits → length verdict ≤ 5 → length (accessLine number task variable verdict partner) ≤ lineRoom
 access-line-fits number task variable verdict partner h g w =
     omega (arith, length-access-line number task variable verdict partner, decimal-fits (digits - 1) task h, decimal-fits (digits - 1) variable g)
 
 -- so 64 bytes are room for one
-pub access-room : (at number task variable : ℕ) (verdict : List ℕ) (partner : ℕ) {room : ℕ} → at + 64 ≤ room → task < 10 ^ digits → variable < 10 ^ digits → length verdict ≤ 5
+pub access-room : (at number task variable : ℕ) (verdict : List ℕ) (partner : ℕ) {room : ℕ} → at + lineRoom ≤ room → task < 10 ^ digits → variable < 10 ^ digits → length verdict ≤ 5
     → at + length (accessLine number task variable verdict partner) ≤ room
 access-room at number task variable verdict partner h t v w = omega (arith, access-line-fits number task variable verdict partner t v w)
 
 -- a word of at most five letters
-pub word-fits : (v : Verdict) → length (wordFor v) ≤ 5
-word-fits Race = omega arith
-word-fits Clear = omega arith
-word-fits Doubt = omega arith
+pub verdict-word-fits : (v : Verdict) → length (wordFor v) ≤ 5
+verdict-word-fits Race = omega arith
+verdict-word-fits Clear = omega arith
+verdict-word-fits Doubt = omega arith
 
 -- a line of the report, whatever the answer. With tasks and variables of eight digits an access would take 66 bytes; a line of the text form says at most five.
 pub report-line-fits : (line : ℕ) (r : Record) (a : Answer) → line < 2 ^ 64 → refusalNumber (meaning a) < 2 ^ 32 → r .task < 10 ^ digits → r .on < 10 ^ digits
-    → length (reportLine line r a) ≤ 64
+    → length (reportLine line r a) ≤ lineRoom
 report-line-fits line r a h n t v = fits (meaning a) n
   where
-    fits : (m : Meaning) → refusalNumber m < 2 ^ 32 → length (lineFor line r m) ≤ 64
+    fits : (m : Meaning) → refusalNumber m < 2 ^ 32 → length (lineFor line r m) ≤ lineRoom
     fits (refuses number) n = refused-line-fits line number h n
     fits (takes number) n = omega arith
-    fits (judges number verdict partner) n = access-line-fits number (r .task) (r .on) (wordFor verdict) partner t v (word-fits verdict)
+    fits (judges number verdict partner) n = access-line-fits number (r .task) (r .on) (wordFor verdict) partner t v (verdict-word-fits verdict)

@@ -14,7 +14,7 @@ use Rattle.text.specs.declared.number.Number.{Number}
 use Rattle.text.specs.LineForm.{digits, isDigit, isPlain, readDigits, readDecimal}
 use Rattle.text.specs.Printing.{lastDigit, lastDigits, decimal}
 use Rattle.text.proofs.Bytes.{and-true}
-use Rattle.text.proofs.Digits.{divide-more, none-above, some-above, digits-long, fills, width-of}
+use Rattle.text.proofs.Digits.{divide-more, none-above, some-above, digits-long, fits-digits, width-of}
 
 -- Digits
 
@@ -192,7 +192,7 @@ printed-plain n (suc k) h u l =
 pub decimal-read : (n : ℕ) → n < 10 ^ digits → readDecimal (decimal n) ≡ Number.Value n
 unfolding decimal
 decimal-read n h =
-    let (w, f, g) = fills (digits - 1) n h in
+    let (w, f, g) = fits-digits (digits - 1) n h in
     ap (λ (k : ℕ). readDecimal (lastDigits k n)) (f .wide)
     ∙ decimal-plain (lastDigits (suc w) n) (printed-plain n w (omega arith) (f .below) (f .filled))
     ∙ printed-read 0 n (suc w) (sym (div-eq-of-lt (f .below)))

@@ -7,7 +7,7 @@ use lib.ListN.{length, getD, take, drop, take-append-drop}
 use lib.Seq.{length-take-le, take-append-le}
 use borrow.Author.Tests.{leb-true, eqb-true}
 use lib.Dec.{leb, eqb}
-use Rattle.theory.specs.tables.Turns.{turns}
+use Rattle.theory.specs.basics.Turns.{turns}
 use Rattle.text.specs.declared.parsed.Parsed.{Parsed}
 use Rattle.text.specs.Bytes.{indexOf, upTo, after, startsWith, isWord, little}
 use Rattle.text.specs.LineForm.{words, opName, wordOf, space, namedKind, restOf, parseOf}
@@ -15,7 +15,7 @@ use Rattle.text.specs.Places.{StandsAt, opening, kindOpening, opBytes}
 use Rattle.text.proofs.Bytes.{index-fits, index-front, is-the-word, Below, allBelow, all-below}
 use Rattle.text.proofs.LineForm.{rest-none}
 use Rattle.text.proofs.Places.{says-split, says-first, says-little}
-use Rattle.text.proofs.RoundTrip.{each-kind, op-kind, op-is}
+use Rattle.text.proofs.RoundTrip.{each-word, op-kind, op-is}
 
 -- The openings of the kinds
 
@@ -28,11 +28,11 @@ opening-at (w ∷ ws) (suc k) h = opening-at ws k (omega arith)
 module _ (k : ℕ) (h : k < length words) where
   opening-below : Below 256 (kindOpening k)
   unfolding turns allBelow
-  opening-below = all-below 256 (kindOpening k) (omega arith) (each-kind (λ k. allBelow 256 (kindOpening k)) refl k h)
+  opening-below = all-below 256 (kindOpening k) (omega arith) (each-word (λ k. allBelow 256 (kindOpening k)) refl k h)
 
   opening-long : length (kindOpening k) ≡ 8
   unfolding turns
-  opening-long = eqb-true _ _ (each-kind (λ k. eqb (length (kindOpening k)) 8) refl k h)
+  opening-long = eqb-true _ _ (each-word (λ k. eqb (length (kindOpening k)) 8) refl k h)
 
   -- and so in the table
   pub opening-room : length (getD (map opening words) k []) ≡ 8
@@ -40,25 +40,25 @@ module _ (k : ℕ) (h : k < length words) where
 
   opening-op : take (length (opName ++ wordOf k)) (kindOpening k) ≡ opName ++ wordOf k
   unfolding turns isWord startsWith
-  opening-op = is-the-word _ _ (each-kind (λ k. isWord (opName ++ wordOf k) (take (length (opName ++ wordOf k)) (kindOpening k))) refl k h)
+  opening-op = is-the-word _ _ (each-word (λ k. isWord (opName ++ wordOf k) (take (length (opName ++ wordOf k)) (kindOpening k))) refl k h)
 
   pub op-long : length (opName ++ wordOf k) ≤ 8
   unfolding turns
-  op-long = leb-true _ _ (each-kind (λ k. leb (length (opName ++ wordOf k)) 8) refl k h)
+  op-long = leb-true _ _ (each-word (λ k. leb (length (opName ++ wordOf k)) 8) refl k h)
 
   pub op-bytes : opBytes (kindOpening k) ≡ length (opName ++ wordOf k)
   unfolding turns
-  op-bytes = eqb-true _ _ (each-kind (λ k. eqb (opBytes (kindOpening k)) (length (opName ++ wordOf k))) refl k h)
+  op-bytes = eqb-true _ _ (each-word (λ k. eqb (opBytes (kindOpening k)) (length (opName ++ wordOf k))) refl k h)
 
   -- the op ends at their first space, or with them
   opening-ends : indexOf space (kindOpening k) ≡ length (opName ++ wordOf k)
   unfolding turns indexOf
-  opening-ends = eqb-true _ _ (each-kind (λ k. eqb (indexOf space (kindOpening k)) (length (opName ++ wordOf k))) refl k h)
+  opening-ends = eqb-true _ _ (each-word (λ k. eqb (indexOf space (kindOpening k)) (length (opName ++ wordOf k))) refl k h)
 
   -- and without `op=` the word
   opening-rest : take (length (opName ++ wordOf k) - 3) (drop 3 (kindOpening k)) ≡ wordOf k
   unfolding turns isWord startsWith
-  opening-rest = is-the-word _ _ (each-kind (λ k. isWord (wordOf k) (take (length (opName ++ wordOf k) - 3) (drop 3 (kindOpening k)))) refl k h)
+  opening-rest = is-the-word _ _ (each-word (λ k. isWord (wordOf k) (take (length (opName ++ wordOf k) - 3) (drop 3 (kindOpening k)))) refl k h)
 
   pub opening-word : (e : ℕ) → e ≡ opBytes (getD (map opening words) k []) → take (e - 3) (drop 3 (getD (map opening words) k [])) ≡ wordOf k
   opening-word e q =

@@ -23,19 +23,19 @@ pub held-enough : HeldEnough recordReader
 held-enough = record { same-said = λ n s l. ap (saidFor n s) (parse-held l); same-next = λ s l. ap (stateAfter s) (parse-held l) }
 
 -- what is kept where a line has begun with h
-abbrev pub holding : State → ℕ → List ℕ → Kept
-holding s n h = kept s n (take heldMost h)
+abbrev pub keptWith : State → ℕ → List ℕ → Kept
+keptWith s n h = kept s n (take heldMost h)
 
-pub at-lf : (s : State) (n : ℕ) (h : List ℕ) → saidAt (holding s n h) lf ≡ saidFor (suc n) s (parseOf h)
+pub at-lf : (s : State) (n : ℕ) (h : List ℕ) → saidAt (keptWith s n h) lf ≡ saidFor (suc n) s (parseOf h)
 at-lf = Stream.at-lf recordReader held-enough
 
-pub after-lf : (s : State) (n : ℕ) (h : List ℕ) → afterByte (holding s n h) lf ≡ holding (stateAfter s (parseOf h)) (suc n) []
+pub after-lf : (s : State) (n : ℕ) (h : List ℕ) → afterByte (keptWith s n h) lf ≡ keptWith (stateAfter s (parseOf h)) (suc n) []
 after-lf = Stream.after-lf recordReader held-enough
 
 pub at-other : (k : Kept) (b : ℕ) → (b ≡ lf → ⊥) → saidAt k b ≡ []
 at-other = Stream.at-other recordReader held-enough
 
-pub after-other : (s : State) (n : ℕ) (h : List ℕ) (b : ℕ) → (b ≡ lf → ⊥) → afterByte (holding s n h) b ≡ holding s n (h ++ (b ∷ []))
+pub after-other : (s : State) (n : ℕ) (h : List ℕ) (b : ℕ) → (b ≡ lf → ⊥) → afterByte (keptWith s n h) b ≡ keptWith s n (h ++ (b ∷ []))
 after-other = Stream.after-other recordReader held-enough
 
 pub said-append : (k : Kept) (a b : List ℕ) → saidIn k (a ++ b) ≡ saidIn k a ++ saidIn (afterPiece k a) b
@@ -45,16 +45,16 @@ pub after-append : (k : Kept) (a b : List ℕ) → afterPiece k (a ++ b) ≡ aft
 after-append = Stream.after-append recordReader held-enough
 
 pub rest-held : (s : State) (n : ℕ) (h l : List ℕ) → Without lf l
-    → (saidIn (holding s n h) l ≡ []) × (afterPiece (holding s n h) l ≡ holding s n (h ++ l))
+    → (saidIn (keptWith s n h) l ≡ []) × (afterPiece (keptWith s n h) l ≡ keptWith s n (h ++ l))
 rest-held = Stream.rest-held recordReader held-enough
 
 pub line-said : (s : State) (n : ℕ) (h l rest : List ℕ) → Without lf l
-    → saidIn (holding s n h) (l ++ (lf ∷ rest))
-    ≡ saidFor (suc n) s (parseOf (h ++ l)) ++ saidIn (holding (stateAfter s (parseOf (h ++ l))) (suc n) []) rest
+    → saidIn (keptWith s n h) (l ++ (lf ∷ rest))
+    ≡ saidFor (suc n) s (parseOf (h ++ l)) ++ saidIn (keptWith (stateAfter s (parseOf (h ++ l))) (suc n) []) rest
 line-said = Stream.line-said recordReader held-enough
 
 pub line-after : (s : State) (n : ℕ) (h l rest : List ℕ) → Without lf l
-    → afterPiece (holding s n h) (l ++ (lf ∷ rest)) ≡ afterPiece (holding (stateAfter s (parseOf (h ++ l))) (suc n) []) rest
+    → afterPiece (keptWith s n h) (l ++ (lf ∷ rest)) ≡ afterPiece (keptWith (stateAfter s (parseOf (h ++ l))) (suc n) []) rest
 line-after = Stream.line-after recordReader held-enough
 
 pub any-cut : AnyCut

@@ -105,8 +105,8 @@ lines-within s end at w k =
     ∙ ap₂ (λ (x : List ℕ) (j : ℕ). x ∷ linesOf (drop j (take end s))) (sym l) (sym n)
 
 -- the reader moves on, and not past such a place
-pub moved : (s : List ℕ) (end at : ℕ) {next : ℕ} → LineStarts s end → at < end → next ≡ nextAt s at → (at < next) × (next ≤ end)
+pub moves-on : (s : List ℕ) (end at : ℕ) {next : ℕ} → LineStarts s end → at < end → next ≡ nextAt s at → (at < next) × (next ≤ end)
 unfolding placeAfter
-moved s end at w k e =
+moves-on s end at w k e =
     let long : length (take end s) ≡ end = length-take-le end s (w .within) in
     let q = e ∙ read-within s end at w k .1 in (omega (arith, long, q), omega (arith, long, q))

@@ -8,9 +8,8 @@ use lib.Dec.{leb, ltb, eqb}
 use lib.ListN.{length, getD, drop, length-append}
 use borrow.Author.Tests.{leb-true, ltb-true, eqb-true, eqb-false, ne-eqb, not-false}
 use Rattle.theory.specs.declared.record.Record.{Record}
-use Rattle.theory.specs.acceptance.Table.{anyBelow}
+use Rattle.theory.specs.basics.Turns.{turns, anyBelow}
 use Rattle.theory.specs.order.Recording.{lossMark}
-use Rattle.theory.specs.tables.Turns.{turns}
 use Rattle.theory.proofs.acceptance.Rows.{none-below}
 use Rattle.text.specs.declared.number.Number.{Number}
 use Rattle.text.specs.declared.parsed.Parsed.{Parsed}
@@ -32,11 +31,11 @@ field-by read name s n e =
     (drop (length name) s, word-split name s f, g)
 
 -- where that is a number of at most 5 digits, without needless zeros
-pub record Field (name s : List ℕ) (n : ℕ) : Type 0 where
+pub record FieldRead (name s : List ℕ) (n : ℕ) : Type 0 where
   pub is : s ≡ name ++ decimal n
   pub short : n < 10 ^ digits
 
-pub field-is : (name s : List ℕ) (n : ℕ) → fieldOf name s ≡ Number.Value n → Field name s n
+pub field-is : (name s : List ℕ) (n : ℕ) → fieldOf name s ≡ Number.Value n → FieldRead name s n
 unfolding fieldOf
 field-is name s n e =
     let (t, f, g) = field-by readDecimal name s n e in
@@ -140,20 +139,20 @@ pub each-below : (n : ℕ) (p : ℕ → Bool) → anyBelow n (λ k. not (p k)) �
 each-below n p e k h = not-false (p k) (none-below n (λ k. not (p k)) e k h)
 
 -- and each kind's word
-pub each-kind : (p : ℕ → Bool) → anyBelow (length words) (λ k. not (p k)) ≡ false → (k : ℕ) → k < length words → p k ≡ true
-each-kind = each-below (length words)
+pub each-word : (p : ℕ → Bool) → anyBelow (length words) (λ k. not (p k)) ≡ false → (k : ℕ) → k < length words → p k ≡ true
+each-word = each-below (length words)
 
 pub op-kind : (k : ℕ) → k < length words → namedKind (opName ++ wordOf k) ≡ k
 unfolding turns namedKind placeOf isWord startsWith
-op-kind k h = eqb-true _ _ (each-kind (λ k. eqb (namedKind (opName ++ wordOf k)) k) refl k h)
+op-kind k h = eqb-true _ _ (each-word (λ k. eqb (namedKind (opName ++ wordOf k)) k) refl k h)
 
 pub op-whole : (k : ℕ) → k < length words → Without space (opName ++ wordOf k)
 unfolding turns indexOf
-op-whole k h = eqb-true _ _ (each-kind (λ k. eqb (indexOf space (opName ++ wordOf k)) (length (opName ++ wordOf k))) refl k h)
+op-whole k h = eqb-true _ _ (each-word (λ k. eqb (indexOf space (opName ++ wordOf k)) (length (opName ++ wordOf k))) refl k h)
 
 word-short : (k : ℕ) → k < length words → length (wordOf k) ≤ 5
 unfolding turns
-word-short k h = leb-true _ _ (each-kind (λ k. leb (length (wordOf k)) 5) refl k h)
+word-short k h = leb-true _ _ (each-word (λ k. leb (length (wordOf k)) 5) refl k h)
 
 -- No line is long
 

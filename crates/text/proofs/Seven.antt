@@ -1,11 +1,10 @@
 -- Seven digits at once: numbers stand side by side in a word, each with room for its product. Assumes nothing.
-use mathlib.Core.Path.{_≡_, refl, sym, ap, _∙_}
-use mathlib.Core.List.{List, [], _∷_}
+use mathlib.Core.Path.{_≡_, sym, ap, _∙_}
+use mathlib.Core.List.{[], _∷_}
 use Prim.Native.Nat.{ℕ, _+_, _*_, _-_, _/_, _%_, _≤_, _<_}
 use native.Mathlib.Nat.{add-mul-mod-self-left, mod-eq-of-lt, div-div-eq-div-mul}
 use native.Mathlib.Omega.{arith}
 use Rattle.text.specs.Bytes.{little}
-use Rattle.text.specs.Printing.{lastDigit, recordText}
 use Rattle.text.specs.Words.{sideBySide, digitPairs, numberWord}
 use Rattle.text.proofs.Digits.{record-digits}
 

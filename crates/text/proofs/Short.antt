@@ -7,7 +7,7 @@ use lib.ListN.{length, getD, drop, length-append, length-drop}
 use borrow.Author.Tests.{eqb-true}
 use lib.Dec.{eqb}
 use Rattle.theory.specs.order.Recording.{lossMark}
-use Rattle.theory.specs.tables.Turns.{turns}
+use Rattle.theory.specs.basics.Turns.{turns}
 use Rattle.text.specs.declared.parsed.Parsed.{Parsed}
 use Rattle.text.specs.Bytes.{indexOf}
 use Rattle.text.specs.Lines.{lf}
@@ -18,7 +18,7 @@ use Rattle.text.specs.Reading.{lineAt, nextAt}
 use Rattle.text.proofs.Bytes.{Without, without-append, index-seam, before-seam}
 use Rattle.text.proofs.Places.{says-split, says-both, says-byte}
 use Rattle.text.proofs.Reading.{next-place}
-use Rattle.text.proofs.RoundTrip.{each-kind, decimal-whole, act-text, text-taken}
+use Rattle.text.proofs.RoundTrip.{each-word, decimal-whole, act-text, text-taken}
 
 -- a line and its LF stand at a place
 module _ (s : List ℕ) (at : ℕ) (w : List ℕ) (h : StandsAt s at (w ++ (lf ∷ []))) (d : Without lf w) where
@@ -41,7 +41,7 @@ module _ (s : List ℕ) (at : ℕ) (w : List ℕ) (h : StandsAt s at (w ++ (lf �
 -- no LF is in the text of an act
 op-one-line : (k : ℕ) → k < length words → Without lf (opName ++ wordOf k)
 unfolding turns indexOf
-op-one-line k h = eqb-true _ _ (each-kind (λ k. eqb (indexOf lf (opName ++ wordOf k)) (length (opName ++ wordOf k))) refl k h)
+op-one-line k h = eqb-true _ _ (each-word (λ k. eqb (indexOf lf (opName ++ wordOf k)) (length (opName ++ wordOf k))) refl k h)
 
 field-one-line : (name : List ℕ) (n : ℕ) → Without lf name → Without lf (name ++ decimal n)
 field-one-line name n h = without-append lf name (decimal n) h (decimal-whole lf n (omega arith))

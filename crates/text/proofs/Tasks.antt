@@ -7,7 +7,8 @@ use native.Mathlib.Omega.{arith}
 use lib.Dec.{eqb, ltb}
 use lib.ListN.{length, take, drop, take-append-drop}
 use borrow.Author.Tests.{eqb-true}
-use Rattle.theory.specs.tables.Turns.{turns}
+use Rattle.theory.specs.basics.Turns.{turns}
+use Rattle.theory.specs.order.Limits.{tasks}
 use Rattle.text.specs.Bytes.{startsWith, isWord, little}
 use Rattle.text.specs.LineForm.{taskName, space}
 use Rattle.text.specs.Places.{StandsAt, FieldAt, taskEnding}
@@ -19,27 +20,27 @@ use Rattle.text.proofs.RoundTrip.{each-below}
 abbrev name : List ℕ
 name = space ∷ taskName
 
-module _ (n : ℕ) (h : n < 16) where
+module _ (n : ℕ) (h : n < tasks) where
   ending-below : Below 256 (taskEnding n)
   unfolding turns allBelow decimal lastDigits width widthIn
-  ending-below = all-below 256 (taskEnding n) (omega arith) (each-below 16 (λ n. allBelow 256 (taskEnding n)) refl n h)
+  ending-below = all-below 256 (taskEnding n) (omega arith) (each-below tasks (λ n. allBelow 256 (taskEnding n)) refl n h)
 
   ending-long : length (taskEnding n) ≡ 4
   unfolding turns decimal lastDigits width widthIn
-  ending-long = eqb-true _ _ (each-below 16 (λ n. eqb (length (taskEnding n)) 4) refl n h)
+  ending-long = eqb-true _ _ (each-below tasks (λ n. eqb (length (taskEnding n)) 4) refl n h)
 
   -- as one number
   pub ending-number : cond (ltb n 10) (540032363 + n * 65536) (808533355 + (n - 10) * 16777216) ≡ little (taskEnding n)
   unfolding turns little decimal lastDigits width widthIn
-  ending-number = eqb-true _ _ (each-below 16 (λ n. eqb (cond (ltb n 10) (540032363 + n * 65536) (808533355 + (n - 10) * 16777216)) (little (taskEnding n))) refl n h)
+  ending-number = eqb-true _ _ (each-below tasks (λ n. eqb (cond (ltb n 10) (540032363 + n * 65536) (808533355 + (n - 10) * 16777216)) (little (taskEnding n))) refl n h)
 
   pub task-digits : cond (ltb n 10) 1 2 ≡ length (decimal n)
   unfolding turns decimal lastDigits width widthIn
-  task-digits = eqb-true _ _ (each-below 16 (λ n. eqb (cond (ltb n 10) 1 2) (length (decimal n))) refl n h)
+  task-digits = eqb-true _ _ (each-below tasks (λ n. eqb (cond (ltb n 10) 1 2) (length (decimal n))) refl n h)
 
   name-first : take (length (name ++ decimal n)) (take 4 name ++ taskEnding n) ≡ name ++ decimal n
   unfolding turns isWord startsWith decimal lastDigits width widthIn
-  name-first = is-the-word _ _ (each-below 16 (λ n. isWord (name ++ decimal n) (take (length (name ++ decimal n)) (take 4 name ++ taskEnding n))) refl n h)
+  name-first = is-the-word _ _ (each-below tasks (λ n. isWord (name ++ decimal n) (take (length (name ++ decimal n)) (take 4 name ++ taskEnding n))) refl n h)
 
   -- ` task=T` by its first four bytes and the next four
   pub says-task : (s : List ℕ) (at : ℕ) → at + 8 ≤ length s → Below 256 s → StandsAt s at (take 4 name) → little (take 4 (drop (at + 4) s)) ≡ little (taskEnding n)

@@ -16,7 +16,7 @@ use Rattle.theory.specs.feeding.Feeding.{replies, byClocks, checkerRefusal, Han
 use Rattle.theory.specs.feeding.Feeding
 use Rattle.theory.proofs.feeding.Demanded.{clocks-demand1}
 use Rattle.text.specs.declared.parsed.Parsed.{Parsed}
-use Rattle.text.specs.Lines.{linesOf}
+use Rattle.text.specs.Lines.{lineRoom, linesOf}
 use Rattle.text.specs.LineForm.{parseOf}
 use Rattle.text.specs.ReportLines.{wordFor, refusedLine, lineFor, reportLine}
 use Rattle.text.specs.Stream.{linesSaid}
@@ -25,7 +25,7 @@ use Rattle.text.specs.TextDemands.{TextForm, LineGot, no-record, refused
 use Rattle.text.proofs.Lines.{lines-fit}
 use Rattle.text.proofs.RoundTrip.{text-taken, only-text, only-sayable}
 use Rattle.text.proofs.Excused.{NoEntries, said-plain, none-after, none-fresh}
-use Rattle.text.proofs.Lengths.{refused-line-fits, access-line-fits, word-fits}
+use Rattle.text.proofs.Lengths.{refused-line-fits, access-line-fits, verdict-word-fits}
 
 -- A line
 
@@ -64,16 +64,16 @@ unfolding linesSaid
 answered n s [] z = no-lines
 answered n s (line ∷ lines) z = a-line (line-got line n s (parseOf line) z refl) (answered (suc n) (stateAfter s (parseOf line)) lines (none-after s (parseOf line) z))
 
-got-fits : {n : ℕ} {s s′ : State} {line said : List ℕ} → LineGot n s line s′ said → n < 2 ^ 64 → length said ≤ 64
+got-fits : {n : ℕ} {s s′ : State} {line said : List ℕ} → LineGot n s line s′ said → n < 2 ^ 64 → length said ≤ lineRoom
 got-fits {n} (no-record f) h = refused-line-fits n 1 h (omega arith)
 got-fits {n} (refused {k = k} f e l g o) h = refused-line-fits n k h (omega arith)
 got-fits (judged {r = r} {v = v} f z a x) h =
     let t = f .sayable .task-short in
     let o = f .sayable .on-short in
-    access-line-fits _ (r .task) (r .on) (wordFor v) _ (omega arith) (omega arith) (word-fits v)
+    access-line-fits _ (r .task) (r .on) (wordFor v) _ (omega arith) (omega arith) (verdict-word-fits v)
 got-fits (taken f z a x) h = omega arith
 
-answered-fits : {n : ℕ} {s : State} {lines : List (List ℕ)} {report : List ℕ} → LinesGot n s lines report → n + length lines ≤ 2 ^ 64 → length report ≤ 64 * length lines
+answered-fits : {n : ℕ} {s : State} {lines : List (List ℕ)} {report : List ℕ} → LinesGot n s lines report → n + length lines ≤ 2 ^ 64 → length report ≤ lineRoom * length lines
 answered-fits no-lines h = omega arith
 answered-fits (a-line {said = said} {report = report} g a) h = omega (arith, length-append said report, got-fits g (omega arith), answered-fits a (omega arith))
 
@@ -86,10 +86,10 @@ pub text-demand1 : TextDemand1
 text-demand1 text memory h = decided (tooSmall text (length memory)) refl
   where
     decided : (b : Bool) → tooSmall text (length memory) ≡ b → TextHandled text memory
-    decided true e = refused-whole (omega (arith, ltb-true (length memory / 64) (length (linesOf text)) e)) (rw e) (rw e)
+    decided true e = refused-whole (omega (arith, ltb-true (length memory / lineRoom) (length (linesOf text)) e)) (rw e) (rw e)
     decided false e =
-        let room : 64 * length (linesOf text) ≤ length memory = omega (arith, ltb-false (length memory / 64) (length (linesOf text)) e) in
-        let fits : length (reportOf text) ≤ 64 * length (linesOf text) = answered-fits (text-answered text) (omega (arith, lines-fit text)) in
+        let room : lineRoom * length (linesOf text) ≤ length memory = omega (arith, ltb-false (length memory / lineRoom) (length (linesOf text)) e) in
+        let fits : length (reportOf text) ≤ lineRoom * length (linesOf text) = answered-fits (text-answered text) (omega (arith, lines-fit text)) in
         let written : sets memory 0 (reportOf text) ≡ reportOf text ++ drop (length (reportOf text)) memory =
         sets-eq (reportOf text) memory 0 (omega arith) ∙ ap (λ (k : ℕ). reportOf text ++ drop k memory) (zero-add (length (reportOf text))) in
         reported room (text-answered text) fits (rw e) (rw e written)

@@ -19,7 +19,7 @@ use Rattle.theory.specs.feeding.Feeding.{byClocks}
 use Rattle.theory.specs.totals.Totals.{entriesAt, controlCells}
 use Rattle.theory.specs.entries.Table.{entryCount, entriesFull, entered, afterEntry, excuse}
 use Rattle.theory.specs.entries.Known.{Fault, Fits, AllFit, none-left, and-fits, enteredAll, startWith}
-use Rattle.theory.proofs.totals.Kept.{fresh-cell}
+use Rattle.theory.proofs.totals.Kept.{fresh-control-cell}
 use Rattle.theory.proofs.acceptance.ControlTable.{fresh-control}
 use Rattle.theory.proofs.feeding.Simulation.{Represents, base-control, fresh-base, clocks-simulate}
 use Rattle.theory.proofs.entries.Taken.{taken-all, entered-taken, entered-size, is-entered}
@@ -158,7 +158,7 @@ table-after (line ∷ lines) control size = of (entryOf line) refl (λ c z. tabl
                 go false w y = absurd (let v : _≡_ {A = ℕ} 0 1 = cc in omega arith)
 
 fresh-taken : entryCount freshControl ≡ 0
-fresh-taken = fresh-cell entriesAt (omega arith) (omega arith)
+fresh-taken = fresh-control-cell entriesAt (omega arith) (omega arith)
 
 pub files-read : FilesRead
 files-read lines =

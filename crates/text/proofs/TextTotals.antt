@@ -19,7 +19,7 @@ use Rattle.text.specs.Report.{saidFor, stateAfter}
 use Rattle.text.specs.Pieces.{Kept, freshKept, saidAt, afterByte, saidIn, afterPiece, wholeOf}
 use Rattle.text.specs.TextDemands.{Tells, tells-nothing, tells-no-record, tells-answer}
 use Rattle.text.specs.TextTotals.{afterPieces, saidSoFar, endedIn, TextTotals}
-use Rattle.text.proofs.Pieces.{holding, at-lf, after-lf, at-other, after-other, said-append, after-append}
+use Rattle.text.proofs.Pieces.{keptWith, at-lf, after-lf, at-other, after-other, said-append, after-append}
 use Rattle.text.proofs.Excused.{NoEntries, said-plain, none-after, none-fresh}
 use Rattle.text.proofs.TextDemands.{parsed-none, parsed-form}
 
@@ -44,17 +44,17 @@ line-ended {n} {s} {lines} {said} {after} line z x = by-parse (parseOf line) ref
         }
 
 -- byte by byte, where a line has begun with h
-so-far : (s : State) (n : ℕ) (h t : List ℕ) → NoEntries s → SoFar (suc n) s (endedIn h t) (saidIn (holding s n h) t) ((afterPiece (holding s n h) t) .state)
+so-far : (s : State) (n : ℕ) (h t : List ℕ) → NoEntries s → SoFar (suc n) s (endedIn h t) (saidIn (keptWith s n h) t) ((afterPiece (keptWith s n h) t) .state)
 unfolding pieceSaid pieceKept
 so-far s n h [] z = record { records = []; tells = tells-nothing; state = refl }
 so-far s n h (b ∷ t) z = picked (eqb b lf) refl (so-far (stateAfter s (parseOf h)) (suc n) [] t (none-after s (parseOf h) z)) (so-far s n (h ++ (b ∷ [])) t z)
   where
     picked : (u : Bool) → eqb b lf ≡ u →
-        (let k = holding (stateAfter s (parseOf h)) (suc n) [] in SoFar (suc (suc n)) (stateAfter s (parseOf h)) (endedIn [] t) (saidIn k t) ((afterPiece k t) .state)) →
-        (let k = holding s n (h ++ (b ∷ [])) in SoFar (suc n) s (endedIn (h ++ (b ∷ [])) t) (saidIn k t) ((afterPiece k t) .state)) →
-        (let k = holding s n h in SoFar (suc n) s (endedIn h (b ∷ t)) (saidAt k b ++ saidIn (afterByte k b) t) ((afterPiece (afterByte k b) t) .state))
+        (let k = keptWith (stateAfter s (parseOf h)) (suc n) [] in SoFar (suc (suc n)) (stateAfter s (parseOf h)) (endedIn [] t) (saidIn k t) ((afterPiece k t) .state)) →
+        (let k = keptWith s n (h ++ (b ∷ [])) in SoFar (suc n) s (endedIn (h ++ (b ∷ [])) t) (saidIn k t) ((afterPiece k t) .state)) →
+        (let k = keptWith s n h in SoFar (suc n) s (endedIn h (b ∷ t)) (saidAt k b ++ saidIn (afterByte k b) t) ((afterPiece (afterByte k b) t) .state))
     picked true e here on = rw (e, eqb-true b lf e, at-lf s n h, after-lf s n h) (line-ended h z here)
-    picked false e here on = let d = eqb-false b lf e in rw (e, at-other (holding s n h) b d, after-other s n h b d) on
+    picked false e here on = let d = eqb-false b lf e in rw (e, at-other (keptWith s n h) b d, after-other s n h b d) on
 
 -- pieces are their text
 said-whole : (k : Kept) (ps : List (List ℕ)) → saidSoFar k ps ≡ saidIn k (wholeOf ps)

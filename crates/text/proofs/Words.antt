@@ -5,11 +5,11 @@ use mathlib.Core.List.{List, [], _∷_, _++_, append-assoc}
 use Prim.Native.Nat.{ℕ, zero, suc, _+_, _*_, _/_, _%_, _≤_, _<_}
 use native.Mathlib.Nat.{div-div-eq-div-mul}
 use native.Mathlib.Omega.{arith}
-use lib.ListN.{length, set, getD, length-append}
+use lib.ListN.{length, set, length-append}
 use lib.Seq.{sets, set-set, set-comm}
 use Rattle.text.specs.Bytes.{little}
-use Rattle.text.specs.Printing.{bytes, lastDigits, recordText}
-use Rattle.text.specs.Words.{bytesOf, numberWord, Opens}
+use Rattle.text.specs.Printing.{bytes, lastDigits, recordDigits, recordText}
+use Rattle.text.specs.Words.{littleBytes, numberWord, Opens}
 use Rattle.text.specs.ReportLines.{accessPart, accessLine}
 use Rattle.text.specs.Wrote.{Wrote}
 use Rattle.text.proofs.Bytes.{Below, allBelow, all-below}
@@ -17,8 +17,8 @@ use Rattle.text.proofs.Digits.{digits-long}
 use Rattle.text.proofs.Wrote.{sets-append, _then_}
 
 -- a number of bytes has those bytes
-pub bytes-little : (bs : List ℕ) → Below 256 bs → bytesOf (length bs) (little bs) ≡ bs
-unfolding bytesOf little
+pub bytes-little : (bs : List ℕ) → Below 256 bs → littleBytes (length bs) (little bs) ≡ bs
+unfolding littleBytes little
 bytes-little [] b = refl
 bytes-little (x ∷ bs) b =
     let p : x < 256 = b zero in
@@ -55,9 +55,9 @@ covered {l} {l′} {l″} {new} {at} a old v w e h =
 -- Eight bytes
 
 pub eight-bytes : (w : ℕ)
-    → bytesOf 8 w ≡ (w % 256) ∷ (w / 256 % 256) ∷ (w / 65536 % 256) ∷ (w / 16777216 % 256) ∷ (w / 4294967296 % 256) ∷ (w / 1099511627776 % 256)
+    → littleBytes 8 w ≡ (w % 256) ∷ (w / 256 % 256) ∷ (w / 65536 % 256) ∷ (w / 16777216 % 256) ∷ (w / 4294967296 % 256) ∷ (w / 1099511627776 % 256)
     ∷ (w / 281474976710656 % 256) ∷ (w / 72057594037927936 % 256) ∷ []
-unfolding bytesOf
+unfolding littleBytes
 eight-bytes w =
     rw (
       div-div-eq-div-mul w 256 256,
@@ -89,12 +89,12 @@ digits-below zero n i = omega arith
 digits-below (suc k) n zero = omega arith
 digits-below (suc k) n (suc i) = digits-below k n i
 
-pub number-bytes : (n : ℕ) → bytesOf 8 (numberWord n) ≡ bytes "=" ++ recordText n
-number-bytes n = ap (λ (k : ℕ). bytesOf (suc k) (numberWord n)) (sym (digits-long 7 n)) ∙ bytes-little (bytes "=" ++ recordText n) below
+pub number-bytes : (n : ℕ) → littleBytes 8 (numberWord n) ≡ bytes "=" ++ recordText n
+number-bytes n = ap (λ (k : ℕ). littleBytes (suc k) (numberWord n)) (sym (digits-long recordDigits n)) ∙ bytes-little (bytes "=" ++ recordText n) below
   where
     below : Below 256 (bytes "=" ++ recordText n)
     below zero = omega arith
-    below (suc i) = digits-below 7 n i
+    below (suc i) = digits-below recordDigits n i
 
 -- A word that begins with a text
 
@@ -110,12 +110,12 @@ line-parts number task variable verdict partner = simp append-assoc refl
 -- the line of an access, of whose verdict's word more was written than it has
 pub line-covered : {l l₁ l₂ l₃ l₄ l₅ l₆ : List ℕ} {at a b c d e x : ℕ} (number task variable : ℕ) (verdict : List ℕ) (partner word len : ℕ)
     → Opens (bytes "=" ++ verdict) word len → 3 ≤ len
-    → Wrote l at (accessPart number task variable) l₁ a → Wrote l₁ a (bytes " verdict") l₂ b → Wrote l₂ b (bytesOf 8 word) l₃ x → Wrote l₃ (b + len) (bytes " with") l₄ c
+    → Wrote l at (accessPart number task variable) l₁ a → Wrote l₁ a (bytes " verdict") l₂ b → Wrote l₂ b (littleBytes 8 word) l₃ x → Wrote l₃ (b + len) (bytes " with") l₄ c
     → Wrote l₄ c (bytes "=" ++ recordText partner) l₅ d → Wrote l₅ d (bytes "\n") l₆ e → Wrote l at (accessLine number task variable verdict partner) l₆ e
 line-covered {l} {l₃ = l₃} {at = at} {b = b} {x = x} number task variable verdict partner word len o h v₁ v₂ v₃ v₄ v₅ v₆ =
     let part : List ℕ = accessPart number task variable ++ bytes " verdict" in
     let said : List ℕ = bytes "=" ++ verdict in
-    let read : bytesOf 8 word ≡ said ++ o .rest = ap₂ bytesOf (sym (o .eight)) (o .is) ∙ bytes-little (said ++ o .rest) (o .bytes) in
+    let read : littleBytes 8 word ≡ said ++ o .rest = ap₂ littleBytes (sym (o .eight)) (o .is) ∙ bytes-little (said ++ o .rest) (o .bytes) in
     let long : Wrote l at (part ++ said ++ o .rest) l₃ x = rw (append-assoc part said (o .rest)) (v₁ then v₂ then (rw read at v₃)) in
     let place : b + len ≡ at + length (part ++ said) = omega (arith, (v₁ then v₂) .place, length-append part said, o .long) in
     let rest : length (o .rest) ≤ 5 = omega (arith, length-append said (o .rest), o .eight, o .long) in

@@ -44,9 +44,9 @@ module _ {l : List ℕ} {at : ℕ} where
   spliced {bs} w h = w .memory ∙ sets-eq bs l at h ∙ ap (λ (k : ℕ). take at l ++ bs ++ drop k l) (sym (w .place))
 
   -- a copy that is at byte i of bs, and writes that one
-  pub one-more : (bs : List ℕ) {i : ℕ} {l′ : List ℕ} → i < length bs → Wrote l at (take i bs) l′ (at + i)
+  pub one-more-byte : (bs : List ℕ) {i : ℕ} {l′ : List ℕ} → i < length bs → Wrote l at (take i bs) l′ (at + i)
       → Wrote l at (take (i + 1) bs) (set l′ (at + i) (getD bs i 0)) (at + (i + 1))
-  one-more bs {i} h w =
+  one-more-byte bs {i} h w =
       let q : at + i + 1 ≡ at + (i + 1) = omega arith in
       rw (add-one i, take-suc bs i 0 h, ← add-one i, ← q) (w then wrote-byte)
 
@@ -71,5 +71,5 @@ module _ {l : List ℕ} {at : ℕ} where
       rw (spliced w h) (drop-at (take at l ++ bs) (drop to l) to q)
 
   -- no more than k bytes were written
-  pub at-most : {bs l′ : List ℕ} {to k : ℕ} → Wrote l at bs l′ to → length bs ≤ k → Wrote l at bs l′ to × (to ≤ at + k)
-  at-most w h = (w, omega (arith, w .place))
+  pub at-most-bytes : {bs l′ : List ℕ} {to k : ℕ} → Wrote l at bs l′ to → length bs ≤ k → Wrote l at bs l′ to × (to ≤ at + k)
+  at-most-bytes w h = (w, omega (arith, w .place))

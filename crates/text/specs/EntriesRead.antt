@@ -9,7 +9,7 @@ use Rattle.theory.specs.feeding.Lent.{Twice}
 use Rattle.text.specs.declared.progress.Progress.{Progress}
 use Rattle.text.specs.Lines.{lineRoom}
 use Rattle.text.specs.Wrote.{Wrote}
-use Rattle.text.specs.Stream.{Pending, heldMost, pieceSaid, pieceKept, pendingIn, progressTo}
+use Rattle.text.specs.Stream.{heldMost, pieceSaid, pieceKept, pendingIn, progressTo}
 use Rattle.text.specs.Entries.{entryReader}
 
 -- what reading so many bytes asks: room for a line for each, memory to hold a line, of which no more is held, and that the lines can be counted in 64 bits

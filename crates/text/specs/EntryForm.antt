@@ -70,15 +70,15 @@ unfoldable pub withinRange : Entry → EntryLine
 withinRange e = cond (inRange e) (EntryLine.Entry e) EntryLine.Nothing
 
 -- the entry of four numbers and the last word
-unfoldable pub markedBy : ℕ → ℕ → ℕ → ℕ → List ℕ → EntryLine
-markedBy rec var low high s =
+unfoldable pub markedEntry : ℕ → ℕ → ℕ → ℕ → List ℕ → EntryLine
+markedEntry rec var low high s =
     cond (isWord (markWord true) s || isWord (markWord false) s)
     (withinRange (record { rec = rec; var = var; low = low; high = high; accepted = isWord (markWord true) s }))
     EntryLine.Nothing
 
 -- the entry of what four fields say and the last word
 abbrev pub entryBy : Number → Number → Number → Number → List ℕ → EntryLine
-entryBy (Number.Value rec) (Number.Value var) (Number.Value low) (Number.Value high) s = markedBy rec var low high s
+entryBy (Number.Value rec) (Number.Value var) (Number.Value low) (Number.Value high) s = markedEntry rec var low high s
 entryBy (Number.Value rec) (Number.Value var) (Number.Value low) Number.Nothing s = EntryLine.Nothing
 entryBy (Number.Value rec) (Number.Value var) Number.Nothing h s = EntryLine.Nothing
 entryBy (Number.Value rec) Number.Nothing l h s = EntryLine.Nothing

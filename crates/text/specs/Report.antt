@@ -12,7 +12,7 @@ use Rattle.theory.specs.feeding.Meaning.{Meaning, meaning}
 use Rattle.theory.specs.feeding.Step.{stepOf, freshState}
 use Rattle.theory.specs.entries.Table.{excuse}
 use Rattle.text.specs.declared.parsed.Parsed.{Parsed}
-use Rattle.text.specs.Lines.{linesOf}
+use Rattle.text.specs.Lines.{lineRoom, linesOf}
 use Rattle.text.specs.LineForm.{parseOf}
 use Rattle.text.specs.ReportLines.{refusedLine, excusedFor, partnerIn}
 use Rattle.text.specs.Stream.{Reader, linesSaid}
@@ -45,7 +45,7 @@ reportOf text = reportFrom 1 freshState (linesOf text)
 
 -- row 11: report memory of this size has under 64 bytes for each line
 abbrev pub tooSmall : List ℕ → ℕ → Bool
-tooSmall text size = ltb (size / 64) (length (linesOf text))
+tooSmall text size = ltb (size / lineRoom) (length (linesOf text))
 
 -- the count of bytes written, or 64 one-bits
 abbrev pub returnedCount : List ℕ → List ℕ → ℕ

@@ -14,7 +14,7 @@ use Rattle.theory.specs.order.Recording.{accesses}
 use Rattle.theory.specs.feeding.Meaning.{takes, judges, meaning}
 use Rattle.theory.specs.feeding.Step.{freshState}
 use Rattle.theory.specs.feeding.Feeding.{byClocks, checkerRefusal, numberFor, fed}
-use Rattle.text.specs.Lines.{linesOf}
+use Rattle.text.specs.Lines.{lineRoom, linesOf}
 use Rattle.text.specs.LineForm.{textOf, Sayable}
 use Rattle.text.specs.ReportLines.{wordFor, accessLine, refusedLine, reportLine}
 use Rattle.text.specs.Report.{reportOf, returnedCount, memoryOf}
@@ -51,10 +51,10 @@ pub data LinesGot : ℕ → State → List (List ℕ) → List ℕ → Type 0 wh
 -- a text with report memory: the count that is returned, and the memory after
 pub data TextHandled (text memory : List ℕ) : Type 0 where
   -- row 11: "64 one-bits", "which leaves that memory untouched"
-  refused-whole : length memory < 64 * length (linesOf text) → returnedCount text memory ≡ 2 ^ 64 - 1 → memoryOf text memory ≡ memory → TextHandled text memory
+  refused-whole : length memory < lineRoom * length (linesOf text) → returnedCount text memory ≡ 2 ^ 64 - 1 → memoryOf text memory ≡ memory → TextHandled text memory
   -- the report from the memory's start on; "Bytes after the written ones stay"
-  reported : 64 * length (linesOf text) ≤ length memory → LinesGot 1 freshState (linesOf text) (reportOf text) →
-      length (reportOf text) ≤ 64 * length (linesOf text) → returnedCount text memory ≡ length (reportOf text) →
+  reported : lineRoom * length (linesOf text) ≤ length memory → LinesGot 1 freshState (linesOf text) (reportOf text) →
+      length (reportOf text) ≤ lineRoom * length (linesOf text) → returnedCount text memory ≡ length (reportOf text) →
       memoryOf text memory ≡ reportOf text ++ drop (length (reportOf text)) memory → TextHandled text memory
 
 -- a text that a machine can hold has a length of 64 bits

@@ -7,9 +7,9 @@ use Rattle.text.specs.Bytes.{little}
 use Rattle.text.specs.Printing.{bytes, recordText}
 
 -- the k bytes of a number, the least first
-unfoldable pub bytesOf : ℕ → ℕ → List ℕ
-bytesOf zero w = []
-bytesOf (suc k) w = w % 256 ∷ bytesOf k (w / 256)
+unfoldable pub littleBytes : ℕ → ℕ → List ℕ
+littleBytes zero w = []
+littleBytes (suc k) w = w % 256 ∷ littleBytes k (w / 256)
 
 -- four numbers in one, 16 bits for each
 abbrev pub sideBySide : ℕ → ℕ → ℕ → ℕ → ℕ

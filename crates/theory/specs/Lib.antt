@@ -1,3 +1,5 @@
+-- Counting, which every subject uses
+pub mod basics
 -- What a reader must believe, term by term as document 01 has it
 pub mod order
 pub mod fillings

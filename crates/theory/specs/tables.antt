@@ -1,5 +1,4 @@
 -- What is computed for the order: tables of rows, clocks and sets
-pub mod Turns
 pub mod Counters
 pub mod Rows
 pub mod Reckonings

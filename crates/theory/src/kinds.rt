@@ -1,10 +1,4 @@
-// The number of each kind of record, as `kind` and `lossMark` of specs/order/Recording.antt have it.
-use crate::limits::FLAGS;
-use crate::limits::PROFILES;
-use crate::limits::SEMAPHORES;
-use crate::limits::TASKS;
-use crate::limits::VARIABLES;
-
+// The kinds of records. The number of each, as `kind` and `lossMark` of specs/order/Recording.antt have it.
 pub const READ: u8 = 0;
 
 pub const WRITE: u8 = 1;
@@ -37,22 +31,8 @@ pub const ASKERS: usize = 3;
 // Which these are, by their numbers among them, as `askers` of specs/history/History.antt has it.
 pub const ASKING: [u8; ASKERS] = [READ, WRITE, BUMP];
 
+// The number of a write among them.
+pub const WRITES: usize = 1;
+
 // How many kinds there are.
 pub const KINDS: u8 = OWNED + 1;
-
-// The size of the series that the number of a kind's record is of, as `series` there has it, kind by kind. A mark has none, and is not looked up.
-pub const SERIES: [u32; KINDS as usize] = [
-    VARIABLES,
-    VARIABLES,
-    SEMAPHORES,
-    SEMAPHORES,
-    FLAGS,
-    FLAGS,
-    TASKS,
-    TASKS,
-    VARIABLES,
-    VARIABLES,
-    SEMAPHORES,
-    VARIABLES,
-    PROFILES,
-];

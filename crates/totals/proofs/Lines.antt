@@ -10,16 +10,16 @@ use Rattle.theory.specs.declared.verdict_totals.Totals.{Totals}
 use Rattle.theory.specs.order.Limits.{variables}
 use Rattle.theory.specs.totals.Totals.{totalsOf}
 use Rattle.totals.specs.declared.sums.Sums.{Sums}
-use Rattle.totals.specs.Table.{Small, nothingYet, added, allOf, nameWidth, countWidth, rightAligned, countsOf, sumsBelow, variableLine, linesBelow}
+use Rattle.totals.specs.Table.{Small, nothingYet, added, allOf, nameWidth, countWidth, rightAligned, countColumns, sumsBelow, variableLine, linesBelow}
 use Rattle.totals.proofs.Aligned.{aligned-fits}
 
 module _ (s : Sums) where
-  pub length-counts : length (countsOf s)
+  pub length-counts : length (countColumns s)
       ≡ length (rightAligned countWidth (s .clear)) + length (rightAligned countWidth (s .race)) + length (rightAligned countWidth (s .doubt)) + length (rightAligned countWidth (allOf s)) + 1
-  unfolding countsOf
+  unfolding countColumns
   length-counts = simp length-append
 
-  pub counts-fit : Small s → length (countsOf s) ≤ 85
+  pub counts-fit : Small s → length (countColumns s) ≤ 85
   counts-fit h =
       omega (
         arith,
@@ -40,14 +40,14 @@ module _ (v : ℕ) (t : Totals) where
   unfolding variableLine
   line-none h = rw (eq-eqb (allOf (added nothingYet t)) 0 h)
 
-  pub line-some : (allOf (added nothingYet t) ≡ 0 → ⊥) → variableLine v t ≡ rightAligned nameWidth v ++ countsOf (added nothingYet t)
+  pub line-some : (allOf (added nothingYet t) ≡ 0 → ⊥) → variableLine v t ≡ rightAligned nameWidth v ++ countColumns (added nothingYet t)
   unfolding variableLine
   line-some h = rw (ne-eqb (allOf (added nothingYet t)) 0 h)
 
 -- One variable more
 
 -- each sum is at most n
-pub record Within (n : ℕ) (s : Sums) : Type 0 where
+pub record WithinSums (n : ℕ) (s : Sums) : Type 0 where
   pub clear : s .clear ≤ n
   pub race : s .race ≤ n
   pub doubt : s .doubt ≤ n
@@ -59,11 +59,11 @@ pub record Fits32 (t : Totals) : Type 0 where
   pub doubt : t .doubt < 2 ^ 32
 
 -- of all variables they are small still
-pub small : {v : ℕ} {s : Sums} → v ≤ variables → Within (v * 2 ^ 32) s → Small s
+pub small : {v : ℕ} {s : Sums} → v ≤ variables → WithinSums (v * 2 ^ 32) s → Small s
 small h w = record { clear = omega arith; race = omega arith; doubt = omega arith }
 
-pub within-more : {n : ℕ} {s r : Sums} {t : Totals} → Within n s → Fits32 t → r ≡ added s t → Within (n + 2 ^ 32) r
-within-more {s = s} {t = t} w f e = rw e (record { clear = omega arith; race = omega arith; doubt = omega arith })
+pub sums-within-more : {n : ℕ} {s r : Sums} {t : Totals} → WithinSums n s → Fits32 t → r ≡ added s t → WithinSums (n + 2 ^ 32) r
+sums-within-more {s = s} {t = t} w f e = rw e (record { clear = omega arith; race = omega arith; doubt = omega arith })
 
 module _ (control : List ℕ) (v : ℕ) where
   pub next-lines : linesBelow control (v + 1) ≡ linesBelow control v ++ variableLine v (totalsOf control v)

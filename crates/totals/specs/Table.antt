@@ -60,12 +60,12 @@ abbrev pub line : ℕ
 line = 128
 
 -- the counts of a line, and LF
-unfoldable pub countsOf : Sums → List ℕ
-countsOf s = rightAligned countWidth (s .clear) ++ rightAligned countWidth (s .race) ++ rightAligned countWidth (s .doubt) ++ rightAligned countWidth (allOf s) ++ bytes "\n"
+unfoldable pub countColumns : Sums → List ℕ
+countColumns s = rightAligned countWidth (s .clear) ++ rightAligned countWidth (s .race) ++ rightAligned countWidth (s .doubt) ++ rightAligned countWidth (allOf s) ++ bytes "\n"
 
 -- the line of a variable with these totals; none where it was not accessed
 unfoldable pub variableLine : ℕ → Totals → List ℕ
-variableLine v t = let s = added nothingYet t in cond (eqb (allOf s) 0) [] (rightAligned nameWidth v ++ countsOf s)
+variableLine v t = let s = added nothingYet t in cond (eqb (allOf s) 0) [] (rightAligned nameWidth v ++ countColumns s)
 
 -- those of the variables below v
 unfoldable pub linesBelow : List ℕ → ℕ → List ℕ
@@ -77,7 +77,7 @@ head = bytes "var   clear    race   doubt     all\n"
 
 -- the whole table, of what a control table holds
 unfoldable pub tableOf : List ℕ → List ℕ
-tableOf control = head ++ linesBelow control variables ++ bytes "all" ++ countsOf (sumsBelow control variables)
+tableOf control = head ++ linesBelow control variables ++ bytes "all" ++ countColumns (sumsBelow control variables)
 
 -- so much room is enough for one: a line for each variable, its head and its sums
 abbrev pub room : ℕ

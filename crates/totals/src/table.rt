@@ -16,7 +16,7 @@ ghost use lib.ListN.{length, getD};
 ghost use Rattle.theory.specs.order.Limits.{variables};
 ghost use Rattle.io.specs.Counts.{Counts};
 ghost use Rattle.text.specs.Wrote.{Wrote};
-ghost use Rattle.totals.specs.Table.{Small, line, sumsBelow, padded, rightAligned, countsOf, variableLine, linesBelow, tableOf, room, skippedLine, shownOf};
+ghost use Rattle.totals.specs.Table.{Small, line, sumsBelow, padded, rightAligned, countColumns, variableLine, linesBelow, tableOf, room, skippedLine, shownOf};
 
 // The widths of the first column and of the others, with the space before each number.
 const NAME_WIDTH: usize = 3;
@@ -76,8 +76,8 @@ fn put_aligned(out: &mut [u8], at: usize, width: usize, n: u64) -> usize
 
 // The counts of a line, and LF.
 fn put_counts(out: &mut [u8], at: usize, s: Sums) -> usize
-    requires { ⌜ (at + length (countsOf s) ≤ length (now out)) × Small s ⌝ }
-    ensures { λ r. ⌜ Wrote (now (out .entry)) at (countsOf s) (now (out .exit)) r ⌝ }
+    requires { ⌜ (at + length (countColumns s) ≤ length (now out)) × Small s ⌝ }
+    ensures { λ r. ⌜ Wrote (now (out .entry)) at (countColumns s) (now (out .exit)) r ⌝ }
 {
     let a = put_aligned(out, at, COUNT_WIDTH, s.clear);
     let b = put_aligned(out, a, COUNT_WIDTH, s.race);
@@ -100,13 +100,13 @@ fn put_variable(out: &mut [u8], at: usize, v: u32, t: Totals) -> usize
 }
 
 // The place after what was written, and the sums.
-struct Summed {
+struct WroteSums {
     to: usize,
     sums: Sums,
 }
 
 // The lines of all variables that were accessed.
-fn put_variables(out: &mut [u8], at: usize, control: &Control) -> Summed
+fn put_variables(out: &mut [u8], at: usize, control: &Control) -> WroteSums
     requires { ⌜ at + variables * line ≤ length (now out) ⌝ }
     ensures { λ r. ⌜ Wrote (now (out .entry)) at (linesBelow (now (control .entry)) variables) (now (out .exit)) (r .to)
         × (r .to ≤ at + variables * line) × (r .sums ≡ sumsBelow (now (control .entry)) variables) × Small (r .sums) ⌝ }
@@ -120,7 +120,7 @@ fn put_variables(out: &mut [u8], at: usize, control: &Control) -> Summed
         sums = added_to(sums, t);
         v += 1;
     }
-    Summed { to, sums }
+    WroteSums { to, sums }
 }
 
 // The whole table.

@@ -7,7 +7,7 @@ use lib.Seq.{set-out}
 use borrow.Author.Needs.{needs}
 use borrow.Author.Tests.{not-true, not-false}
 use Rattle.text.specs.Lines.{lf}
-use Rattle.input.specs.Pieces.{lastOf}
+use Rattle.input.specs.Pieces.{endingPiece}
 use Rattle.input.proofs.last_piece.Statement.{statement}
 use Rattle.input.proofs.last_piece.Tie as tie
 
@@ -19,14 +19,14 @@ returns-2 c =
     let a = c .before .before .before .before .args in
     let b = a .block .now in
     let none : 0 ≡ min 1 (length b) = omega (arith, c .before .if2 .taken) in
-    rw (not-false (a .begun) (c .before .before .if1 .left)) (c .last-of2 .ensures ∙ ap lastOf none, sym (set-out b 0 lf (omega (arith, c .before .if2 .taken))))
+    rw (not-false (a .begun) (c .before .before .if1 .left)) (c .last-of2 .ensures ∙ ap endingPiece none, sym (set-out b 0 lf (omega (arith, c .before .if2 .taken))))
 
 returns-3 : tie.Need-returns-3
 returns-3 c =
     let a = c .before .before .before .before .args in
     let b = a .block .now in
     let some : 1 ≡ min 1 (length (set b 0 lf)) = omega (arith, length-set b 0 lf, c .before .if2 .left) in
-    rw (not-false (a .begun) (c .before .before .if1 .left)) (c .last-of3 .ensures ∙ ap lastOf some, refl)
+    rw (not-false (a .begun) (c .before .before .if1 .left)) (c .last-of3 .ensures ∙ ap endingPiece some, refl)
 
 pub last-piece-spec : {M : Type 1} → statement M
 last-piece-spec =

@@ -13,14 +13,14 @@ use lib.Seq.{getD-set-same, getD-set-other}
 use borrow.Author.Tests.{le-leb, lt-ltb, ne-eqb}
 use Rattle.theory.specs.declared.record.Record.{Record}
 use Rattle.theory.specs.order.Limits.{tasks, semaphores}
-use Rattle.theory.specs.tables.Turns.{turns}
-use Rattle.theory.specs.order.Recording.{Op, Event, act, lost, kind, kinds, lossMark, kindSeries}
+use Rattle.theory.specs.basics.Turns.{turns, anyBelow}
+use Rattle.theory.specs.order.Recording.{Op, Event, act, lost, kind, kinds, lossMark, seriesSize}
 use Rattle.theory.specs.fillings.Completion.{names}
-use Rattle.theory.specs.acceptance.Table.{Phase, isLive, isUnseen, nextPhase, laterPhase, phase, Fitting, hasKind, anyBelow, Standing, _when_, firstRow, standingRefusal, standing, refusal}
+use Rattle.theory.specs.acceptance.Table.{Phase, isLive, isUnseen, nextPhase, laterPhase, phase, Fitting, hasKind, Standing, _when_, firstRow, standingRefusal, standing, refusal}
 use Rattle.theory.specs.acceptance.Owning.{isOwned, under, Who, nobody, by, isSomebody, isBy, nextHolder, whoSince, holder}
 use Rattle.theory.specs.skipping.Skipping.{nextGiver, giver}
 use Rattle.theory.specs.tables.Counters.{raise}
-use Rattle.theory.specs.acceptance.Control.{liveIn, unseenIn, countIn, profileAt, underIn, holderAt, giverAt, gaveIn, skippedAt, acceptanceCells, heldIn, holdsIn, controlStanding, controlRefusal, counted, takenBy, givenBy, controlAfter}
+use Rattle.theory.specs.acceptance.Control.{liveIn, unseenIn, countIn, profileAt, underIn, holderAt, giverAt, gaveIn, skippedAt, acceptanceCells, controlStanding, controlRefusal, counted, takenBy, givenBy, controlAfter}
 use Rattle.theory.specs.totals.Totals.{controlCells}
 use Rattle.theory.specs.feeding.Step.{freshControl}
 use Rattle.theory.proofs.basics.Reflects.{Reflects, right, wrong, equal, at-most}
@@ -328,7 +328,7 @@ pub record Agree (s s′ : Standing) : Type 0 where
 
 module _ (s s′ : Standing) (r : Record) (a : Agree s s′) where
   -- a test of `on` counts only where `on` is of the op's series
-  on-fitting : (o : Op) (p q : ℕ → Bool) → ((n : ℕ) → n < kindSeries (kind o) → p n ≡ q n) → r .on < kindSeries (r .kind) →
+  on-fitting : (o : Op) (p q : ℕ → Bool) → ((n : ℕ) → n < seriesSize (kind o) → p n ≡ q n) → r .on < seriesSize (r .kind) →
       (hasKind r o && p (r .on)) ≡ (hasKind r o && q (r .on))
   on-fitting o p q f h = decided (equal (r .kind) (kind o))
     where
@@ -338,14 +338,14 @@ module _ (s s′ : Standing) (r : Record) (a : Agree s s′) where
 
   -- rows 2 and 3 come before the tests of an act's numbers
   act-same : firstRow (actRows s r) ≡ firstRow (actRows s′ r)
-  act-same = decided (at-most tasks (r .task)) (at-most (kindSeries (r .kind)) (r .on))
+  act-same = decided (at-most tasks (r .task)) (at-most (seriesSize (r .kind)) (r .on))
     where
-      decided : {a b : Bool} → Reflects (tasks ≤ r .task) a → Reflects (kindSeries (r .kind) ≤ r .on) b →
+      decided : {a b : Bool} → Reflects (tasks ≤ r .task) a → Reflects (seriesSize (r .kind) ≤ r .on) b →
           firstRow ((2 when a) ∷ (3 when b) ∷ drop 2 (actRows s r)) ≡ firstRow ((2 when a) ∷ (3 when b) ∷ drop 2 (actRows s′ r))
       decided (right _) _ = refl
       decided (wrong f) (right _) = refl
       decided (wrong f) (wrong g) =
-          let h : r .on < kindSeries (r .kind) = omega arith in
+          let h : r .on < seriesSize (r .kind) = omega arith in
           rw (
             a .count,
             a .live (r .task) (omega arith),

@@ -4,20 +4,18 @@ use mathlib.Core.Bool.{Bool, true, false, cond, not, _&&_, _||_, or-false, and-f
 use mathlib.Mathlib.Data.Bool.Basic.{and-elim-left, and-elim-right, or-eq-false-eq-eq-false-and-eq-false}
 use mathlib.Core.Logic.{_≢_}
 use mathlib.Core.List.{List, [], _∷_}
-use Prim.Native.Nat.{ℕ, zero, suc, _+_, _^_, _≤_, _<_, zero-le}
+use Prim.Native.Nat.{ℕ, zero, suc, _^_, _≤_, _<_, zero-le}
 use native.Mathlib.Omega.{arith}
 use lib.Dec.{leb, ltb, eqb}
 use lib.ListN.{length}
-use borrow.Author.Tests.{le-leb, lt-leb, ltb-true, leb-true, leb-false, ne-eqb, eqb-false, not-false}
+use borrow.Author.Tests.{lt-leb, ltb-true, leb-true, leb-false, ne-eqb, eqb-false, not-false}
 use Rattle.theory.specs.declared.record.Record.{Record}
 use Rattle.theory.specs.order.Limits.{tasks, records}
-use Rattle.theory.specs.tables.Turns.{turns}
-use Rattle.theory.specs.order.Recording.{take, give, start, join, owned, kind, kinds, lossMark, kindSeries}
+use Rattle.theory.specs.basics.Turns.{turns, anyBelow}
+use Rattle.theory.specs.order.Recording.{take, give, start, join, owned, kind, kinds, lossMark, seriesSize}
 use Rattle.theory.specs.fillings.Completion.{bit, names}
-use Rattle.theory.specs.acceptance.Table.{hasKind, anyBelow, Standing, Row, _when_, rows, lastRow, rowNumbers, isOneOf, OfRow, firstRow, standingRefusal, Fitting}
+use Rattle.theory.specs.acceptance.Table.{hasKind, Standing, Row, _when_, rows, lastRow, rowNumbers, isOneOf, OfRow, firstRow, standingRefusal, Fitting}
 use Rattle.theory.proofs.basics.Reflects.{Reflects, right, wrong, equal}
-
--- The series of the kinds
 
 -- Rows that do not apply
 
@@ -102,7 +100,7 @@ module _ (s : Standing) (r : Record) where
   abbrev pub actRows : List Row
   actRows =
       (2 when leb tasks (r .task))
-      ∷ (3 when leb (kindSeries (r .kind)) (r .on))
+      ∷ (3 when leb (seriesSize (r .kind)) (r .on))
       ∷ (4 when false)
       ∷ (5 when leb records (s .count))
       ∷ (6 when not (s .live (r .task)))
@@ -174,7 +172,7 @@ module _ (s : Standing) (r : Record) (e : standingRefusal s r ≡ 0) where
       by-rows : Fail (actRows s r) → ActAllowed s (r .kind) (r .task) (r .on)
       by-rows (t, (o, (_, (_, (a, (u, (j, (d, (w, (_, (h, _))))))))))) =
           record {
-            fits = record { task-fits = leb-false tasks (r .task) t; on-fits = leb-false (kindSeries (r .kind)) (r .on) o };
+            fits = record { task-fits = leb-false tasks (r .task) t; on-fits = leb-false (seriesSize (r .kind)) (r .on) o };
             live = not-false (s .live (r .task)) a;
             starts-unseen = λ q. not-false (s .unseen (r .on)) (rw q at u);
             joins-other = λ q. eqb-false (r .on) (r .task) (rw q at j);

@@ -15,7 +15,7 @@ use Rattle.theory.specs.verdicts.Verdict.{Verdict, Race, Clear, Doubt}
 use Rattle.theory.specs.feeding.Meaning.{Meaning, refuses, takes, judges, meaning}
 use Rattle.theory.specs.feeding.Step.{clockAnswer, stepUnless, stepOf}
 use Rattle.theory.specs.totals.Totals.{racesAt, totalAt, entriesAt, withVerdict, totalled}
-use Rattle.theory.specs.entries.Table.{entryCount, pairedWith, excuseOf, excuseBy, excuse}
+use Rattle.theory.specs.entries.Table.{entryCount, pairedWith, excuseOf, tablesExcuse, excuse}
 use Rattle.theory.proofs.acceptance.Accepted.{accepts}
 use Rattle.theory.proofs.acceptance.Updated.{updated-elsewhere}
 use Rattle.theory.proofs.history.Accesses.{of-access}
@@ -61,5 +61,5 @@ paired-kept s r v t = cell-kept s r _ (omega arith)
 
 -- where no entry was taken in a Race is what it is by document 01
 pub no-excuse : (s : State) (r : Record) (w : ℕ) → entryCount (s .control) ≡ 0 → excuse s r w ≡ excuseOf false w
-unfolding excuseBy
+unfolding tablesExcuse
 no-excuse s r w e = rw e

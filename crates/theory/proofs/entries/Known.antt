@@ -24,7 +24,7 @@ use Rattle.theory.specs.feeding.Step.{nextNumber, freshControl, freshSta
 use Rattle.theory.specs.skipping.Demands.{plainStepOf}
 use Rattle.theory.specs.feeding.Feeding.{byClocks, afterAll}
 use Rattle.theory.specs.totals.Totals.{entriesAt}
-use Rattle.theory.specs.entries.Table.{pairedAt, entryCount, pairedWith, openTasks, excuseOf, excuseBy, excuse}
+use Rattle.theory.specs.entries.Table.{pairedAt, entryCount, pairedWith, openTasks, excuseOf, tablesExcuse, excuse}
 use Rattle.theory.specs.entries.Known.{Fault, AllFit, pairedFrom, paired, enteredAll, startWith, Reported, FaultsKnown}
 use Rattle.theory.specs.verdicts.Verdict.{Latest, ApartInAll}
 use Rattle.theory.proofs.basics.Reflects.{Reflects, right, wrong, equal, at-most}
@@ -43,7 +43,7 @@ use Rattle.theory.proofs.verdicts.Latest.{Final, final-latest, latest-f
 use Rattle.theory.proofs.verdicts.Examples.{ends-middle}
 use Rattle.theory.proofs.acceptance.Rows.{ActAllowed}
 use Rattle.theory.proofs.acceptance.ControlTable.{fresh-control, same-refusal}
-use Rattle.theory.proofs.totals.Kept.{fresh-cell}
+use Rattle.theory.proofs.totals.Kept.{fresh-control-cell}
 use Rattle.theory.proofs.tables.Bits.{mask-none, mask-lowest}
 use Rattle.theory.proofs.feeding.Simulation.{Shape, an-act, a-mark, shape-of, Represents, base-control, fresh-base, after-all, clocks-simulate, same-step}
 use Rattle.theory.proofs.feeding.Asked.{access-op}
@@ -139,7 +139,7 @@ module _ (fs : List Fault) (fit : AllFit fs) (some : 0 < length fs) (few : lengt
   start = taken-all fs fit freshControl (fresh-control .size) (omega (arith, fresh-taken))
     where
       fresh-taken : entryCount freshControl ≡ 0
-      fresh-taken = fresh-cell entriesAt (omega arith) (omega arith)
+      fresh-taken = fresh-control-cell entriesAt (omega arith) (omega arith)
 
   abbrev s : State
   s = afterAll byClocks (startWith fs) rs
@@ -187,7 +187,7 @@ module _ (fs : List Fault) (fit : AllFit fs) (some : 0 < length fs) (few : lengt
         ∙ (start .pairing v t u hv ht hu ∙ ap (λ (b : Bool). pairedFrom b fs v t u) none)
       where
         none : bit (pairedWith freshControl v t) u ≡ false
-        none = ap (λ (x : ℕ). bit x u) (fresh-cell (pairedAt v t) (omega arith) (omega (arith, hv, ht))) ∙ none-of-zero u
+        none = ap (λ (x : ℕ). bit x u) (fresh-control-cell (pairedAt v t) (omega arith) (omega (arith, hv, ht))) ∙ none-of-zero u
 
     -- apart in every completion and not paired
     abbrev Open : ℕ → Type 0
@@ -268,7 +268,7 @@ module _ (fs : List Fault) (fit : AllFit fs) (some : 0 < length fs) (few : lengt
     opens {i = i} l q e = ((i, l, q, pair-number l), e)
 
     reported : (w : ℕ) → Reported Paired (recording rs ++ (act o t v ∷ [])) (length (recording rs)) w (excuse after r w)
-    unfolding excuseBy openTasks test
+    unfolding tablesExcuse openTasks test
     reported w = rw (taken, access-tests o isa, lt-ltb t tasks ht, lt-ltb v variables hv) (decided (equal (maskOf test) 0))
       where
         taken : ltb 0 (entryCount (after .control)) ≡ true

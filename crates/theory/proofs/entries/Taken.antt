@@ -6,12 +6,11 @@ use Prim.Native.Nat.{ℕ, suc, _+_, _≤_, _<_}
 use native.Mathlib.Omega.{arith}
 use borrow.Author.Tests.{lt-ltb}
 use lib.Dec.{eqb}
-use lib.ListN.{length, set, length-set}
+use lib.ListN.{length, length-set}
 use lib.Seq.{getD-set-same, getD-set-other}
 use Rattle.theory.specs.order.Limits.{tasks, variables, entries}
 use Rattle.theory.specs.order.Recording.{Event}
 use Rattle.theory.specs.fillings.Completion.{bit}
-use Rattle.theory.specs.acceptance.Control.{countAt}
 use Rattle.theory.specs.tables.Reckonings.{wordBits}
 use Rattle.theory.specs.totals.Totals.{entriesAt, controlCells}
 use Rattle.theory.specs.entries.Table.{pairedAt, entryCount, pairedWith, marked, pairs, entered, afterEntry}

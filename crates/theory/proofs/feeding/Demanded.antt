@@ -17,7 +17,7 @@ use Rattle.theory.specs.verdicts.Search.{judge, isAccessEvent}
 use Rattle.theory.specs.declared.masks.Masks.{Masks}
 use Rattle.theory.specs.tables.Reckonings.{clockMasks, setMasks}
 use Rattle.theory.specs.feeding.Step.{nextNumber, answeredBy, stepOf, setStepOf}
-use Rattle.theory.specs.tables.Turns.{turns}
+use Rattle.theory.specs.basics.Turns.{turns}
 use Rattle.theory.specs.order.Path.{rule}
 use Rattle.theory.specs.fillings.Completion.{rounds, round, part, onEach}
 use Rattle.theory.specs.verdicts.Examples.{Example, table}

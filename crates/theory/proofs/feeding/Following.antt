@@ -78,15 +78,15 @@ with-last (r ∷ rs) es q = of (refusal es r) (λ es. with-last rs es q)
         rw (first-after (suc n) (refusalsAfter (appendUnless es r (suc n)) (rs ++ (q ∷ []))) (λ e. omega arith), first-after (suc n) (refusalsAfter (appendUnless es r (suc n)) rs) (λ e. omega arith))
 
 -- a list is empty, or has a last record
-pub data Snoc : List Record → Type 0 where
-  empty : Snoc []
-  snoc : (rs : List Record) (q : Record) → Snoc (rs ++ (q ∷ []))
+pub data EmptyOrLast : List Record → Type 0 where
+  empty : EmptyOrLast []
+  snoc : (rs : List Record) (q : Record) → EmptyOrLast (rs ++ (q ∷ []))
 
-pub snoc-of : (rs : List Record) → Snoc rs
+pub snoc-of : (rs : List Record) → EmptyOrLast rs
 snoc-of [] = empty
 snoc-of (r ∷ rs) = of (snoc-of rs)
   where
-    of : {rs : List Record} → Snoc rs → Snoc (r ∷ rs)
+    of : {rs : List Record} → EmptyOrLast rs → EmptyOrLast (r ∷ rs)
     of empty = snoc [] r
     of (snoc rs q) = snoc (r ∷ rs) q
 
@@ -116,7 +116,7 @@ pub record RightBefore {S A : Type 0} (f : Follower S A) (Holds : Record → Lis
   pub begins : (q : Record) → Holds q [] freshControl (f .fresh)
 
 -- what holds where all records are accepted, the ending one included
-pub record Accepted {S A : Type 0} (f : Follower S A) (Holds : Record → List Event → List ℕ → S → Type 0) (rs : List Record) (q : Record) : Type 0 where
+pub record OfAccepted {S A : Type 0} (f : Follower S A) (Holds : Record → List Event → List ℕ → S → Type 0) (rs : List Record) (q : Record) : Type 0 where
   pub through : before f rs q .refused ≡ 0
   pub last : refusal (recording rs) q ≡ 0
   pub holds : Holds q (recording rs) (before f rs q .control) (before f rs q .kept)
@@ -156,7 +156,7 @@ module _ {S A : Type 0} {f : Follower S A} {Holds : Record → List Event → Li
         of zero k e = (refl, e, rw e)
         of (suc m) k e = absurd (omega arith)
 
-    pub accepted : fedRefusal (rs ++ (q ∷ [])) ≡ 0 → Accepted f Holds rs q
+    pub accepted : fedRefusal (rs ++ (q ∷ [])) ≡ 0 → OfAccepted f Holds rs q
     accepted e =
         let (z, c, t) = accepted-end e in
         let h = over .holds z in
@@ -170,6 +170,6 @@ module _ {S A : Type 0} {f : Follower S A} {Holds : Record → List Event → Li
         other-end = λ rs q e a. accepted rs q e .answer ∙ rw a;
       }
     where
-      refused : {rs : List Record} → Snoc rs → (n : ℕ) → fedRefusal rs ≡ suc n → answerBy f rs ≡ f .without (suc n)
+      refused : {rs : List Record} → EmptyOrLast rs → (n : ℕ) → fedRefusal rs ≡ suc n → answerBy f rs ≡ f .without (suc n)
       refused empty n e = absurd (omega arith)
       refused (snoc rs q) n e = answer-last f rs q ∙ refused-end rs q n e

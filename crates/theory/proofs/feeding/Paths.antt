@@ -34,7 +34,7 @@ use Rattle.theory.proofs.verdicts.Latest.{some-after, some-occurs, occu
 use Rattle.theory.proofs.verdicts.Examples.{ends-middle}
 use Rattle.theory.proofs.history.Slots.{InSlot, in-slot, Frees, frees, ExactHistory, slot-one, clash-access}
 use Rattle.theory.proofs.history.Numbers.{Ranged, asker-below, asker-op, latest-below}
-use Rattle.theory.proofs.tables.Reckoned.{acts-reach, Tells, clock-tells, set-tells}
+use Rattle.theory.proofs.tables.Reckoned.{acts-reach, TellsApart, clock-tells, set-tells}
 use Rattle.theory.proofs.feeding.Simulation.{Shape, an-act, a-mark, shape-of, Represents, RepresentsSets, Simulates, after-all, clocks-simulate, sets-simulate}
 
 through : {P Q R : Type 0} → P ↔ Q → R ↔ Q → P ↔ R
@@ -182,11 +182,11 @@ module _ (w : Filling) {es : List Event} {last : List ℕ} (p q : Op) (t n : ℕ
   abbrev Path : Type 0
   Path = Leads (act (k .op) u v) (fillWith (filling w) (later k)) (act q t n)
 
-  said-before : {apart : Bool} → Tells w es last p t v u apart → acquiring q ≡ false → T (not apart) ↔ Path
+  said-before : {apart : Bool} → TellsApart w es last p t v u apart → acquiring q ≡ false → T (not apart) ↔ Path
   said-before x f = through (x .tells (stands-at k) acts (kept-number p (asks k) hv hu h k)) (leads-before (later k) f)
 
   -- once the act is fed: the access is kept still, or the act is kept in its place, which is one of the same task
-  module _ {last′ : List ℕ} {apart : Bool} (kept : (q is fresh) ≡ false) (h′ : ExactHistory (es ++ (act q t n ∷ [])) last′) (x : Tells w (es ++ (act q t n ∷ [])) last′ p t v u apart) where
+  module _ {last′ : List ℕ} {apart : Bool} (kept : (q is fresh) ≡ false) (h′ : ExactHistory (es ++ (act q t n ∷ [])) last′) (x : TellsApart w (es ++ (act q t n ∷ [])) last′ p t v u apart) where
     -- it is no fresh
     no-fresh : (j w : ℕ) → At (es ++ (act q t n ∷ [])) j (act fresh w v) → j ≤ i
     no-fresh j w y = of (occurs-snoc es (at-occurs-after y .1)) refl
@@ -247,8 +247,8 @@ module _ {es after : List Event} {i : ℕ} {e f : Event} (x : Occurs es i e afte
   at-end : Ends (es ++ (f ∷ [])) (length es) es f
   at-end = ends-middle es []
 
-  pub path-arrived : HappensBefore (es ++ (f ∷ [])) i (length es) ↔ Leads e (fillWith (filling arrived) after) f
-  path-arrived =
+  pub path-leads-arrived : HappensBefore (es ++ (f ∷ [])) i (length es) ↔ Leads e (fillWith (filling arrived) after) f
+  path-leads-arrived =
       subst (λ (g : ℕ → List Event). HappensBefore (es ++ (f ∷ [])) i (length es) ↔ Leads e (fillWith g after) f) (sym arrived-nothing)
       (λ y. leads-survives (filled-with nothing after) (path-leads at-end x y), λ l. leads-path at-end x (leads-as-arrived (filled-with nothing after) l))
 
@@ -265,8 +265,8 @@ record Exactly {S : Type 0} (x : Reckoning S) (es : List Event) (s : S) : Type 0
   none : (k t v u : ℕ) → x .number s k v u ≡ 0 → (x .apart s k t v u ≡ false) × (x .apartInFull s k t v u ≡ false)
   history : ExactHistory es last
   ranged : Ranged es
-  as-arrived : (p : Op) (t v u : ℕ) → T (isAccess p) → t < tasks → v < variables → u < tasks → Tells arrived es last p t v u (x .apart s (kind p) t v u)
-  in-full : (p : Op) (t v u : ℕ) → T (isAccess p) → t < tasks → v < variables → u < tasks → Tells full es last p t v u (x .apartInFull s (kind p) t v u)
+  as-arrived : (p : Op) (t v u : ℕ) → T (isAccess p) → t < tasks → v < variables → u < tasks → TellsApart arrived es last p t v u (x .apart s (kind p) t v u)
+  in-full : (p : Op) (t v u : ℕ) → T (isAccess p) → t < tasks → v < variables → u < tasks → TellsApart full es last p t v u (x .apartInFull s (kind p) t v u)
 
 clocks-exactly : {es : List Event} {s : State} → Represents es s → Exactly clockReckoning es s
 clocks-exactly {s = s} x =
@@ -305,7 +305,7 @@ module _ {S : Type 0} {x : Reckoning S} {es : List Event} {s : S} (y : Exactly x
   paths-before f p v u i k =
       let (hu, hv) = kept-ranged (y .ranged) k in
       record {
-        as-arrived = through (said-before arrived p q t n (y .history) hv hu k (y .as-arrived p t v u (asks k) ht hv hu) f) (path-arrived (stands-at k));
+        as-arrived = through (said-before arrived p q t n (y .history) hv hu k (y .as-arrived p t v u (asks k) ht hv hu) f) (path-leads-arrived (stands-at k));
         in-fullest = through (said-before full p q t n (y .history) hv hu k (y .in-full p t v u (asks k) ht hv hu) f) (path-fullest (stands-at k));
       }
 
@@ -314,7 +314,7 @@ module _ {S : Type 0} {x : Reckoning S} {es : List Event} {s : S} (y : Exactly x
   paths-after f z p v u i k =
       let (hu, hv) = kept-ranged (y .ranged) k in
       record {
-        as-arrived = through (said-after arrived p q t n (y .history) hv hu k f (z .history) (z .as-arrived p t v u (asks k) ht hv hu)) (path-arrived (stands-at k));
+        as-arrived = through (said-after arrived p q t n (y .history) hv hu k f (z .history) (z .as-arrived p t v u (asks k) ht hv hu)) (path-leads-arrived (stands-at k));
         in-fullest = through (said-after full p q t n (y .history) hv hu k f (z .history) (z .in-full p t v u (asks k) ht hv hu)) (path-fullest (stands-at k));
       }
 

@@ -13,6 +13,7 @@ use Rattle.theory.specs.declared.record.Record.{Record}
 use Rattle.theory.specs.declared.state.State.{State}
 use Rattle.theory.specs.declared.state.Stepped.{Stepped}
 use Rattle.theory.specs.declared.state.SetState.{SetState}
+use Rattle.theory.specs.order.Limits.{tasks}
 use Rattle.theory.specs.order.Recording.{Op, Event, act, lost, kind, lossMark, eventOf, isAccess}
 use Rattle.theory.specs.fillings.Completion.{names, Named, arrived, full, Filling}
 use Rattle.theory.specs.acceptance.Table.{isLive, phase, Standing, standing, refusal, appendUnless, extended}
@@ -69,7 +70,7 @@ mark-filled {w} r {n = n} m = decided (equal (w n) 0)
   where
     decided : {b : Bool} → Reflects (w n ≡ 0) b → ProperMask (w n)
     decided (right e) = nobody e
-    decided (wrong f) = let (t, l, d) = some-bit 16 (w n) f (r .bounded n (m .fits)) in somebody f (t, bit-named (w n) t l (subst T (sym (eq-eqb _ _ d)) tt))
+    decided (wrong f) = let (t, l, d) = some-bit tasks (w n) f (r .bounded n (m .fits)) in somebody f (t, bit-named (w n) t l (subst T (sym (eq-eqb _ _ d)) tt))
 
 mark-live : {s : Standing} {n : ℕ} → MarkAllowed s n → (t : ℕ) → Named n t → s .live t ≡ true
 mark-live {n = n} m t k = m .live t (is-true (by-test (names n t)) (k .named))
@@ -96,11 +97,11 @@ pub record Base (es : List Event) (control last : List ℕ) : Type 0 where
   pub seen : Seen es
   pub learnt : Learnt es
 
-pub record Clocks (es : List Event) (clocks fullclocks : List ℕ) : Type 0 where
+pub record BothClocks (es : List Event) (clocks fullclocks : List ℕ) : Type 0 where
   pub as-arrived : ExactClocks arrived es clocks
   pub in-full : ExactClocks full es fullclocks
 
-pub record Sets (es : List Event) (sets fullsets : List ℕ) : Type 0 where
+pub record BothSets (es : List Event) (sets fullsets : List ℕ) : Type 0 where
   pub as-arrived : ExactSets arrived es sets
   pub in-full : ExactSets full es fullsets
 
@@ -139,8 +140,8 @@ clocks-by w b x (an-act o t n a) =
     (clocks-act o x (a .fits .task-fits) (on-series o (a .fits)) (next-number (b .control-exact)) (starts-unseen w (b .seen) (a .starts-unseen)))
 clocks-by w b x (a-mark t n m) = clocks-mark n (w .asked n (m .fits)) (mark-filled w m) x
 
-clocks-next : {es : List Event} {control last clocks fullclocks : List ℕ} {r : Record} → Base es control last → Clocks es clocks fullclocks → Shape es r →
-    Clocks (Then es r) (nextClocks arrived (r .kind) (r .task) (r .on) (nextNumber control) clocks) (nextClocks full (r .kind) (r .task) (r .on) (nextNumber control) fullclocks)
+clocks-next : {es : List Event} {control last clocks fullclocks : List ℕ} {r : Record} → Base es control last → BothClocks es clocks fullclocks → Shape es r →
+    BothClocks (Then es r) (nextClocks arrived (r .kind) (r .task) (r .on) (nextNumber control) clocks) (nextClocks full (r .kind) (r .task) (r .on) (nextNumber control) fullclocks)
 clocks-next b x h = record { as-arrived = clocks-by arrived-restricts b (x .as-arrived) h; in-full = clocks-by full-restricts b (x .in-full) h }
 
 -- the same if a take that is skipped moves them as a miss does
@@ -149,8 +150,8 @@ skipped-clocks : {w : Filling} {es : List Event} {control last b : List ℕ} {r 
 skipped-clocks b x (an-act o t n a) = skip-same (b .control-exact) (b .learnt) x (kind o) t n (a .fits)
 skipped-clocks b x (a-mark t n m) = refl
 
-sets-next : {es : List Event} {sets fullsets : List ℕ} {r : Record} → Seen es → Sets es sets fullsets → Shape es r →
-    Sets (Then es r) (nextSets arrived (r .kind) (r .task) (r .on) sets) (nextSets full (r .kind) (r .task) (r .on) fullsets)
+sets-next : {es : List Event} {sets fullsets : List ℕ} {r : Record} → Seen es → BothSets es sets fullsets → Shape es r →
+    BothSets (Then es r) (nextSets arrived (r .kind) (r .task) (r .on) sets) (nextSets full (r .kind) (r .task) (r .on) fullsets)
 sets-next s x (an-act o t n a) =
     rw (event-act o t n, no-mark o)
     (record {
@@ -169,7 +170,7 @@ is-false {b} n = decided (by-test b)
     decided (right x) = absurd (n x)
     decided (wrong m) = refl
 
-clock-answer : {es : List Event} {control last clocks fullclocks : List ℕ} {r : Record} → Base es control last → Clocks es clocks fullclocks → Shape es r →
+clock-answer : {es : List Event} {control last clocks fullclocks : List ℕ} {r : Record} → Base es control last → BothClocks es clocks fullclocks → Shape es r →
     meaning (answeredBy last (r .kind) (r .on) (nextNumber control) (clockMasks clocks fullclocks last (r .kind) (r .task) (r .on))) ≡ acceptedAnswer es (eventOf r)
 clock-answer {es} {control} {last} {clocks} {fullclocks} b x (an-act o t n a) = rw (event-act o t n) (decided (by-test (isAccess o)))
   where
@@ -186,7 +187,7 @@ clock-answer {es} {control} {last} {clocks} {fullclocks} b x (an-act o t n a) = 
     decided (wrong l) = rw (other-tests o l, is-false {b = isAccess o} l, number)
 clock-answer b x (a-mark t n m) = rw (next-number (b .control-exact))
 
-set-answer : {es : List Event} {control last sets fullsets : List ℕ} {r : Record} → Base es control last → Sets es sets fullsets → Shape es r →
+set-answer : {es : List Event} {control last sets fullsets : List ℕ} {r : Record} → Base es control last → BothSets es sets fullsets → Shape es r →
     meaning (answeredBy last (r .kind) (r .on) (nextNumber control) (setMasks sets fullsets last (r .kind) (r .task) (r .on))) ≡ acceptedAnswer es (eventOf r)
 set-answer {es} {control} {last} {sets} {fullsets} b x (an-act o t n a) = rw (event-act o t n) (decided (by-test (isAccess o)))
   where
@@ -215,11 +216,11 @@ base-totalled m v b = base-control b (exact-totalled m v (b .control-exact))
 
 pub record Represents (es : List Event) (s : State) : Type 0 where
   pub base : Base es (s .control) (s .last)
-  pub clocks : Clocks es (s .clocks) (s .fullclocks)
+  pub clocks : BothClocks es (s .clocks) (s .fullclocks)
 
 pub record RepresentsSets (es : List Event) (s : SetState) : Type 0 where
   pub base : Base es (s .control) (s .last)
-  pub sets : Sets es (s .sets) (s .fullsets)
+  pub sets : BothSets es (s .sets) (s .fullsets)
 
 -- One step as it is demanded of a checker: what represents the recording so far is answered as the recording says, and what it leaves
 -- represents the recording with the record, if that was accepted

@@ -14,7 +14,7 @@ use Rattle.theory.specs.declared.state.SetStepped.{SetStepped}
 use Rattle.theory.specs.order.Recording.{kinds, lossMark}
 use Rattle.theory.specs.acceptance.Table.{Standing, standingRefusal}
 use Rattle.theory.specs.acceptance.Control.{controlStanding, controlRefusal}
-use Rattle.theory.specs.tables.Turns.{turns}
+use Rattle.theory.specs.basics.Turns.{turns}
 use Rattle.theory.specs.history.History.{underEach}
 use Rattle.theory.specs.feeding.Step.{recordOf, stepUnless, stepOf, setStepUnless, setStepOf}
 use Rattle.theory.specs.feeding.Feeding.{byClocks, bySets, SameUse, Overlooks}

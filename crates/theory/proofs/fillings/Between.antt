@@ -28,24 +28,24 @@ ends-filled (keep c) ends = ([], ends, done)
 ends-filled (keep c) (onward d) = let (mid′, d′, c′) = ends-filled c d in (_, onward d′, keep c′)
 ends-filled (fill {gs = gs} x c) (onward d) = let (mid′, d′, c′) = ends-filled c d in (gs ++ mid′, ends-behind gs d′, fill x c′)
 
--- `Between F fs i k e f mid`: the filled list fs has e at place i and f at place k, and between them mid, filled in too
-pub record Between (F : ℕ → List Event → Type 0) (fs : List Event) (i k : ℕ) (e f : Event) (mid : List Event) : Type 0 where
+-- `FilledBetween F fs i k e f mid`: the filled list fs has e at place i and f at place k, and between them mid, filled in too
+pub record FilledBetween (F : ℕ → List Event → Type 0) (fs : List Event) (i k : ℕ) (e f : Event) (mid : List Event) : Type 0 where
   pub before′ : List Event
   pub mid′ : List Event
   pub to : Ends fs k before′ f
   pub from : Occurs before′ i e mid′
   pub filled : Filled F mid mid′
 
-pub between : {F : ℕ → List Event → Type 0} {es fs before mid : List Event} {i k : ℕ} {o p : Op} {t u n m : ℕ} (c : Filled F es fs) →
-    Ends es k before (act p u m) → Occurs before i (act o t n) mid → Between F fs (place c i) (place c k) (act o t n) (act p u m) mid
-between (keep c) (onward d) first =
+pub filled-between : {F : ℕ → List Event → Type 0} {es fs before mid : List Event} {i k : ℕ} {o p : Op} {t u n m : ℕ} (c : Filled F es fs) →
+    Ends es k before (act p u m) → Occurs before i (act o t n) mid → FilledBetween F fs (place c i) (place c k) (act o t n) (act p u m) mid
+filled-between (keep c) (onward d) first =
     let (mid′, d′, c′) = ends-filled c d in
     record { before′ = _; mid′ = mid′; to = onward d′; from = first; filled = c′ }
-between (keep c) (onward d) (next o) =
-    let b = between c d o in
+filled-between (keep c) (onward d) (next o) =
+    let b = filled-between c d o in
     record { before′ = _; mid′ = b .mid′; to = onward (b .to); from = next (b .from); filled = b .filled }
-between (fill {gs = gs} x c) (onward d) (next o) =
-    let b = between c d o in
+filled-between (fill {gs = gs} x c) (onward d) (next o) =
+    let b = filled-between c d o in
     record { before′ = gs ++ b .before′; mid′ = b .mid′; to = ends-behind gs (b .to); from = occurs-behind gs (b .from); filled = b .filled }
 
 -- Completions by a function
@@ -68,7 +68,7 @@ place-map h (fill {gs = gs} x c) (suc i) = ap (λ (j : ℕ). length gs + j) (pla
 pub with-between : (g : ℕ → List Event) {es before mid : List Event} {i k : ℕ} {o p : Op} {t u n m : ℕ} → Ends es k before (act p u m) → Occurs before i (act o t n) mid →
     HappensBefore (fillWith g es) (place (filled-with g es) i) (place (filled-with g es) k) ↔ Leads (act o t n) (fillWith g mid) (act p u m)
 with-between g {es} d o =
-    let b = between (filled-with g es) d o in
+    let b = filled-between (filled-with g es) d o in
     (λ q. rw (← filled-is (b .filled)) (path-leads (b .to) (b .from) q), λ q. leads-path (b .to) (b .from) (rw (← filled-is (b .filled)) at q))
 
 -- `g` fills each mark with fillers

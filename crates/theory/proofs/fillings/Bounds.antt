@@ -12,7 +12,7 @@ use Rattle.theory.proofs.basics.Reflects.{Reflects, right, wrong, at-mo
 use Rattle.theory.proofs.order.Leads.{Leads, leads-survives, leads-as-arrived, filled-with}
 use Rattle.theory.proofs.fillings.Fullest.{filler-rounds, filler-nothing, leads-most}
 use Rattle.theory.proofs.order.Places.{Ends, Occurs, at-ends, at-occurs, path-later, leads-path, path-leads}
-use Rattle.theory.proofs.fillings.Between.{between, completes, completes-between, place-mono}
+use Rattle.theory.proofs.fillings.Between.{filled-between, completes, completes-between, place-mono}
 
 -- The two bounds are completions
 
@@ -29,7 +29,7 @@ pub path-survives : {F : ℕ → List Event → Type 0} {es fs : List Event} {i 
 path-survives c ai ak p =
     let (before, d) = at-ends ak in
     let (mid, o) = at-occurs d ai (path-later p) in
-    let b = between c d o in
+    let b = filled-between c d o in
     leads-path (b .to) (b .from) (leads-survives (b .filled) (path-leads d o p))
 
 -- a path of a filled list leads to a later record
@@ -46,7 +46,7 @@ unfolding fullest-completes
 path-most c ai ak p =
     let (before, d) = at-ends ak in
     let (mid, o) = at-occurs d ai (placed-later c p) in
-    let b = between c d o in
+    let b = filled-between c d o in
     completes-between rounds filler-rounds d o .1 (leads-most full (b .filled) (path-leads (b .to) (b .from) p))
 
 pub path-arrived : {es : List Event} {i k : ℕ} {o p : Op} {t u n m : ℕ} → At es i (act o t n) → At es k (act p u m) →
@@ -70,5 +70,5 @@ module _ {es before mid : List Event} {i k : ℕ} {o p : Op} {t u n m : ℕ} (d 
   unfolding fullest-completes
   apart-in-all = (
     λ a l. a (fullest es) (fullest-completes es) (completes-between rounds filler-rounds d x .1 l),
-    λ a fs c q. let b = between c d x in a (leads-most full (b .filled) (path-leads (b .to) (b .from) q)),
+    λ a fs c q. let b = filled-between c d x in a (leads-most full (b .filled) (path-leads (b .to) (b .from) q)),
   )

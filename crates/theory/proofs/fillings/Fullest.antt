@@ -6,7 +6,7 @@ use mathlib.Core.List.{List, [], _∷_, _++_}
 use Prim.Native.Nat.{ℕ, zero, suc, _<_, zero-le, suc-le-suc}
 use lib.Dec.{T, lit<}
 use Rattle.theory.specs.order.Limits.{tasks}
-use Rattle.theory.specs.order.Recording.{Every, no-more, and-more, Op, take, give, look, set, Event, act, series, losable}
+use Rattle.theory.specs.order.Recording.{Every, no-more, and-more, Op, take, give, look, set, Event, act, series, sizeOf, losable}
 use Rattle.theory.specs.fillings.Completion.{bit, names, Named, Filler, filler, Filled, done, keep, fill, inTurn, onEach, part, partIf, round, rounds, nothing, fillWith, Filling, filling}
 use Rattle.theory.proofs.basics.Reflects.{by-test, both, at-most, passed, is-true}
 use Rattle.theory.proofs.order.Leads.{Leads}
@@ -15,15 +15,15 @@ use Rattle.theory.proofs.order.Carry.{Node, due, semaphore, Acquires, o
 -- Definition
 
 -- some filler of the mark acquires the node, or releases to it
-abbrev pub Acquired : ℕ → Node → Type 0
-Acquired mask n = (g : Event) × Filler mask g × Acquires n g
+abbrev pub FillerAcquires : ℕ → Node → Type 0
+FillerAcquires mask n = (g : Event) × Filler mask g × Acquires n g
 
-abbrev pub Released : ℕ → Node → Type 0
-Released mask n = (g : Event) × Filler mask g × Releases g n
+abbrev pub FillerReleases : ℕ → Node → Type 0
+FillerReleases mask n = (g : Event) × Filler mask g × Releases g n
 
 pub data Mix (mask : ℕ) : Node → Node → Type 0 where
   same : {n : Node} → Mix mask n n
-  mixed : {n m : Node} → Acquired mask n → Released mask m → Mix mask n m
+  mixed : {n m : Node} → FillerAcquires mask n → FillerReleases mask m → Mix mask n m
 
 -- Any filling stays inside `Mix`
 
@@ -39,19 +39,19 @@ carry-mix (and-more g gs) (move h t c) = onward g h t (carry-mix gs c)
 -- Two rounds do all of `Mix`
 
 -- an act on one number of the series is among the acts on each
-carry-each : {a b : Node} (o : Op) (t n : ℕ) → n < series o → Acquires a (act o t n) → Releases (act o t n) b → Carry a (onEach o t) b
+carry-each : {a b : Node} (o : Op) (t n : ℕ) → n < sizeOf (series o) → Acquires a (act o t n) → Releases (act o t n) b → Carry a (onEach o t) b
 unfolding onEach
-carry-each o t n h acquires releases = carry-in-turn (series o) (λ k. act o t k ∷ []) n h (carry-one acquires releases)
+carry-each o t n h acquires releases = carry-in-turn (sizeOf (series o)) (λ k. act o t k ∷ []) n h (carry-one acquires releases)
 
 -- the first half of a task's part brings to its next act what any filler of that task acquires
-acquires-part : {t n : ℕ} {o : Op} {m : Node} → T (losable o) → n < series o → Acquires m (act o t n) → Carry m (onEach take t ++ onEach look t) (due t)
+acquires-part : {t n : ℕ} {o : Op} {m : Node} → T (losable o) → n < sizeOf (series o) → Acquires m (act o t n) → Carry m (onEach take t ++ onEach look t) (due t)
 acquires-part {t} l h own = carry-skip (onEach take t ++ onEach look t)
 acquires-part {t} {n} l h by-take = carry-append (carry-each take t n h by-take own-next) (carry-skip (onEach look t))
 acquires-part {t} {n} l h by-look = carry-append (carry-skip (onEach take t)) (carry-each look t n h by-look own-next)
 acquires-part l h by-join = absurd l
 
 -- the second half brings to whatever any filler of that task releases to what its next act acquires
-releases-part : {t n : ℕ} {o : Op} {m : Node} → T (losable o) → n < series o → Releases (act o t n) m → Carry (due t) (onEach give t ++ onEach set t) m
+releases-part : {t n : ℕ} {o : Op} {m : Node} → T (losable o) → n < sizeOf (series o) → Releases (act o t n) m → Carry (due t) (onEach give t ++ onEach set t) m
 releases-part {t} l h own-next = carry-skip (onEach give t ++ onEach set t)
 releases-part {t} l h own-acted = carry-append (carry-each give t 0 (lit< tt) own own-acted) (carry-skip (onEach set t))
 releases-part {t} {n} l h by-give = carry-append (carry-each give t n h own by-give) (carry-skip (onEach set t))
@@ -72,12 +72,12 @@ carry-round {mask} {t} {n} {m} named c =
     carry-in-turn tasks (λ u. partIf (names mask u) u) t (named-task named)
     (subst (λ (b : Bool). Carry n (partIf b t) m) (sym (is-true (by-test (names mask t)) (named .named))) c)
 
-acquired-round : {mask : ℕ} {n : Node} → Acquired mask n → Carry n (round mask) hub
+acquired-round : {mask : ℕ} {n : Node} → FillerAcquires mask n → Carry n (round mask) hub
 unfolding hub part
 acquired-round (_, filler l named h, acquires) =
     carry-round named (carry-append (acquires-part l h acquires) (releases-part {o = give} tt (lit< tt) by-give))
 
-released-round : {mask : ℕ} {n : Node} → Released mask n → Carry hub (round mask) n
+released-round : {mask : ℕ} {n : Node} → FillerReleases mask n → Carry hub (round mask) n
 unfolding hub part
 released-round (_, filler l named h, releases) =
     carry-round named (carry-append (acquires-part {o = take} tt (lit< tt) by-take) (releases-part l h releases))
@@ -114,7 +114,7 @@ every-in-turn (suc n) f all = every-append (all zero (suc-le-suc zero-le)) (ever
 
 filler-each : {mask t : ℕ} (o : Op) → Named mask t → T (losable o) → Every (Filler mask) (onEach o t)
 unfolding onEach
-filler-each {t = t} o named l = every-in-turn (series o) (λ n. act o t n ∷ []) (λ n h. and-more (filler l named h) no-more)
+filler-each {t = t} o named l = every-in-turn (sizeOf (series o)) (λ n. act o t n ∷ []) (λ n h. and-more (filler l named h) no-more)
 
 filler-part : {mask t : ℕ} → Named mask t → Every (Filler mask) (part t)
 unfolding part

@@ -14,7 +14,7 @@ use Rattle.theory.specs.acceptance.Table.{Phase, isLive, isUnseen, apply
 use Rattle.theory.proofs.acceptance.ControlTable.{phase-snoc}
 use Rattle.theory.proofs.order.Carry.{Node, due, acted, Releases, own, own-next, own-acted, by-start}
 use Rattle.theory.proofs.fillings.Reach.{acquired-some, nobody-named, acquired-due, released-due, released-acted}
-use Rattle.theory.proofs.fillings.Fullest.{Acquired}
+use Rattle.theory.proofs.fillings.Fullest.{FillerAcquires}
 use Rattle.theory.proofs.order.Tests.{Some, some-map, some-snoc, snoc-some, snoc-last}
 use Rattle.theory.proofs.fillings.Came.{Came, Newly, Onward, came-next}
 use Rattle.theory.proofs.basics.Reflects.{Reflects, right, wrong, equal}
@@ -133,7 +133,7 @@ module _ {w : Filling} {Chosen : Event → List Event → Type 0} {Stays : Type 
       where
         of : {m : Node} → (Stays × Onward w Chosen es (lost mask) i m) ⊎ (Newly Chosen es (lost mask) i × Releases (lost mask) m) → Came w Chosen es i m
         of (inl (s, inl c)) = c
-        of (inl (s, inr (p, c, (h, y)))) = absurd (nobody-named (acquired-some (subst (λ (k : ℕ). Acquired k p) none h) .1))
+        of (inl (s, inr (p, c, (h, y)))) = absurd (nobody-named (acquired-some (subst (λ (k : ℕ). FillerAcquires k p) none h) .1))
         of (inr (c, y)) = absurd (no-releases y)
 
     pub came-mark : {m : Node} → Stays → Came w Chosen es i m → Came w Chosen (es ++ (lost mask ∷ [])) i m

@@ -7,22 +7,21 @@ use mathlib.Core.Bool.{false}
 use Prim.Native.Nat.{ℕ, suc, _<_}
 use lib.Dec.{T, lit<}
 use Rattle.theory.specs.order.Limits.{tasks, semaphores, flags}
-use Rattle.theory.specs.tables.Turns.{turns}
-use Rattle.theory.specs.acceptance.Table.{anyBelow}
+use Rattle.theory.specs.basics.Turns.{turns, anyBelow}
 use Rattle.theory.specs.order.Recording.{take, give, look, set, Event, act, lost}
 use Rattle.theory.specs.fillings.Completion.{bit, Named, filler, fillWith, nothing, round, rounds, Filling, arrived, filling}
 use Rattle.theory.proofs.basics.Reflects.{by-test, both, at-most, passed}
 use Rattle.theory.proofs.acceptance.Rows.{none-below}
 use Rattle.theory.proofs.order.Leads.{Leads}
 use Rattle.theory.proofs.order.Carry.{Node, due, acted, semaphore, flag, Acquires, own, by-take, by-look, by-join, Releases, own-next, own-acted, by-give, by-set, by-start, Carry, stay, pass, move, carry-skip, carry-append, carry-split, acted-next, carry-acted, leads-carried, carried-leads}
-use Rattle.theory.proofs.fillings.Fullest.{Acquired, Released, Mix, same, mixed, carry-mix, mix-rounds, filler-rounds}
+use Rattle.theory.proofs.fillings.Fullest.{FillerAcquires, FillerReleases, Mix, same, mixed, carry-mix, mix-rounds, filler-rounds}
 
 -- Definition
 
 -- order goes over one event from the one node to the other
 abbrev pub Flow : Filling → Event → Node → Node → Type 0
 Flow w (act o t n) p m = Acquires p (act o t n) × Releases (act o t n) m
-Flow w (lost mask) p m = Acquired (w mask) p × Released (w mask) m
+Flow w (lost mask) p m = FillerAcquires (w mask) p × FillerReleases (w mask) m
 
 -- order from e has come to node m after the events
 pub record Reach (w : Filling) (e : Event) (xs : List Event) (m : Node) : Type 0 where
@@ -48,7 +47,7 @@ carry-flow w (lost mask) c =
     let (q, inside, rest) = carry-split (rounds (w mask)) c in
     of-mark (carry-mix (filler-rounds (w mask)) inside) rest
   where
-    of-mark : {p q m : Node} → Mix (w mask) p q → Carry q [] m → (p ≡ m) ⊎ (Acquired (w mask) p × Released (w mask) m)
+    of-mark : {p q m : Node} → Mix (w mask) p q → Carry q [] m → (p ≡ m) ⊎ (FillerAcquires (w mask) p × FillerReleases (w mask) m)
     of-mark same stay = inl refl
     of-mark (mixed h t) stay = inr (h, t)
 
@@ -105,7 +104,7 @@ module _ {w : Filling} {e : Event} where
 -- What a mark acquires and releases to, by its mask
 
 -- who acquires or releases to anything is named
-pub acquired-some : {mask : ℕ} {n : Node} → Acquired mask n → (t : ℕ) × Named mask t
+pub acquired-some : {mask : ℕ} {n : Node} → FillerAcquires mask n → (t : ℕ) × Named mask t
 acquired-some (_, filler l d h, _) = (_, d)
 
 -- the mask 0 names nobody: tried out
@@ -127,50 +126,50 @@ pub arrived-nothing : filling arrived ≡ nothing
 arrived-nothing = λ i mask. arrived-none i
 
 -- the next act of each named task
-pub acquired-due : {mask t : ℕ} → Acquired mask (due t) ↔ Named mask t
+pub acquired-due : {mask t : ℕ} → FillerAcquires mask (due t) ↔ Named mask t
 acquired-due = (to, λ d. (act take _ 0, filler tt d (lit< tt), own))
   where
-    to : {mask t : ℕ} → Acquired mask (due t) → Named mask t
+    to : {mask t : ℕ} → FillerAcquires mask (due t) → Named mask t
     to (_, filler l d h, own) = d
 
 -- no join
-pub acquired-acted : {mask t : ℕ} → ¬ Acquired mask (acted t)
+pub acquired-acted : {mask t : ℕ} → ¬ FillerAcquires mask (acted t)
 acquired-acted (_, filler l d h, by-join) = absurd l
 
 -- each object, if a task is named
-pub acquired-semaphore : {mask s : ℕ} → Acquired mask (semaphore s) ↔ ((s < semaphores) × ((t : ℕ) × Named mask t))
+pub acquired-semaphore : {mask s : ℕ} → FillerAcquires mask (semaphore s) ↔ ((s < semaphores) × ((t : ℕ) × Named mask t))
 acquired-semaphore = (to, λ x. (act take _ _, filler tt (x .1 .1) (x .0), by-take))
   where
-    to : {mask s : ℕ} → Acquired mask (semaphore s) → (s < semaphores) × ((t : ℕ) × Named mask t)
+    to : {mask s : ℕ} → FillerAcquires mask (semaphore s) → (s < semaphores) × ((t : ℕ) × Named mask t)
     to (_, filler l d h, by-take) = (h, (_, d))
 
-pub acquired-flag : {mask f : ℕ} → Acquired mask (flag f) ↔ ((f < flags) × ((t : ℕ) × Named mask t))
+pub acquired-flag : {mask f : ℕ} → FillerAcquires mask (flag f) ↔ ((f < flags) × ((t : ℕ) × Named mask t))
 acquired-flag = (to, λ x. (act look _ _, filler tt (x .1 .1) (x .0), by-look))
   where
-    to : {mask f : ℕ} → Acquired mask (flag f) → (f < flags) × ((t : ℕ) × Named mask t)
+    to : {mask f : ℕ} → FillerAcquires mask (flag f) → (f < flags) × ((t : ℕ) × Named mask t)
     to (_, filler l d h, by-look) = (h, (_, d))
 
-pub released-due : {mask t : ℕ} → Released mask (due t) ↔ Named mask t
+pub released-due : {mask t : ℕ} → FillerReleases mask (due t) ↔ Named mask t
 released-due = (to, λ d. (act take _ 0, filler tt d (lit< tt), own-next))
   where
-    to : {mask t : ℕ} → Released mask (due t) → Named mask t
+    to : {mask t : ℕ} → FillerReleases mask (due t) → Named mask t
     to (_, filler l d h, own-next) = d
     to (_, filler l d h, by-start) = absurd l
 
-pub released-acted : {mask t : ℕ} → Released mask (acted t) ↔ Named mask t
+pub released-acted : {mask t : ℕ} → FillerReleases mask (acted t) ↔ Named mask t
 released-acted = (to, λ d. (act take _ 0, filler tt d (lit< tt), own-acted))
   where
-    to : {mask t : ℕ} → Released mask (acted t) → Named mask t
+    to : {mask t : ℕ} → FillerReleases mask (acted t) → Named mask t
     to (_, filler l d h, own-acted) = d
 
-pub released-semaphore : {mask s : ℕ} → Released mask (semaphore s) ↔ ((s < semaphores) × ((t : ℕ) × Named mask t))
+pub released-semaphore : {mask s : ℕ} → FillerReleases mask (semaphore s) ↔ ((s < semaphores) × ((t : ℕ) × Named mask t))
 released-semaphore = (to, λ x. (act give _ _, filler tt (x .1 .1) (x .0), by-give))
   where
-    to : {mask s : ℕ} → Released mask (semaphore s) → (s < semaphores) × ((t : ℕ) × Named mask t)
+    to : {mask s : ℕ} → FillerReleases mask (semaphore s) → (s < semaphores) × ((t : ℕ) × Named mask t)
     to (_, filler l d h, by-give) = (h, (_, d))
 
-pub released-flag : {mask f : ℕ} → Released mask (flag f) ↔ ((f < flags) × ((t : ℕ) × Named mask t))
+pub released-flag : {mask f : ℕ} → FillerReleases mask (flag f) ↔ ((f < flags) × ((t : ℕ) × Named mask t))
 released-flag = (to, λ x. (act set _ _, filler tt (x .1 .1) (x .0), by-set))
   where
-    to : {mask f : ℕ} → Released mask (flag f) → (f < flags) × ((t : ℕ) × Named mask t)
+    to : {mask f : ℕ} → FillerReleases mask (flag f) → (f < flags) × ((t : ℕ) × Named mask t)
     to (_, filler l d h, by-set) = (h, (_, d))

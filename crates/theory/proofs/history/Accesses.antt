@@ -9,16 +9,17 @@ use borrow.Author.Tests.{eqb-true, ne-eqb, ltb-true, leb-false}
 use lib.Dec.{eqb, ltb, leb, lit<}
 use lib.ListN.{length, getD, set}
 use Rattle.theory.specs.order.Limits.{tasks, variables}
-use Rattle.theory.specs.tables.Turns.{turns}
-use Rattle.theory.specs.order.Recording.{write, fresh, kind, Kind, of-op, kinds, numberedKind, kindAccesses, accesses, kindSeries}
+use Rattle.theory.specs.basics.Turns.{turns, anyBelow}
+use Rattle.theory.specs.order.Recording.{write, fresh, kind, Kind, of-op, kinds, numberedKind, kindAccesses, accesses, seriesSize}
 use Rattle.theory.specs.order.Path.{rule, clashes}
-use Rattle.theory.specs.acceptance.Table.{Fitting, anyBelow}
+use Rattle.theory.specs.acceptance.Table.{Fitting}
 use Rattle.theory.specs.history.History.{askers, asker, askAt, kindClashes, slot, underEach, emptied, withAccess, lastAfter}
 use Rattle.theory.proofs.basics.Reflects.{Reflects, right, wrong, equal}
 use Rattle.theory.proofs.acceptance.Rows.{none-below}
 use Rattle.theory.proofs.order.Ops.{numberedKind-kind}
 use Rattle.theory.proofs.order.Numbered.{kind-above, each-number, each-access-kind, same, same-true, no-clash}
-use Rattle.theory.proofs.tables.Ranges.{access-fits}
+use Rattle.theory.proofs.tables.Ranges.{access-of, access-fits}
+use Rattle.theory.proofs.history.Numbers.{asker-op}
 use Rattle.theory.proofs.history.Stores.{stored-again}
 
 -- a kind of access, a task and a variable
@@ -33,7 +34,7 @@ of-access f e = record { is-access = e; task-fits = f .task-fits; variable-fits 
 
 -- a fresh names one too
 pub fresh-fits : {k t n : ℕ} → Fitting k t n → k ≡ kind fresh → n < variables
-fresh-fits {n = n} f e = subst (λ (j : ℕ). n < kindSeries j) e (f .on-fits)
+fresh-fits {n = n} f e = subst (λ (j : ℕ). n < seriesSize j) e (f .on-fits)
 
 pub kept-nowhere : {A : Type 0} (f : ℕ → A → A) (k v u : ℕ) (b : A) → accesses k ≡ false → underEach f k v u b ≡ b
 unfolding underEach turns
@@ -55,24 +56,13 @@ kept-access k t v number last e = decided (equal k (kind fresh))
 pub kept-other : (k t n number : ℕ) (last : List ℕ) → accesses k ≡ false → lastAfter k t n number last ≡ cond (eqb k (kind fresh)) (emptied n last) last
 kept-other k t n number last e = ap (λ (l : List ℕ). cond (eqb k (kind fresh)) (emptied n last) l) (kept-nowhere (λ s l. set l s number) k n t last e)
 
--- The kinds of access by their numbers among them, and by the numbers of their kinds: what holds of each is tried out
-
--- each is over the variables
-access-series-tried : anyBelow (length kinds) (λ k. not (not (accesses k) || eqb (kindSeries k) variables)) ≡ false
-unfolding turns
-access-series-tried = refl
-
-pub access-series : (k : ℕ) → accesses k ≡ true → kindSeries k ≡ variables
-access-series k e = eqb-true (kindSeries k) variables (each-access-kind (λ k. eqb (kindSeries k) variables) access-series-tried k e)
+-- The kinds of access by their numbers among them, and by the numbers of their kinds
 
 -- its number among those that ask is that of its kind there
-asker-tried : anyBelow (length kinds) (λ k. not (not (accesses k) || eqb (kind (asker (askAt k))) k)) ≡ false
-unfolding turns
-asker-tried = refl
-
 pub asker-of : (k : ℕ) → accesses k ≡ true → numberedKind k ≡ of-op (asker (askAt k))
 asker-of k e =
-    ap numberedKind (sym (eqb-true (kind (asker (askAt k))) k (each-access-kind (λ k. eqb (kind (asker (askAt k))) k) asker-tried k e))) ∙ numberedKind-kind (asker (askAt k))
+    let (o, q, a) = access-of k e in
+    ap numberedKind q ∙ numberedKind-kind o ∙ ap of-op (sym (ap (λ (j : ℕ). asker (askAt j)) q ∙ asker-op o a))
 
 -- how the code looks for it: the place of its kind number among theirs, and their count where there is none
 abbrev pub askerKinds : List ℕ

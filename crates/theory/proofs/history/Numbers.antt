@@ -10,7 +10,7 @@ use native.Mathlib.Omega.{arith}
 use borrow.Author.Tests.{ltb-true}
 use lib.Dec.{T, ltb}
 use lib.ListN.{length}
-use Rattle.theory.specs.order.Recording.{Op, fresh, Event, act, lost, Every, series, kind, about, accessNumber, Kind, of-op, of-mark, _is_, ActsIn, acts, isAccess}
+use Rattle.theory.specs.order.Recording.{Op, fresh, Event, act, lost, Every, series, sizeOf, kind, about, accessNumber, Kind, of-op, of-mark, _is_, ActsIn, acts, isAccess}
 use Rattle.theory.specs.order.Path.{clashes, Conflict, conflict, Empties, empties, Against}
 use Rattle.theory.specs.history.History.{askers, asker, askAt, slots, latestSlot, latestNumber}
 use Rattle.theory.specs.order.Limits.{tasks, variables}
@@ -26,22 +26,22 @@ use Rattle.theory.proofs.order.Ops.{opOf-kind, same-op, each-op}
 
 -- the acts of a recording have numbers in their ranges
 pub record Ranged (es : List Event) : Type 0 where
-  pub in-range : (j : ℕ) (o : Op) (u n : ℕ) (after : List Event) → Occurs es j (act o u n) after → (u < tasks) × (n < series o)
+  pub in-range : (j : ℕ) (o : Op) (u n : ℕ) (after : List Event) → Occurs es j (act o u n) after → (u < tasks) × (n < sizeOf (series o))
 
 pub fresh-ranged : Ranged []
 fresh-ranged = record { in-range = λ j o u n after q. elim q [ ] }
 
-pub ranged-act : {es : List Event} (o : Op) {t n : ℕ} → t < tasks → n < series o → Ranged es → Ranged (es ++ (act o t n ∷ []))
+pub ranged-act : {es : List Event} (o : Op) {t n : ℕ} → t < tasks → n < sizeOf (series o) → Ranged es → Ranged (es ++ (act o t n ∷ []))
 ranged-act {es} o {t} {n} ht hn r = record { in-range = λ j p u m after q. cases (occurs-snoc es q) }
   where
-    cases : {j : ℕ} {p : Op} {u m : ℕ} {after : List Event} → Snoc es (act o t n) j (act p u m) after → (u < tasks) × (m < series p)
+    cases : {j : ℕ} {p : Op} {u m : ℕ} {after : List Event} → Snoc es (act o t n) j (act p u m) after → (u < tasks) × (m < sizeOf (series p))
     cases (old q) = r .in-range _ _ _ _ _ q
     cases new = (ht, hn)
 
 pub ranged-mark : {es : List Event} (mask : ℕ) → Ranged es → Ranged (es ++ (lost mask ∷ []))
 ranged-mark {es} mask r = record { in-range = λ j p u m after q. cases (occurs-snoc es q) }
   where
-    cases : {j : ℕ} {p : Op} {u m : ℕ} {after : List Event} → Snoc es (lost mask) j (act p u m) after → (u < tasks) × (m < series p)
+    cases : {j : ℕ} {p : Op} {u m : ℕ} {after : List Event} → Snoc es (lost mask) j (act p u m) after → (u < tasks) × (m < sizeOf (series p))
     cases (old q) = r .in-range _ _ _ _ _ q
 
 -- Conflicting accesses by slots

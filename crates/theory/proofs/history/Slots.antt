@@ -8,8 +8,8 @@ use native.Mathlib.Omega.{arith}
 use lib.Dec.{T}
 use lib.ListN.{length, set, replicate, length-set, length-replicate, getD-replicate}
 use lib.Seq.{getD-set-same, getD-set-other}
-use Rattle.theory.specs.tables.Turns.{turns}
-use Rattle.theory.specs.order.Recording.{Op, fresh, Event, act, lost, lossMark, Every, no-more, series, kind, numberedKind, isAccess}
+use Rattle.theory.specs.basics.Turns.{turns}
+use Rattle.theory.specs.order.Recording.{Op, fresh, Event, act, lost, lossMark, Every, no-more, series, sizeOf, kind, numberedKind, isAccess}
 use Rattle.theory.specs.order.Path.{rule, clashes}
 use Rattle.theory.specs.history.History.{askers, asker, kindClashes, slot, slots, lastOf, underEach, emptied, lastAfter}
 use Rattle.theory.specs.order.Limits.{tasks, variables}
@@ -121,13 +121,13 @@ module _ {A : Type 0} (f : ℕ → A → A) (k v u : ℕ) where
 pub in-under : {A : Type 0} {f : ℕ → A → A} {o : Op} {s t n : ℕ} → InSlot s (act o t n) → Under f (kind o) n t (length askers) s
 in-under {o = o} (in-slot a h c hu hv e) = record { a = a; among = h; clash = rw (numberedKind-kind o) c; place = e }
 
-pub under-in : {A : Type 0} {f : ℕ → A → A} (o : Op) {s t n : ℕ} → t < tasks → n < series o → Under f (kind o) n t (length askers) s → InSlot s (act o t n)
+pub under-in : {A : Type 0} {f : ℕ → A → A} (o : Op) {s t n : ℕ} → t < tasks → n < sizeOf (series o) → Under f (kind o) n t (length askers) s → InSlot s (act o t n)
 under-in o ht hn x =
     let c : T (clashes o (asker (x .a))) = rw (numberedKind-kind o) at (x .clash) in
     in-slot (x .a) (x .among) c ht (access-on o (clash-access o (asker (x .a)) c) hn) (x .place)
 
 -- the variable of an act that is kept
-pub kept-on : (o : Op) (a : ℕ) {n : ℕ} → n < series o → T (kindClashes (numberedKind (kind o)) (asker a)) → n < variables
+pub kept-on : (o : Op) (a : ℕ) {n : ℕ} → n < sizeOf (series o) → T (kindClashes (numberedKind (kind o)) (asker a)) → n < variables
 kept-on o a hn c = access-on o (clash-access o (asker a) (rw (numberedKind-kind o) at c)) hn
 
 pub no-slot-mark : {mask s : ℕ} → ¬ InSlot s (lost mask)
@@ -189,7 +189,7 @@ history-fresh {es} {last} t n hn h =
         before (inl (x, f)) = x
         before (inr (r, q)) = absurd (no-slot-fresh q)
 
-module _ {es : List Event} {last : List ℕ} {t n number : ℕ} (o : Op) (h : ExactHistory es last) (ht : t < tasks) (hn : n < series o) (numbered : number ≡ suc (length es)) where
+module _ {es : List Event} {last : List ℕ} {t n number : ℕ} (o : Op) (h : ExactHistory es last) (ht : t < tasks) (hn : n < sizeOf (series o)) (numbered : number ≡ suc (length es)) where
   abbrev keep : ℕ → List ℕ → List ℕ
   keep s l = set l s number
 
@@ -221,13 +221,13 @@ module _ {es : List Event} {last : List ℕ} {t n number : ℕ} (o : Op) (h : Ex
           stays (inl (d, k)) = d
           stays (inr (_, q)) = absurd (x (in-under q))
 
-pub history-act : {es : List Event} {last : List ℕ} {t n number : ℕ} (o : Op) → ExactHistory es last → t < tasks → n < series o → number ≡ suc (length es) →
+pub history-act : {es : List Event} {last : List ℕ} {t n number : ℕ} (o : Op) → ExactHistory es last → t < tasks → n < sizeOf (series o) → number ≡ suc (length es) →
     ExactHistory (es ++ (act o t n ∷ [])) (lastAfter (kind o) t n number last)
 history-act {es} {last} {t} {n} {number} o h ht hn numbered = decided (same-op o fresh)
   where
     decided : {b : Bool} → Reflects (o ≡ fresh) b →
         ExactHistory (es ++ (act o t n ∷ [])) (cond b (emptied n last) (underEach (λ s l. set l s number) (kind o) n t last))
-    decided (right e) = rw e (history-fresh t n (subst (λ (p : Op). n < series p) e hn) h)
+    decided (right e) = rw e (history-fresh t n (subst (λ (p : Op). n < sizeOf (series p)) e hn) h)
     decided (wrong f) = history-kept o h ht hn numbered f
 
 -- a mark is kept nowhere

@@ -1,4 +1,4 @@
--- One number is-stored at several places, at one of them more than storeOnce: it does not matter how often. Assumes nothing.
+-- One number is stored at several places, at one of them more than once: it does not matter how often. Assumes nothing.
 use mathlib.Core.Path.{_≡_, refl, sym, _∙_, ap, subst}
 use mathlib.Core.Bool.{Bool, true, false, cond}
 use mathlib.Core.List.{List}
@@ -6,7 +6,7 @@ use Prim.Native.Nat.{ℕ, zero, suc, _<_}
 use native.Mathlib.Omega.{arith}
 use lib.ListN.{set}
 use lib.Seq.{set-set, set-comm}
-use Rattle.theory.specs.tables.Turns.{turns}
+use Rattle.theory.specs.basics.Turns.{turns}
 use Rattle.theory.proofs.basics.Reflects.{Reflects, right, wrong, equal}
 
 -- x is stored at place s a for each a that c holds of; w is one of them

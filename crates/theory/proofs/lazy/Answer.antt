@@ -3,12 +3,12 @@ use mathlib.Core.Path.{_≡_, refl, sym, _∙_, ap, subst}
 use mathlib.Core.Bool.{Bool, true, false, cond, not, _&&_, true≢false}
 use mathlib.Core.Logic.{_↔_, _≢_}
 use mathlib.Core.List.{List, [], _∷_, _++_}
-use Prim.Native.Nat.{ℕ, zero, suc, _-_, _%_, _^_, _≤_, _<_, zero-le}
+use Prim.Native.Nat.{ℕ, suc, _-_, _%_, _^_, _≤_, _<_, zero-le}
 use native.Mathlib.Omega.{arith}
 use borrow.Author.Tests.{lt-ltb, le-ltb}
 use lib.Bits.{bitAnd}
 use lib.Dec.{T}
-use lib.ListN.{length, length-append, getD, take}
+use lib.ListN.{length, getD}
 use Rattle.theory.specs.declared.record.Record.{Record}
 use Rattle.theory.specs.declared.masks.Masks.{Masks}
 use Rattle.theory.specs.order.Limits.{tasks, variables}
@@ -20,7 +20,7 @@ use Rattle.theory.specs.verdicts.Verdict.{Latest}
 use Rattle.theory.specs.feeding.Step.{freshControl, freshSets}
 use Rattle.theory.specs.feeding.Paths.{setReckoning, leftBy, Retained, RetainedApart}
 use Rattle.theory.specs.lazy.Walk.{Walks, Counted, WalkOf, no-pair, no-walk, walk, Between, pair}
-use Rattle.theory.specs.lazy.Fold.{Lazy, wordAt, byEnd, column, pairsOf, walkBy, told, question, lazyAfter, freshLazy, lazyFollower, lazily}
+use Rattle.theory.specs.lazy.Fold.{Lazy, wordAt, byEnd, column, walkBy, told, question, lazyAfter, freshLazy, lazyFollower, lazily}
 use Rattle.theory.specs.lazy.Answer.{Told, AnswersLazily}
 use Rattle.theory.proofs.basics.Reflects.{Reflects, right, wrong, by-test, equal, at-most}
 use Rattle.theory.proofs.order.Ops.{event-act, opOf-kind, op-of, on-series, access-on, access-tests}

@@ -9,9 +9,8 @@ use lib.Dec.{eqb}
 use lib.ListN.{length, getD, set, length-set}
 use lib.Seq.{getD-set-same}
 use Rattle.theory.specs.declared.record.Record.{Record}
-use Rattle.theory.specs.tables.Turns.{turns}
-use Rattle.theory.specs.order.Limits.{tasks}
-use Rattle.theory.specs.order.Recording.{Op, read, write, join, fresh, kind, kinds, numberedKind, kindAccesses, accesses, lossMark}
+use Rattle.theory.specs.basics.Turns.{turns}
+use Rattle.theory.specs.order.Recording.{read, write, join, fresh, kind, kinds, numberedKind, kindAccesses, accesses, lossMark}
 use Rattle.theory.specs.fillings.Completion.{bit}
 use Rattle.theory.specs.acceptance.Table.{Proper}
 use Rattle.theory.specs.acceptance.Control.{countAt, countIn, updated, controlAfter}
@@ -88,7 +87,7 @@ walked-more q r s = either-way (eqb (r .kind) lossMark) (record { at-most = omeg
 -- The count of accepted records
 
 -- the control table has the count, and no more records were walked
-pub record Within (control : List ℕ) (walked : ℕ) : Type 0 where
+pub record WithinCount (control : List ℕ) (walked : ℕ) : Type 0 where
   pub size : countAt < length control
   pub room : walked ≤ countIn control
 
@@ -107,9 +106,9 @@ count-more {n} {control} {k} {task} {on} h p =
     }
 
 -- so it stays after an accepted record
-pub within-more : {control : List ℕ} (s : Lazy) (q r : Record) → Within control (s .walk .walked) → Proper (r .kind) (r .task) (r .on) →
-    {after : List ℕ} {t : Lazy} → after ≡ controlAfter (r .kind) (r .task) (r .on) control → t ≡ recorded q r s → Within after (t .walk .walked)
-within-more {control} s q r w n a b =
+pub count-within-more : {control : List ℕ} (s : Lazy) (q r : Record) → WithinCount control (s .walk .walked) → Proper (r .kind) (r .task) (r .on) →
+    {after : List ℕ} {t : Lazy} → after ≡ controlAfter (r .kind) (r .task) (r .on) control → t ≡ recorded q r s → WithinCount after (t .walk .walked)
+count-within-more {control} s q r w n a b =
     let x = count-more {control = control} (record { size = w .size; count = refl }) n in
     rw (a, b) (record { size = x .size; room = omega (arith, w .room, x .count, walked-more q r s .at-most) })
 

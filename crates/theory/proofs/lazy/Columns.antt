@@ -12,11 +12,10 @@ use lib.Dec.{T, eqb}
 use lib.ListN.{length, getD, set, length-set, replicate}
 use lib.Pow.{field, mod-mod-pow}
 use lib.Seq.{getD-set-same, getD-set-other}
-use Rattle.theory.specs.tables.Turns.{turns}
+use Rattle.theory.specs.basics.Turns.{turns, anyBelow}
 use Rattle.theory.specs.order.Limits.{tasks}
 use Rattle.theory.specs.order.Recording.{join, kind}
 use Rattle.theory.specs.fillings.Completion.{bit}
-use Rattle.theory.specs.acceptance.Table.{anyBelow}
 use Rattle.theory.specs.tables.Rows.{hub, acquiredRow, releasedRow}
 use Rattle.theory.specs.tables.Reckonings.{wordBits, withoutBit}
 use Rattle.theory.specs.lazy.Walk.{Summed, nothing, add}

@@ -54,14 +54,14 @@ pub path-old : {es : List Event} {i j : ℕ} (x : Event) → HappensBefore es i 
 path-old x (one s) = one (record { e = s .e; f = s .f; from = at-old x (s .from); to = at-old x (s .to); later = s .later; step = s .step })
 path-old x (more s p) = more (record { e = s .e; f = s .f; from = at-old x (s .from); to = at-old x (s .to); later = s .later; step = s .step }) (path-old x p)
 
-pub path-back : (es : List Event) (x : Event) {i j : ℕ} → HappensBefore (es ++ (x ∷ [])) i j → j < length es → HappensBefore es i j
-path-back es x (one s) h =
+pub path-before-last : (es : List Event) (x : Event) {i j : ℕ} → HappensBefore (es ++ (x ∷ [])) i j → j < length es → HappensBefore es i j
+path-before-last es x (one s) h =
     let l = s .later in
     one (record { e = s .e; f = s .f; from = at-back es x (s .from) (omega arith); to = at-back es x (s .to) h; later = l; step = s .step })
-path-back es x (more s p) h =
+path-before-last es x (more s p) h =
     let l = s .later in
     let m = path-later p in
-    more (record { e = s .e; f = s .f; from = at-back es x (s .from) (omega arith); to = at-back es x (s .to) (omega arith); later = l; step = s .step }) (path-back es x p h)
+    more (record { e = s .e; f = s .f; from = at-back es x (s .from) (omega arith); to = at-back es x (s .to) (omega arith); later = l; step = s .step }) (path-before-last es x p h)
 
 -- Pairs
 
@@ -150,7 +150,7 @@ module _ (es : List Event) (x : Event) where
 
   pub brings-back : {t i j : ℕ} → Brings (es ++ (x ∷ [])) t i j → j < length es → Brings es t i j
   unfolding hand-over-back
-  brings-back b l = record { hand-over = hand-over-back (b .hand-over) l; path = path-back es x (b .path) l; comes-to = b .comes-to }
+  brings-back b l = record { hand-over = hand-over-back (b .hand-over) l; path = path-before-last es x (b .path) l; comes-to = b .comes-to }
 
   -- a record that brings order stands in the recording, or is the last one
   pub brings-cases : {t i j : ℕ} → Brings (es ++ (x ∷ [])) t i j → Brings es t i j ⊎ ((j ≡ length es) × HandsOver x × ComesTo t x × HappensBefore (es ++ (x ∷ [])) i (length es))
@@ -208,7 +208,7 @@ module _ (es : List Event) (x : Event) where
     where
       decided : {b : Bool} → Reflects (c .j < length es) b → ShortCircuit es t v i (length es) ⊎ ((x ≡ act write t v) × ((u m : ℕ) → Final u x es m → HappensBefore (es ++ (x ∷ [])) m (length es)))
       decided (right l) =
-          inl (record { j = c .j; after = c .after; before = l; writes = at-back es x (c .writes) l; had-paths = λ u m a. path-back es x (c .had-paths u m (latest-old x a)) l })
+          inl (record { j = c .j; after = c .after; before = l; writes = at-back es x (c .writes) l; had-paths = λ u m a. path-before-last es x (c .had-paths u m (latest-old x a)) l })
       decided (wrong n) =
           let h = c .before in
           let e : c .j ≡ length es = omega arith in
@@ -236,7 +236,7 @@ module _ (es : List Event) (x : Event) where
         record { j = c .j; after = c .after; before = l; writes = at-old x (c .writes); had-paths = λ u m a. path-old x (c .had-paths u m (latest-back es x a l)) },
     λ c.
         let l = c .before in
-        record { j = c .j; after = c .after; before = l; writes = at-back es x (c .writes) l; had-paths = λ u m a. path-back es x (c .had-paths u m (latest-old x a)) l },
+        record { j = c .j; after = c .after; before = l; writes = at-back es x (c .writes) l; had-paths = λ u m a. path-before-last es x (c .had-paths u m (latest-old x a)) l },
   )
 
 -- Counts

@@ -6,7 +6,7 @@ use mathlib.Core.List.{List, [], _∷_, _++_}
 use Prim.Native.Nat.{ℕ, _<_, zero-le}
 use lib.Dec.{T, ltb}
 use Rattle.theory.specs.order.Limits.{tasks}
-use Rattle.theory.specs.order.Recording.{Op, join, fresh, Event, act, series, kind, isAccess, no-more, _is_}
+use Rattle.theory.specs.order.Recording.{Op, join, fresh, Event, act, series, sizeOf, kind, isAccess, no-more, _is_}
 use Rattle.theory.specs.fillings.Completion.{arrived}
 use Rattle.theory.specs.acceptance.Table.{standing}
 use Rattle.theory.specs.tables.Rows.{hub, releasedRow, acquiredRow}
@@ -58,7 +58,7 @@ access-plain o a = by-role (role o) a
 
 -- One column over an act
 
-module _ (o : Op) (k n : ℕ) (es : List Event) (hn : n < series o) (seen : Seen es) (allowed : ActAllowed (standing es) (kind o) k n) where
+module _ (o : Op) (k n : ℕ) (es : List Event) (hn : n < sizeOf (series o)) (seen : Seen es) (allowed : ActAllowed (standing es) (kind o) k n) where
   abbrev x : Event
   x = act o k n
 

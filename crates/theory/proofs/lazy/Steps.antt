@@ -11,7 +11,7 @@ use lib.Dec.{T, eqb}
 use lib.ListN.{length, getD}
 use Rattle.theory.specs.declared.record.Record.{Record}
 use Rattle.theory.specs.order.Limits.{tasks}
-use Rattle.theory.specs.order.Recording.{Op, write, join, fresh, Event, act, lost, series, kind, numberedKind, isAccess, accesses, ActsIn, acts, _is_}
+use Rattle.theory.specs.order.Recording.{Op, write, join, fresh, Event, act, lost, series, sizeOf, kind, numberedKind, isAccess, accesses, ActsIn, acts, _is_}
 use Rattle.theory.specs.order.Path.{HappensBefore, clashes, conflict, Empties, empties}
 use Rattle.theory.specs.fillings.Completion.{bit, arrived, Named}
 use Rattle.theory.specs.acceptance.Table.{standing}
@@ -146,7 +146,7 @@ module _ (p : Op) (t v : ℕ) (isa : T (isAccess p)) (ht : t < tasks) where
 
     -- Acts
 
-    module _ (o : Op) (k n : ℕ) (hn : n < series o) (seen : Seen es) (ranged : Ranged es) (allowed : ActAllowed (standing es) (kind o) k n) where
+    module _ (o : Op) (k n : ℕ) (hn : n < sizeOf (series o)) (seen : Seen es) (ranged : Ranged es) (allowed : ActAllowed (standing es) (kind o) k n) where
       abbrev x : Event
       x = act o k n
 

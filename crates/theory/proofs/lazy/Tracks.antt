@@ -27,7 +27,7 @@ use Rattle.theory.proofs.history.Numbers.{occurs-same}
 use Rattle.theory.proofs.tables.Nodes.{row, due-in, row-below}
 use Rattle.theory.proofs.tables.Follows.{Follows}
 use Rattle.theory.proofs.verdicts.Latest.{Final}
-use Rattle.theory.proofs.feeding.Paths.{path-arrived}
+use Rattle.theory.proofs.feeding.Paths.{path-leads-arrived}
 use Rattle.theory.proofs.lazy.Longer.{PairOf, Stays, Asked, final-one, final-old, final-new, final-back, final-short, brings-old, brings-cases, at-short, at-new, walks-last, last-walks, counted-old, counted-none, circuit-old, circuit-back}
 
 -- Definition
@@ -67,8 +67,8 @@ module _ {u i : ℕ} {f : Event} {es : List Event} (a : Final u f es i) where
   -- a path to a record that comes next
   path-next : (x : Event) → HappensBefore (es ++ (x ∷ [])) i (length es) ↔ ((m : Node) × Reach arrived (a .x) (a .after) m × Acquires m x)
   path-next x = (
-    λ p. leads-reach {w = arrived} .0 (path-arrived (a .occurs) .0 p),
-    λ r. path-arrived (a .occurs) .1 (leads-reach {w = arrived} .1 r),
+    λ p. leads-reach {w = arrived} .0 (path-leads-arrived (a .occurs) .0 p),
+    λ r. path-leads-arrived (a .occurs) .1 (leads-reach {w = arrived} .1 r),
   )
 
 comes-to : {o : Op} {k n t : ℕ} → Releases (act o k n) (due t) ↔ ComesTo t (act o k n)

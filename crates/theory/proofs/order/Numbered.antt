@@ -1,18 +1,20 @@
 -- Kinds by their numbers, as the code decides by them: what holds of every kind is tried out. Assumes nothing.
 use mathlib.Core.Path.{_≡_, refl, sym, ap, _∙_}
-use mathlib.Core.Bool.{Bool, true, false, not, _||_, true≢false}
-use mathlib.Core.List.{List, map}
-use Prim.Native.Nat.{ℕ, _≤_, _<_}
+use mathlib.Core.Bool.{Bool, true, false, cond, not, _||_, true≢false}
+use mathlib.Core.Logic.{_≢_}
+use mathlib.Core.List.{List, [], _∷_}
+use Prim.Native.Nat.{ℕ, _≤_}
 use native.Mathlib.Omega.{arith}
 use borrow.Author.Tests.{eqb-true, ne-eqb, not-true, not-false}
 use lib.Dec.{eqb}
-use lib.ListN.{length, getD, List·getD-eq-default}
-use Rattle.theory.specs.tables.Turns.{turns}
-use Rattle.theory.specs.order.Recording.{Op, kind, series, Kind, of-op, of-mark, kinds, numberedKind, kindOp, kindAccesses, accesses, kindSeries}
-use Rattle.theory.specs.acceptance.Table.{anyBelow}
+use lib.ListN.{length, List·getD-eq-default}
+use Rattle.theory.specs.order.Limits.{variables}
+use Rattle.theory.specs.basics.Turns.{turns, anyBelow}
+use Rattle.theory.specs.order.Recording.{Op, kind, series, Kind, of-op, of-mark, kinds, numberedKind, kindAccesses, accesses, seriesSize}
 use Rattle.theory.specs.history.History.{kindClashes}
 use Rattle.theory.proofs.basics.Reflects.{Reflects, right, wrong, at-most}
 use Rattle.theory.proofs.acceptance.Rows.{none-below}
+use Rattle.theory.proofs.order.Ops.{isVariable}
 
 -- beyond the kinds there is none
 pub kind-above : (k : ℕ) → length kinds ≤ k → numberedKind k ≡ of-mark
@@ -63,13 +65,33 @@ same-true false b e = sym (not-true b e)
 
 -- Series
 
--- the sizes of the kinds' series as one list, as the code has them
-abbrev pub seriesList : List ℕ
-seriesList = map (λ (x : Kind). series (kindOp x)) kinds
+-- k is the kind of none of these ops, as a `match` of the code knows it past its arms, beside what was known before, P
+abbrev pub PastArms : Type 0 → List Op → ℕ → Type 0
+PastArms P [] k = P
+PastArms P (o ∷ os) k = PastArms (P × (k ≢ kind o)) os k
 
-series-tried : anyBelow (length kinds) (λ k. not (eqb (getD seriesList k 0) (kindSeries k))) ≡ false
+abbrev kindAmong : List Op → ℕ → Bool
+kindAmong [] k = false
+kindAmong (o ∷ os) k = eqb k (kind o) || kindAmong os k
+
+none-past : {P : Type 0} (os : List Op) (k : ℕ) → PastArms P os k → P × (kindAmong os k ≡ false)
+none-past [] k h = (h, refl)
+none-past (o ∷ os) k h = let ((p, n), e) = none-past os k h in (p, rw (ne-eqb k (kind o) n) e)
+
+-- the ops of these kinds that are over no variable
+abbrev pub overOthers : List Kind → List Op
+overOthers [] = []
+overOthers (of-op o ∷ ks) = cond (isVariable (series o)) (overOthers ks) (o ∷ overOthers ks)
+overOthers (of-mark ∷ ks) = overOthers ks
+
+series-tried : anyBelow (length kinds) (λ k. not (kindAmong (overOthers kinds) k || eqb (seriesSize k) variables)) ≡ false
 unfolding turns
 series-tried = refl
 
-pub series-at : (k : ℕ) → k < length kinds → getD seriesList k 0 ≡ kindSeries k
-series-at k h = eqb-true (getD seriesList k 0) (kindSeries k) (not-false _ (none-below (length kinds) (λ k. not (eqb (getD seriesList k 0) (kindSeries k))) series-tried k h))
+-- any other kind is over the variables
+pub series-else : (k : ℕ) → PastArms Unit (overOthers kinds) k → seriesSize k ≡ variables
+series-else k n =
+    eqb-true (seriesSize k) variables (rw (none-past (overOthers kinds) k n .1) at (each-number (λ k. kindAmong (overOthers kinds) k || eqb (seriesSize k) variables) series-tried beyond k))
+  where
+    beyond : (k : ℕ) → length kinds ≤ k → (kindAmong (overOthers kinds) k || eqb (seriesSize k) variables) ≡ true
+    beyond k h = rw (kind-above k h) (or-true (kindAmong (overOthers kinds) k))

@@ -10,9 +10,9 @@ use borrow.Author.Tests.{ne-eqb, eqb-true, not-false}
 use lib.Dec.{T, eqb}
 use lib.ListN.{length, getD}
 use Rattle.theory.specs.order.Limits.{variables}
-use Rattle.theory.specs.order.Recording.{Op, read, write, take, give, look, set, start, join, fresh, miss, bump, owned, Effect, keeps, begins, ends, about, kind, series, isAccess, lossMark, Kind, of-op, of-mark, kinds, numberedKind, kindOp, opOf, kindAccesses, accesses, kindSeries, eventOf, act, _is_}
-use Rattle.theory.specs.acceptance.Table.{Fitting, anyBelow}
-use Rattle.theory.specs.tables.Turns.{turns}
+use Rattle.theory.specs.order.Recording.{Op, read, write, take, give, look, set, start, join, fresh, miss, bump, owned, Effect, keeps, begins, ends, about, kind, Series, task, semaphore, flag, variable, profile, series, sizeOf, isAccess, lossMark, Kind, of-op, of-mark, kinds, numberedKind, kindOp, opOf, kindAccesses, accesses, seriesSize, eventOf, act, _is_}
+use Rattle.theory.specs.basics.Turns.{turns, anyBelow}
+use Rattle.theory.specs.acceptance.Table.{Fitting}
 use Rattle.theory.proofs.acceptance.Rows.{none-below}
 use Rattle.theory.proofs.basics.Reflects.{Reflects, right, wrong, equal, same-as, by-test, is-true}
 
@@ -93,10 +93,10 @@ op-of k h n = (opOf k, sym (eqb-true (kind (opOf k)) k (rw (ne-eqb k lossMark n)
 pub event-act : (o : Op) (t n : ℕ) → eventOf (record { kind = kind o; task = t; on = n }) ≡ act o t n
 event-act o t n = rw (no-mark o, opOf-kind o)
 
-pub series-op : (o : Op) → kindSeries (kind o) ≡ series o
-series-op o = ap series (opOf-kind o)
+pub series-op : (o : Op) → seriesSize (kind o) ≡ sizeOf (series o)
+series-op o = ap (λ (p : Op). sizeOf (series p)) (opOf-kind o)
 
-pub on-series : (o : Op) {t n : ℕ} → Fitting (kind o) t n → n < series o
+pub on-series : (o : Op) {t n : ℕ} → Fitting (kind o) t n → n < sizeOf (series o)
 on-series o {n = n} f = subst (λ (s : ℕ). n < s) (series-op o) (f .on-fits)
 
 -- Accesses
@@ -114,13 +114,30 @@ other-tests o n = access-kind o ∙ decided (by-test (isAccess o))
     decided (right a) = absurd (n a)
     decided (wrong f) = refl
 
--- the number of an access is a variable
+-- the number of an access is a variable: tried out
+abbrev pub isVariable : Series → Bool
+isVariable task = false
+isVariable semaphore = false
+isVariable flag = false
+isVariable variable = true
+isVariable profile = false
+
 abbrev on-variable : Kind → Bool
-on-variable (of-op o) = not (isAccess o) || eqb (series o) variables
+on-variable (of-op o) = not (isAccess o) || isVariable (series o)
 on-variable of-mark = true
 
-pub access-on : (o : Op) {n : ℕ} → T (isAccess o) → n < series o → n < variables
-access-on o {n} a h = subst (λ (s : ℕ). n < s) (eqb-true (series o) variables (rw (is-true (by-test (isAccess o)) a) at (each-op on-variable refl refl o))) h
+pub access-series : (o : Op) → T (isAccess o) → series o ≡ variable
+access-series o a = only (series o) (rw (is-true (by-test (isAccess o)) a) at (each-op on-variable refl refl o))
+  where
+    only : (x : Series) → isVariable x ≡ true → x ≡ variable
+    only variable e = refl
+    only task e = absurd (true≢false (sym e))
+    only semaphore e = absurd (true≢false (sym e))
+    only flag e = absurd (true≢false (sym e))
+    only profile e = absurd (true≢false (sym e))
+
+pub access-on : (o : Op) {n : ℕ} → T (isAccess o) → n < sizeOf (series o) → n < variables
+access-on o {n} a h = subst (λ (x : Series). n < sizeOf x) (access-series o a) h
 
 -- Effects
 

@@ -5,7 +5,7 @@ use mathlib.Core.Logic.{_⊎_, inl, inr, _≢_}
 use mathlib.Core.List.{List, [], _∷_, _++_}
 use Prim.Native.Nat.{ℕ}
 use lib.Dec.{T}
-use Rattle.theory.specs.order.Recording.{Op, take, give, look, set, start, join, fresh, Event, act, lost, Every, no-more, and-more, _is_, ActsIn, acts}
+use Rattle.theory.specs.order.Recording.{Op, take, give, look, set, start, join, fresh, Event, act, lost, Every, no-more, and-more, ActsIn, acts}
 use Rattle.theory.specs.order.Path.{Step, same-task, gives-takes, sets-looks, starts, joins, clashes, Conflict, conflict, Empties, empties as emptying}
 use Rattle.theory.specs.verdicts.Search.{steps, any, reaches, conflicts, empties, actsIn, again}
 use Rattle.theory.proofs.basics.Reflects.{Reflects, right, wrong, by-test, both, either, fails, same-as, equal}

@@ -19,7 +19,7 @@ use Rattle.theory.proofs.tables.ClockTables.{ExactClocks, fresh-clocks}
 use Rattle.theory.proofs.feeding.Simulation.{shape-of, Base, base-next, fresh-base, clocks-by}
 use Rattle.theory.proofs.feeding.Following.{before, RightBefore, accepted, answers-without}
 use Rattle.theory.proofs.settling.Tables.{home-restricts, forced-next}
-use Rattle.theory.proofs.settling.Ruled.{Says, settled-by}
+use Rattle.theory.proofs.settling.Ruled.{SaysRight, settled-by}
 
 module _ (home : ℕ) where
   -- what is kept, and the control table, are right of a recording
@@ -43,7 +43,7 @@ module _ (home : ℕ) where
 
   -- the answer for an access at the end
   says-end : (rs : List Record) (q : Record) → fedRefusal (rs ++ (q ∷ [])) ≡ 0 → accesses (q .kind) ≡ true →
-      Says home (recording rs ++ (eventOf q ∷ [])) (length (recording rs)) (settles home (rs ++ (q ∷ [])))
+      SaysRight home (recording rs ++ (eventOf q ∷ [])) (length (recording rs)) (settles home (rs ++ (q ∷ [])))
   says-end rs q e a =
       let x = accepted right-before rs q e in
       (test, x .answer ∙ rw a (pushed test), forced-next home (x .holds .clocks) (x .holds .base) (shape-of (recording rs) q (x .last)) a)

@@ -6,7 +6,7 @@ use mathlib.Core.Option.{Option, none, some}
 use Prim.Native.Nat.{ℕ}
 use lib.Dec.{T}
 use lib.ListN.{length, getD}
-use Rattle.theory.specs.tables.Turns.{turns}
+use Rattle.theory.specs.basics.Turns.{turns}
 use Rattle.theory.specs.order.Recording.{Op, Event, act, lost, isAccess}
 use Rattle.theory.specs.order.Path.{rule}
 use Rattle.theory.specs.fillings.Completion.{part, round, rounds, onEach, filling}

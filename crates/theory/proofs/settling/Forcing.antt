@@ -22,7 +22,7 @@ use Rattle.theory.proofs.order.Leads.{Leads, Is, is, filled-with}
 use Rattle.theory.proofs.order.Places.{Ends, Occurs, at-occurs, path-leads}
 use Rattle.theory.proofs.tables.NamedRows.{bit-named, named-bit}
 use Rattle.theory.proofs.fillings.Fullest.{named-task, filler-rounds, leads-most}
-use Rattle.theory.proofs.fillings.Between.{between, map-filled, place-map, with-between}
+use Rattle.theory.proofs.fillings.Between.{filled-between, map-filled, place-map, with-between}
 use Rattle.theory.proofs.verdicts.Latest.{latest-in-completion}
 use Rattle.theory.proofs.verdicts.Demands.{both-act}
 use Rattle.theory.proofs.verdicts.Search.{Outcome, outcome-partner, outcome-nobody}
@@ -78,7 +78,7 @@ module _ (home : ℕ) where
         HappensBefore (fillWith best es) (place (filled-with best es) i) (place (filled-with best es) k)
     at-most-best h a q = both-act a (λ o p′ v u′ w ai ak.
         let (mid, x) = at-occurs d ai (a .before) in
-        let b = between h d x in
+        let b = filled-between h d x in
         with-between best d x .1 (leads-most (homeOnly home) (map-filled (λ mask gs. every-map (home-filler home mask)) (b .filled)) (path-leads (b .to) (b .from) q)))
 
     can : Outcome best (act p u m) 1 before none → CanForce home es k

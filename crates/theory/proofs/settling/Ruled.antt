@@ -14,25 +14,25 @@ use Rattle.theory.specs.feeding.Following.{fedRefusal, AnswersWithout}
 use Rattle.theory.specs.settling.Forcing.{Forced}
 use Rattle.theory.specs.settling.Fold.{neither, saysNo, saysYes, settledOf}
 use Rattle.theory.specs.settling.Answer.{Includes, SameTasks, Yes, AnsweredAt, Settles}
-use Rattle.theory.proofs.feeding.Following.{Snoc, empty, snoc, snoc-of}
+use Rattle.theory.proofs.feeding.Following.{EmptyOrLast, empty, snoc, snoc-of}
 use Rattle.theory.proofs.settling.Forcing.{never-can, always-cannot, empty-cannot, full-can, larger-can}
 
 -- Definition
 
 -- the answer is yes or no, and the right one
-abbrev pub Says : ℕ → List Event → ℕ → Settled → Type 0
-Says home es k a = (b : Bool) × (a ≡ settledOf 0 (cond b saysYes saysNo)) × Forced home es k b
+abbrev pub SaysRight : ℕ → List Event → ℕ → Settled → Type 0
+SaysRight home es k a = (b : Bool) × (a ≡ settledOf 0 (cond b saysYes saysNo)) × Forced home es k b
 
 -- what is answered at a list's end
-pub record Ends (answer : ℕ → List Record → Settled) : Type 0 where
+pub record EndsRight (answer : ℕ → List Record → Settled) : Type 0 where
   pub without : (home : ℕ) → AnswersWithout (λ n. settledOf n neither) (answer home)
   pub says : (home : ℕ) (rs : List Record) (q : Record) → fedRefusal (rs ++ (q ∷ [])) ≡ 0 → accesses (q .kind) ≡ true →
-      Says home (recording rs ++ (eventOf q ∷ [])) (length (recording rs)) (answer home (rs ++ (q ∷ [])))
+      SaysRight home (recording rs ++ (eventOf q ∷ [])) (length (recording rs)) (answer home (rs ++ (q ∷ [])))
 
 -- One access
 
 module _ (home : ℕ) (es : List Event) (k : ℕ) (a : Settled) where
-  answered-at : Says home es k a → AnsweredAt home es k a
+  answered-at : SaysRight home es k a → AnsweredAt home es k a
   answered-at (b, e, f) =
       record {
         says = (b, e, f);
@@ -60,16 +60,16 @@ is-yes : (b : Bool) → settledOf 0 (cond b saysYes saysNo) ≡ settledOf 0 says
 is-yes true e = refl
 is-yes false e = let z = ap (λ (a : Settled). a .forced) e in absurd (omega arith)
 
-module _ {answer : ℕ → List Record → Settled} (x : Ends answer) where
+module _ {answer : ℕ → List Record → Settled} (x : EndsRight answer) where
   -- a list's answer is one for every home set, and not yes, or it says of each whether it can force Clear
   data Ruled (rs : List Record) : Type 0 where
     alike : (a : Settled) → ¬ Yes a → ((home : ℕ) → answer home rs ≡ a) → Ruled rs
-    asked : (es : List Event) (k : ℕ) → ((home : ℕ) → Says home es k (answer home rs)) → Ruled rs
+    asked : (es : List Event) (k : ℕ) → ((home : ℕ) → SaysRight home es k (answer home rs)) → Ruled rs
 
   ruled : (rs : List Record) → Ruled rs
   ruled rs = of (snoc-of rs)
     where
-      of : {rs : List Record} → Snoc rs → Ruled rs
+      of : {rs : List Record} → EmptyOrLast rs → Ruled rs
       of empty = alike (settledOf 0 neither) neither-not (λ home. x .without home .empty)
       of (snoc rs q) = decided (fedRefusal (rs ++ (q ∷ []))) (accesses (q .kind)) refl refl
         where

@@ -10,11 +10,10 @@ use lib.Dec.{T, eqb}
 use lib.ListN.{length, getD, set, length-set, replicate, length-replicate, getD-replicate}
 use lib.Seq.{getD-set-same, getD-set-other}
 use Rattle.theory.specs.declared.record.Record.{Record}
-use Rattle.theory.specs.tables.Turns.{turns}
+use Rattle.theory.specs.basics.Turns.{turns, anyBelow}
 use Rattle.theory.specs.order.Limits.{tasks, variables}
 use Rattle.theory.specs.order.Recording.{Op, Event, act, kind, isAccess, eventOf, accesses}
 use Rattle.theory.specs.fillings.Completion.{bit, Named, filling, fills}
-use Rattle.theory.specs.acceptance.Table.{anyBelow}
 use Rattle.theory.specs.history.History.{latestNumber}
 use Rattle.theory.specs.tables.Rows.{cellCount}
 use Rattle.theory.specs.tables.Reckonings.{clockMask, lowestTask, nextClocks}
@@ -68,7 +67,7 @@ home-restricts home =
     asked : (mask : ℕ) → mask < 2 ^ tasks → ¬ (homeOnly home mask ≡ 0) → T (fills (homeOnly home))
     asked mask h n =
         let l = and-le-l mask home in
-        let (t, ht, q) = some-bit 16 (homeOnly home mask) n (omega arith) in
+        let (t, ht, q) = some-bit tasks (homeOnly home mask) n (omega arith) in
         let d = home-named home mask (bit-named (homeOnly home mask) t ht (subst T (sym (eq-eqb _ _ q)) tt)) in
         decided (named-home home (2 ^ tasks - 1) (every-named t ht) (d .1)) (at-most 1 (homeOnly home (2 ^ tasks - 1)))
 

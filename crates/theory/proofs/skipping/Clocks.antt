@@ -8,22 +8,22 @@ use native.Mathlib.Omega.{arith}
 use lib.ListN.{length}
 use lib.Seq.{set-getD}
 use Rattle.theory.specs.order.Limits.{tasks, semaphores}
-use Rattle.theory.specs.order.Recording.{Op, Event, kind, kindSeries}
+use Rattle.theory.specs.order.Recording.{Op, Event, kind, seriesSize}
 use Rattle.theory.specs.acceptance.Table.{Fitting}
 use Rattle.theory.specs.acceptance.Control.{underIn, gaveIn}
 use Rattle.theory.specs.skipping.Skipping.{giver}
 use Rattle.theory.specs.feeding.Step.{nextNumber, clockKind}
 use Rattle.theory.specs.fillings.Completion.{Filling, fills}
-use Rattle.theory.specs.tables.Turns.{turns}
-use Rattle.theory.specs.tables.Rows.{cell, taskRow, semaphoreRow, joinCell, joinRow, flow}
+use Rattle.theory.specs.basics.Turns.{turns}
+use Rattle.theory.specs.tables.Rows.{cell, semaphoreRow, joinCell, joinRow, flow}
 use Rattle.theory.specs.tables.Reckonings.{clockOwn, nextClocks}
 use Rattle.theory.proofs.basics.Reflects.{Reflects, right, wrong, equal, at-most}
 use Rattle.theory.proofs.order.Carry.{Node, due, semaphore}
 use Rattle.theory.proofs.fillings.Came.{Came, occurs-short}
-use Rattle.theory.proofs.tables.Rows.{Knows, same-max, join-self}
+use Rattle.theory.proofs.tables.Rows.{same-max, join-self}
 use Rattle.theory.proofs.tables.Acts.{clock-own-same, clock-own-other}
 use Rattle.theory.proofs.tables.Nodes.{row, InRange, due-in, semaphore-in}
-use Rattle.theory.proofs.tables.ClockTables.{OfTask, Past, ExactClocks}
+use Rattle.theory.proofs.tables.ClockTables.{OfTask, ExactClocks}
 use Rattle.theory.proofs.acceptance.Keeping.{is-by}
 use Rattle.theory.proofs.acceptance.ControlTable.{ExactControl, gave-same}
 use Rattle.theory.proofs.skipping.Learnt.{Had, gave, Learnt}
@@ -114,5 +114,5 @@ module _ {w : Filling} {es : List Event} {control b : List ℕ} (c : ExactContro
       by-giver e h false q = refl
 
       decided : {a : Bool} → Reflects (k ≡ kind Op.take) a → moved (cond (a && (underIn control && gaveIn control n t)) (kind Op.miss) k) ≡ moved k
-      decided (right e) = by-giver e (subst (λ (k : ℕ). n < kindSeries k) e (f .on-fits)) (underIn control && gaveIn control n t) refl
+      decided (right e) = by-giver e (subst (λ (k : ℕ). n < seriesSize k) e (f .on-fits)) (underIn control && gaveIn control n t) refl
       decided (wrong _) = refl

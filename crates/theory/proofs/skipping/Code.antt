@@ -1,5 +1,5 @@
 -- What the code of the step counts on: a take that is skipped is a semaphore's act, answered and kept as a miss is, which is not at all. Assumes nothing.
-use mathlib.Core.Path.{_≡_, refl, sym, _∙_, ap}
+use mathlib.Core.Path.{_≡_, refl, sym, _∙_}
 use mathlib.Core.Bool.{Bool, true, false, cond, _&&_}
 use mathlib.Mathlib.Data.Bool.Basic.{and-elim-left}
 use mathlib.Core.Logic.{_≢_}

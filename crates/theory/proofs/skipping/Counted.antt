@@ -12,12 +12,12 @@ use lib.ListN.{length, getD, set}
 use lib.Seq.{getD-set-other}
 use Rattle.theory.specs.declared.record.Record.{Record}
 use Rattle.theory.specs.order.Limits.{semaphores, records}
-use Rattle.theory.specs.order.Recording.{Op, Event, act, lost, kind, kindSeries, lossMark, eventOf, _is_}
+use Rattle.theory.specs.order.Recording.{Op, Event, act, lost, kind, seriesSize, lossMark, eventOf, _is_}
 use Rattle.theory.specs.acceptance.Owning.{isOwned, under, isBy}
 use Rattle.theory.specs.acceptance.Table.{Fitting, Proper, standing, refusal, appendUnless, extended, recording}
 use Rattle.theory.specs.acceptance.Control.{countAt, profileAt, underIn, holderAt, giverAt, gaveIn, skippedAt, skippedIn, skipsIn, takenBy, givenBy, counted, updated, controlAfter}
 use Rattle.theory.specs.verdicts.Verdict.{Verdict, Race, Clear, Doubt}
-use Rattle.theory.specs.tables.Reckonings.{indicator}
+use Rattle.theory.specs.basics.Turns.{indicator}
 use Rattle.theory.specs.tables.Counters.{raise}
 use Rattle.theory.specs.feeding.Meaning.{Meaning, refuses, takes, judges, meaning}
 use Rattle.theory.specs.feeding.Step.{freshControl, freshState, freshSets}
@@ -33,7 +33,7 @@ use Rattle.theory.proofs.acceptance.Accepted.{fits-of}
 use Rattle.theory.proofs.acceptance.Owning.{who-none}
 use Rattle.theory.proofs.acceptance.ControlTable.{ExactControl, gave-same, same-refusal}
 use Rattle.theory.proofs.feeding.Simulation.{Shape, an-act, a-mark, shape-of, after-all, clocks-simulate}
-use Rattle.theory.proofs.totals.Kept.{Keeps, clocks-keep, sets-keep, fresh-cell}
+use Rattle.theory.proofs.totals.Kept.{CountsSo, clocks-keep, sets-keep, fresh-control-cell}
 
 -- Which takes are skipped
 
@@ -50,7 +50,7 @@ skips-same : {es : List Event} {control : List ℕ} {r : Record} → ExactContro
 skips-same {es} {control} x (an-act o t n a) = rw (event-act o t n) (decided (equal (kind o) (kind Op.take)))
   where
     decided : {b : Bool} → Reflects (kind o ≡ kind Op.take) b → (b && (underIn control && gaveIn control n t)) ≡ (b && isBy (giver es n) t)
-    decided (right q) = take-skips x t n (subst (λ (k : ℕ). n < kindSeries k) q (a .fits .on-fits))
+    decided (right q) = take-skips x t n (subst (λ (k : ℕ). n < seriesSize k) q (a .fits .on-fits))
     decided (wrong d) = refl
 skips-same x (a-mark t n m) = refl
 
@@ -154,7 +154,7 @@ module _ {es : List Event} {control : List ℕ} (x : ExactControl es control) (s
 
 -- Lists of records
 
-module _ {S : Type 0} {c : Checker S} {R : List Event → S → Type 0} (k : Keeps c R) where
+module _ {S : Type 0} {c : Checker S} {R : List Event → S → Type 0} (k : CountsSo c R) where
   step-counted : (es : List Event) (s : S) (r : Record) → R es s → skippedIn (c .control s) ≡ skippedTakes es →
       skippedIn (c .control (c .next s r)) ≡ skippedTakes (appendUnless es r (refusal es r))
   step-counted es s r x same = decided (refusal es r) refl
@@ -175,7 +175,7 @@ module _ {S : Type 0} {c : Checker S} {R : List Event → S → Type 0} (k : Kee
   counted-from es s (r ∷ rs) x same = counted-from (appendUnless es r (refusal es r)) (c .next s r) rs (k .simulates .steps es s r x .1) (step-counted es s r x same)
 
   counts-skips : c .control (c .fresh) ≡ freshControl → CountsSkips c
-  counts-skips fresh rs = counted-from [] (c .fresh) rs (k .simulates .begins) (rw fresh (fresh-cell skippedAt (omega arith) (omega arith)))
+  counts-skips fresh rs = counted-from [] (c .fresh) rs (k .simulates .begins) (rw fresh (fresh-control-cell skippedAt (omega arith) (omega arith)))
 
 pub clocks-count-skips : CountsSkips byClocks
 unfolding freshState

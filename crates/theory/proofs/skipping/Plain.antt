@@ -7,7 +7,7 @@ use Rattle.theory.specs.declared.state.State.{State}
 use Rattle.theory.specs.declared.state.Stepped.{Stepped}
 use Rattle.theory.specs.order.Recording.{Event}
 use Rattle.theory.specs.acceptance.Table.{refusal, appendUnless}
-use Rattle.theory.specs.feeding.Step.{stepOf, freshState}
+use Rattle.theory.specs.feeding.Step.{freshState}
 use Rattle.theory.specs.feeding.Feeding.{replies, afterAll, byClocks}
 use Rattle.theory.specs.skipping.Demands.{byPlainClocks, SameAsPlain}
 use Rattle.theory.proofs.feeding.Simulation.{Represents, same-step, clocks-simulate}

@@ -12,7 +12,7 @@ use lib.Dec.{eqb}
 use lib.ListN.{length, length-append}
 use Rattle.theory.specs.declared.record.Record.{Record}
 use Rattle.theory.specs.order.Limits.{records}
-use Rattle.theory.specs.order.Recording.{Op, take, give, start, join, owned, _is_, Event, act, lost, kind, lossMark, eventOf, acts, task, seriesOf}
+use Rattle.theory.specs.order.Recording.{Op, take, give, start, join, owned, _is_, Event, act, lost, kind, lossMark, eventOf, acts, task, series}
 use Rattle.theory.specs.acceptance.Owning.{isOwned, under, Who, nobody, isSomebody, isBy, nextHolder, holder}
 use Rattle.theory.specs.acceptance.Table.{Phase, isLive, isUnseen, nextPhase, phase, standing, firstRow, standingRefusal, refusal}
 use Rattle.theory.specs.swapping.Unrelated.{names}
@@ -23,7 +23,7 @@ use Rattle.theory.proofs.acceptance.Rows.{OfAct, actRows, act-rows, all
 use Rattle.theory.proofs.acceptance.Owning.{under-snoc, under-kept, who-snoc, who-left}
 use Rattle.theory.proofs.acceptance.ControlTable.{phase-snoc}
 use Rattle.theory.proofs.feeding.Simulation.{Shape, an-act, a-mark, shape-of}
-use Rattle.theory.proofs.swapping.Independent.{Separates, Independent, TwoActs, two, ChangesHolder, by-take, by-give, either-way, phase-kept, phases-commute, holder-kept, holders-commute}
+use Rattle.theory.proofs.swapping.Independent.{Separates, Independent, TwoActs, ChangesHolder, by-take, by-give, either-way, phase-kept, phases-commute, holder-kept, holders-commute}
 
 -- A list whose every record is accepted, after a recording
 
@@ -76,7 +76,7 @@ taken-same s (and-taken {r = r} z k) = and-taken (sym (same-refusal s r) ∙ z) 
 -- the holder of the semaphore that it takes or gives
 
 module _ (p : Op) (u m : ℕ) (es es′ : List Event) (room : length es < records) (room′ : length es′ < records)
-    (actor : phase es u ≡ phase es′ u) (named : seriesOf p ≡ task → phase es m ≡ phase es′ m)
+    (actor : phase es u ≡ phase es′ u) (named : series p ≡ task → phase es m ≡ phase es′ m)
     (unowned : (p is owned) ≡ false) (profile : under es ≡ under es′) (held : ChangesHolder m (act p u m) → holder es m ≡ holder es′ m) where
   -- a test of the op and of what it looks at
   by-op : {A : Type 0} {x y : A} (o : Op) (test : A → Bool) → (p ≡ o → x ≡ y) → ((p is o) && test x) ≡ ((p is o) && test y)
@@ -98,8 +98,8 @@ module _ (p : Op) (u m : ℕ) (es es′ : List Event) (room : length es < record
         lt-leb records (length es) room,
         lt-leb records (length es′) room′,
         actor,
-        by-op start (λ x. not (isUnseen x)) (λ q. named (ap seriesOf q)),
-        by-op join (λ x. not (isLive x)) (λ q. named (ap seriesOf q)),
+        by-op start (λ x. not (isUnseen x)) (λ q. named (ap series q)),
+        by-op join (λ x. not (isLive x)) (λ q. named (ap series q)),
         unowned,
         profile,
         by-op take isSomebody (handled by-take),
@@ -116,7 +116,7 @@ module _ {o p : Op} {t u n m : ℕ} (x : Independent (act o t n) (act p u m)) (e
   actor-kept : phase (es ++ (act o t n ∷ [])) u ≡ phase es u
   actor-kept = phase-next es (act o t n) u ∙ phase-kept o t n u (phase es u) (λ y. x .actor-unnamed u .0 y acts)
 
-  named-kept : seriesOf p ≡ task → phase (es ++ (act o t n ∷ [])) m ≡ phase es m
+  named-kept : series p ≡ task → phase (es ++ (act o t n ∷ [])) m ≡ phase es m
   named-kept e = phase-next es (act o t n) m ∙ phase-kept o t n m (phase es m) (λ y. x .no-task m y (names e))
 
   held-kept : ChangesHolder m (act p u m) → holder (es ++ (act o t n ∷ [])) m ≡ holder es m

@@ -33,7 +33,7 @@ use Rattle.theory.proofs.verdicts.Examples.{ends-middle}
 use Rattle.theory.proofs.feeding.Simulation.{Shape, an-act, a-mark, shape-of, Represents, clocks-simulate}
 use Rattle.theory.proofs.feeding.Matching.{after-one-more}
 use Rattle.theory.proofs.totals.Moved.{bool-false}
-use Rattle.theory.proofs.totals.Kept.{fresh-cell}
+use Rattle.theory.proofs.totals.Kept.{fresh-control-cell}
 use Rattle.theory.proofs.entries.Kept.{taken-kept, no-excuse}
 use Rattle.theory.proofs.feeding.Demanded.{clocks-demanded}
 use Rattle.theory.proofs.entries.Known.{represents, faults-known}
@@ -186,7 +186,7 @@ lines-without all s (r ∷ rs) e =
 
 beside-none : (rs : List Record) → linesBeside [] rs ≡ lines fed rs
 unfolding freshState
-beside-none rs = lines-without rs freshState rs (fresh-cell entriesAt (omega arith) (omega arith))
+beside-none rs = lines-without rs freshState rs (fresh-control-cell entriesAt (omega arith) (omega arith))
 
 pub same-beside : {R : Record → Record → Type 0} → Separates R → SameBeside R
 same-beside i [] fit few rs rs′ s a k = rw (beside-none rs, beside-none rs′) (same-verdicts fed (clocks-demanded .by-table) i .same s a k)

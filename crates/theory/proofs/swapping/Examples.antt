@@ -9,10 +9,10 @@ use Prim.Native.Nat.{ℕ, zero, suc, _+_, _*_}
 use borrow.Author.Tests.{eq-eqb, eqb-true}
 use lib.Dec.{T, eqb}
 use lib.ListN.{getD}
-use Rattle.theory.specs.order.Recording.{Op, take, give, miss, Event, act, lost, ActsIn, acts, no-events, an-act, _is_, Series, task, semaphore, flag, variable, profile, seriesOf}
+use Rattle.theory.specs.order.Recording.{Op, take, give, miss, Event, act, lost, ActsIn, acts, no-events, an-act, _is_, Series, task, semaphore, flag, variable, profile, series}
 use Rattle.theory.specs.order.Path.{rule}
 use Rattle.theory.specs.fillings.Completion.{rounds, round, part, onEach}
-use Rattle.theory.specs.tables.Turns.{turns}
+use Rattle.theory.specs.basics.Turns.{turns}
 use Rattle.theory.specs.acceptance.Table.{standingRefusal}
 use Rattle.theory.specs.verdicts.Search.{judge}
 use Rattle.theory.specs.totals.Totals.{verdictPlace}
@@ -34,7 +34,7 @@ tag variable = 3
 tag profile = 4
 
 abbrev isOf : Series → Op → Bool
-isOf x o = eqb (tag (seriesOf o)) (tag x)
+isOf x o = eqb (tag (series o)) (tag x)
 
 -- both acts name one number of the series
 abbrev bothName : Series → Op → ℕ → Op → ℕ → Bool

@@ -9,13 +9,13 @@ use mathlib.Core.List.{[], _∷_}
 use Prim.Native.Nat.{ℕ}
 use lib.Dec.{T, eqb}
 use Rattle.theory.specs.declared.record.Record.{Record}
-use Rattle.theory.specs.order.Recording.{Op, take, give, start, join, owned, fresh, miss, Event, act, lost, acts, Unmarked, no-events, an-act, isAccess, eventOf, Kind, of-op, of-mark, kinds, Series, task, semaphore, flag, variable, profile, seriesOf}
+use Rattle.theory.specs.order.Recording.{Op, take, give, start, join, owned, fresh, Event, act, lost, acts, Unmarked, no-events, an-act, isAccess, eventOf, Kind, of-op, of-mark, kinds, task, semaphore, profile, series}
 use Rattle.theory.specs.order.Path.{Step, same-task, gives-takes, sets-looks, starts, joins, rule, Conflict, conflict, Empties, empties}
 use Rattle.theory.specs.acceptance.Owning.{isOwned, Who, nobody, by, nextHolder}
 use Rattle.theory.specs.acceptance.Table.{Phase, nextPhase}
 use Rattle.theory.specs.swapping.Unrelated.{Names, names, sharing, MayShare, may-share, Premise, two-acts, actors-differ, names-no-actor, names-no-same, no-semaphore, no-flag, no-variable, none-owned, Holds, Unrelated, UnrelatedRecords, OneMisses, first-misses, second-misses, UnrelatedByMiss, MissedRecords}
-use Rattle.theory.proofs.basics.Reflects.{Reflects, right, wrong, by-test, is-true, equal}
-use Rattle.theory.proofs.order.Ops.{all, each-op, Role, a-take, a-give, a-look, a-set, a-start, a-join, plain, role, same-op, keeps-phases}
+use Rattle.theory.proofs.basics.Reflects.{Reflects, right, wrong, equal}
+use Rattle.theory.proofs.order.Ops.{all, each-op, Role, a-take, a-give, a-look, a-set, a-start, a-join, plain, role, same-op, keeps-phases, access-series}
 
 -- Definition
 
@@ -77,7 +77,7 @@ is-unowned : (e : Event) → ((k : ℕ) → ¬ Names profile k e) → isOwned e 
 is-unowned (act o t n) d = decided (same-op o owned)
   where
     decided : {b : Bool} → Reflects (o ≡ owned) b → b ≡ false
-    decided (right q) = absurd (d n (names (ap seriesOf q)))
+    decided (right q) = absurd (d n (names (ap series q)))
     decided (wrong f) = refl
 is-unowned (lost mask) d = refl
 
@@ -141,29 +141,6 @@ missed-separates = record { independent = λ r q z. missed-independent z }
 
 -- No conflict, and no history emptied
 
--- the number of an access is a variable: tried out
-isVariable : Series → Bool
-isVariable task = false
-isVariable semaphore = false
-isVariable flag = false
-isVariable variable = true
-isVariable profile = false
-
-of-variable : Kind → Bool
-of-variable (of-op o) = not (isAccess o) || isVariable (seriesOf o)
-of-variable of-mark = true
-
-accessed : (o : Op) → T (isAccess o) → seriesOf o ≡ variable
-unfolding isVariable of-variable
-accessed o a = only (seriesOf o) (rw (is-true (by-test (isAccess o)) a) at (each-op of-variable refl refl o))
-  where
-    only : (x : Series) → isVariable x ≡ true → x ≡ variable
-    only task e = absurd (true≢false (sym e))
-    only semaphore e = absurd (true≢false (sym e))
-    only flag e = absurd (true≢false (sym e))
-    only variable e = refl
-    only profile e = absurd (true≢false (sym e))
-
 both-true : (a b c : Bool) → T (a && (b && c)) → T a × T b × T c
 both-true true true true x = (tt, tt, tt)
 both-true true true false x = absurd x
@@ -191,7 +168,7 @@ share-nothing (may-share {o = o} s) c = of (sharing o) (rule o o) (each-op share
 pub no-conflict : {e f : Event} → Independent e f → ¬ Conflict e f
 no-conflict z (conflict {o = o} {p = p} {v = v} d c) =
     let (a, b, r) = both-true (isAccess o) (isAccess p) (rule o p) c in
-    share-nothing (z .variables v (names (accessed o a)) (names (accessed p b))) r
+    share-nothing (z .variables v (names (access-series o a)) (names (access-series p b))) r
 
 shares-fresh : {e : Event} {u m : ℕ} → ¬ MayShare e (act fresh u m)
 shares-fresh (may-share s) = s
@@ -199,12 +176,12 @@ shares-fresh (may-share s) = s
 -- what conflicts with an access keeps counting when the other record stands behind it
 pub empties-nothing : {e d f : Event} → Independent e d → Conflict e f → ¬ Empties d f
 empties-nothing z (conflict {o = o} {p = p} {v = v} d c) empties =
-    shares-fresh (z .variables v (names (accessed o (both-true (isAccess o) (isAccess p) (rule o p) c .0))) (names refl))
+    shares-fresh (z .variables v (names (access-series o (both-true (isAccess o) (isAccess p) (rule o p) c .0))) (names refl))
 
 -- and the history of an access when the other record stands before it
 pub never-empties : {e d f : Event} → Independent d f → Conflict e f → ¬ Empties d f
 never-empties z (conflict {o = o} {p = p} {v = v} d c) empties =
-    shares-fresh (either-shares (z .variables v (names refl) (names (accessed p (both-true (isAccess o) (isAccess p) (rule o p) c .1)))))
+    shares-fresh (either-shares (z .variables v (names refl) (names (access-series p (both-true (isAccess o) (isAccess p) (rule o p) c .1)))))
 
 -- Phases and holders
 

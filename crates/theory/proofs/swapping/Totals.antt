@@ -10,7 +10,7 @@ use Rattle.theory.specs.declared.record.Record.{Record}
 use Rattle.theory.specs.order.Limits.{variables}
 use Rattle.theory.specs.order.Recording.{Event}
 use Rattle.theory.specs.verdicts.Verdict.{Verdict, Race}
-use Rattle.theory.specs.tables.Reckonings.{indicator}
+use Rattle.theory.specs.basics.Turns.{indicator}
 use Rattle.theory.specs.feeding.Meaning.{Meaning, refuses, takes, judges, meaning}
 use Rattle.theory.specs.feeding.Feeding.{Checker, replies, runs, AnswersByTable, byClocks, bySets}
 use Rattle.theory.specs.totals.Totals.{verdictPlace, total, anyRace}

@@ -4,13 +4,13 @@ use mathlib.Core.Path.{_≡_, refl, _∙_, ap}
 use mathlib.Core.Bool.{Bool, true, false, cond, not, _||_}
 use mathlib.Core.Logic.{_↔_, _⊎_, inl, inr, ⊎-elim, _≢_}
 use mathlib.Core.List.{List}
-use Prim.Native.Nat.{ℕ, zero, suc, _+_, _*_, _/_, _%_, _≤_, _<_}
+use Prim.Native.Nat.{ℕ, zero, suc, _+_, _*_, _≤_, _<_}
 use native.Mathlib.Omega.{arith}
 use borrow.Author.Tests.{lt-ltb, eq-eqb, ne-eqb}
 use lib.Dec.{ltb, eqb}
 use lib.ListN.{set}
 use Rattle.theory.specs.history.History.{slots}
-use Rattle.theory.specs.tables.Turns.{turns}
+use Rattle.theory.specs.basics.Turns.{turns}
 use Rattle.theory.specs.fillings.Completion.{bit}
 use Rattle.theory.specs.tables.Rows.{cell, joinRow, alsoReleased, flow, noteActed, hub, rowCount, actedRow, tableRows}
 use Rattle.theory.specs.tables.Reckonings.{slotWords, clockOwn, hasSlot, withBit, withoutBit, clearSlot, addSlot, slotWord, slotPlace}

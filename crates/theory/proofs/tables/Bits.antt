@@ -11,8 +11,8 @@ use lib.Dec.{eqb}
 use borrow.Author.Tests.{eq-eqb, ne-eqb}
 use lib.Pow.{pow-mono, pow-lt, shr-shr}
 use Rattle.theory.specs.fillings.Completion.{bit}
-use Rattle.theory.specs.tables.Turns.{turns}
-use Rattle.theory.specs.tables.Reckonings.{indicator, maskOf, lowestTask}
+use Rattle.theory.specs.basics.Turns.{turns, indicator}
+use Rattle.theory.specs.tables.Reckonings.{maskOf, lowestTask}
 use Rattle.theory.specs.order.Limits.{tasks}
 use Rattle.theory.proofs.basics.Reflects.{Reflects, right, wrong, equal}
 
@@ -164,7 +164,7 @@ mask-without p x =
 abbrev sums : (ℕ → Bool) → ℕ → ℕ
 sums p u = turns u (λ v m. m + indicator (p v) * 2 ^ v) 0
 
-pub record Summed (p : ℕ → Bool) (u m : ℕ) : Type 0 where
+pub record BitsSummed (p : ℕ → Bool) (u m : ℕ) : Type 0 where
   pub room : m < 2 ^ u
   pub is : m ≡ sums p u
 
@@ -173,15 +173,15 @@ sum-lt u m true h = rw (add-one u) (omega (arith, pow-suc 2 u))
 sum-lt u m false h = rw (add-one u) (omega (arith, pow-suc 2 u))
 
 module _ {p : ℕ → Bool} where
-  pub no-sum : Summed p 0 0
+  pub no-sum : BitsSummed p 0 0
   unfolding turns
   no-sum = record { room = omega arith; is = refl }
 
-  pub one-sum : {u m r : ℕ} {b : Bool} → Summed p u m → r ≡ indicator b * 2 ^ u → b ≡ p u → Summed p (u + 1) (m + r)
+  pub one-sum : {u m r : ℕ} {b : Bool} → BitsSummed p u m → r ≡ indicator b * 2 ^ u → b ≡ p u → BitsSummed p (u + 1) (m + r)
   unfolding turns
   one-sum {u} {m} {b = b} s e t = record { room = rw e (sum-lt u m b (s .room)); is = rw (add-one u) (rw (e, t, s .is)) }
 
-  pub sum-fits : {u m : ℕ} → Summed p u m → u ≤ tasks → m < 2 ^ tasks
+  pub sum-fits : {u m : ℕ} → BitsSummed p u m → u ≤ tasks → m < 2 ^ tasks
   sum-fits {u} s h = let q : 2 ^ u ≤ 2 ^ tasks = pow-mono h in omega (arith, s .room)
 
 -- the highest n tasks above the sum of the others make the whole mask
@@ -203,7 +203,7 @@ upper-none p = refl
 sums-all : (p : ℕ → Bool) (n : ℕ) → n ≡ tasks → sums p n ≡ upper p tasks
 sums-all p n e = let z : upper p 0 * 2 ^ n ≡ 0 = rw (upper-none p) (zero-mul (2 ^ n)) in omega (arith, sums-upper p n 0 (omega arith))
 
-pub all-sums : {p : ℕ → Bool} {u m : ℕ} → Summed p u m → u ≤ tasks → tasks ≤ u → m ≡ maskOf p
+pub all-sums : {p : ℕ → Bool} {u m : ℕ} → BitsSummed p u m → u ≤ tasks → tasks ≤ u → m ≡ maskOf p
 unfolding maskOf
 all-sums {p} {u} s h l = s .is ∙ sums-all p u (omega arith)
 
@@ -235,7 +235,7 @@ halved-mask e h = (omega arith, record { empty = λ z. omega arith })
 
 pub record Gathered (p : ℕ → Bool) (u x : ℕ) : Type 0 where
   pub m : ℕ
-  pub summed : Summed p u m
+  pub summed : BitsSummed p u m
   pub twice : x ≡ m * 2 ^ tasks + m
 
 module _ {p : ℕ → Bool} where

@@ -8,7 +8,7 @@ use Prim.Native.Nat.{ℕ, suc, _<_, max}
 use native.Mathlib.Omega.{arith}
 use lib.Dec.{T}
 use lib.ListN.{length, replicate}
-use Rattle.theory.specs.order.Recording.{Op, Event, act, lost, series, kind, ActsIn, acts}
+use Rattle.theory.specs.order.Recording.{Op, Event, act, lost, series, sizeOf, kind, ActsIn, acts}
 use Rattle.theory.specs.fillings.Completion.{Filling, fills}
 use Rattle.theory.specs.tables.Rows.{mark, cell, hub, cellCount}
 use Rattle.theory.specs.tables.Reckonings.{clockOwn, clockAct}
@@ -60,7 +60,7 @@ keeps u x e after = (λ a. (tt, a), λ a. a .1)
 acting-one : {u t n : ℕ} {o : Op} → ActsIn u (act o t n) → u ≡ t
 acting-one acts = refl
 
-module _ {w : Filling} {es : List Event} {b : List ℕ} {t n number : ℕ} (o : Op) (x : ExactClocks w es b) (ht : t < tasks) (hn : n < series o)
+module _ {w : Filling} {es : List Event} {b : List ℕ} {t n number : ℕ} (o : Op) (x : ExactClocks w es b) (ht : t < tasks) (hn : n < sizeOf (series o))
     (numbered : number ≡ suc (length es)) where
   -- at the own cell the number is the act's, elsewhere nothing changed
   owned : (u i : ℕ) → u < tasks → Owned (Past i) w (OfTask u) (Unit {0}) es (act o t n) t tasks (clockOwn t number b) i u

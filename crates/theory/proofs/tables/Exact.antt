@@ -9,12 +9,12 @@ use native.Mathlib.Omega.{arith}
 use borrow.Author.Tests.{lt-ltb, ne-eqb}
 use lib.Dec.{T, ltb, eqb, lit<}
 use lib.ListN.{replicate}
-use Rattle.theory.specs.order.Recording.{Op, Event, act, lost, series, kind}
+use Rattle.theory.specs.order.Recording.{Op, Event, act, lost, series, sizeOf, kind}
 use Rattle.theory.specs.fillings.Completion.{bit, Named, Filling, fills}
 use Rattle.theory.specs.tables.Rows.{hub, cell, releasedRow, onward, isReleased, mix, mark, actedRow, tableRows}
 use Rattle.theory.specs.order.Limits.{tasks, flags}
 use Rattle.theory.proofs.order.Carry.{Node, due, acted, semaphore, flag, Releases}
-use Rattle.theory.proofs.fillings.Fullest.{Acquired, Released, named-task}
+use Rattle.theory.proofs.fillings.Fullest.{FillerAcquires, FillerReleases, named-task}
 use Rattle.theory.proofs.fillings.Reach.{nobody-named, acquired-due, acquired-acted, acquired-semaphore, acquired-flag, released-due, released-acted, released-semaphore, released-flag}
 use Rattle.theory.proofs.tables.Rows.{Sized, Joins, Knows, fresh-cell, fresh-none}
 use Rattle.theory.proofs.tables.Acts.{flow-knows}
@@ -46,7 +46,7 @@ pub record ExactActed (w : Filling) (es : List Event) (width : ℕ) (b : List �
 
 pub exact-act : {P : ℕ → Type 0} {j : ℕ → ℕ → ℕ} {w : Filling} {Chosen : Event → List Event → Type 0} {Stays : Type 0} {es : List Event} {o : Op} {t n width i c : ℕ} {b : List ℕ} →
     Joins j P → ((e : Event) (after : List Event) → Chosen e (after ++ (act o t n ∷ [])) ↔ (Stays × Chosen e after)) →
-    ((u : ℕ) → Releases (act o t n) (due u) → (u ≡ t) ⊎ (¬ Acted w u es)) → t < tasks → n < series o → c < width →
+    ((u : ℕ) → Releases (act o t n) (due u) → (u ≡ t) ⊎ (¬ Acted w u es)) → t < tasks → n < sizeOf (series o) → c < width →
     Sized width b → ExactActed w (es ++ (act o t n ∷ [])) width b → Ended w Chosen es i → Owned P w Chosen Stays es (act o t n) t width b i c →
     Exact P w Chosen (es ++ (act o t n ∷ [])) width (onward j width (fills w) (kind o) t n b) i c
 exact-act {w = w} {es = es} {o = o} {t = t} {n = n} {width = width} {b = b} joins keeps starts ht hn hc sized flagged ended owned =
@@ -63,8 +63,8 @@ exact-act {w = w} {es = es} {o = o} {t = t} {n = n} {width = width} {b = b} join
 -- Marks
 
 -- what has come to a node that a mark releases to has come to one that it acquires
-released-acquired : {w : Filling} {Chosen : Event → List Event → Type 0} {es : List Event} {i mask : ℕ} (m : Node) → Released mask m → Came w Chosen es i m →
-    (p : Node) × Acquired mask p × Came w Chosen es i p
+released-acquired : {w : Filling} {Chosen : Event → List Event → Type 0} {es : List Event} {i mask : ℕ} (m : Node) → FillerReleases mask m → Came w Chosen es i m →
+    (p : Node) × FillerAcquires mask p × Came w Chosen es i p
 released-acquired (due t) y d = (due t, acquired-due .1 (released-due .0 y), d)
 released-acquired (acted t) y d = (due t, acquired-due .1 (released-acted .0 y), came-acted d)
 released-acquired (semaphore s) y d = (semaphore s, acquired-semaphore .1 (released-semaphore .0 y), d)
@@ -76,7 +76,7 @@ pub data ProperMask (m : ℕ) : Type 0 where
   somebody : ¬ (m ≡ 0) → (t : ℕ) × Named m t → ProperMask m
 
 -- a mark that names a task acquires every object
-acquired-object : {mask : ℕ} → (t : ℕ) × Named mask t → {m : Node} → Object m → Acquired mask m
+acquired-object : {mask : ℕ} → (t : ℕ) × Named mask t → {m : Node} → Object m → FillerAcquires mask m
 acquired-object some (a-semaphore h) = acquired-semaphore .1 (h, some)
 acquired-object some (a-flag h) = acquired-flag .1 (h, some)
 
@@ -93,17 +93,17 @@ module _ {P : ℕ → Type 0} {w : Filling} {Chosen : Event → List Event → T
 
   -- where some are it mixes
   module _ {j : ℕ → ℕ → ℕ} (joins : Joins j P) (sized : Sized width b) (wide : tasks ≤ width) (hc : c < width) (some : (t : ℕ) × Named (w mask) t) (asked : T (fills w)) (x : Exact P w Chosen es width b i c) where
-    acquired-known : (p : Node) → Acquired (w mask) p → Came w Chosen es i p → Knows P width b hub c ⊎ NamedKnows P width (w mask) b c tasks
+    acquired-known : (p : Node) → FillerAcquires (w mask) p → Came w Chosen es i p → Knows P width b hub c ⊎ NamedKnows P width (w mask) b c tasks
     acquired-known (due t) h d = let q = acquired-due .0 h in inr (t, named-task q, named-bit q, x .cells (due t) (due-in (named-task q)) .1 d)
     acquired-known (acted t) h d = absurd (acquired-acted h)
     acquired-known (semaphore s) h d = inl (x .hub asked .1 (semaphore s, a-semaphore (acquired-semaphore .0 h .0), d))
     acquired-known (flag f) h d = inl (x .hub asked .1 (flag f, a-flag (acquired-flag .0 h .0), d))
 
-    known-on : {m : Node} → Released (w mask) m → Knows P width b hub c ⊎ NamedKnows P width (w mask) b c tasks → Onward w Chosen es (lost mask) i m
+    known-on : {m : Node} → FillerReleases (w mask) m → Knows P width b hub c ⊎ NamedKnows P width (w mask) b c tasks → Onward w Chosen es (lost mask) i m
     known-on y (inl a) = let (p, k, d) = x .hub asked .0 a in inr (p, d, (acquired-object some k, y))
     known-on y (inr (t, l, q, a)) = inr (due t, x .cells (due t) (due-in l) .0 a, (acquired-due .1 (bit-named (w mask) t l q), y))
 
-    on-known : {m : Node} → Released (w mask) m → (Stays × Onward w Chosen es (lost mask) i m) ⊎ (Newly Chosen es (lost mask) i × Releases (lost mask) m) →
+    on-known : {m : Node} → FillerReleases (w mask) m → (Stays × Onward w Chosen es (lost mask) i m) ⊎ (Newly Chosen es (lost mask) i × Releases (lost mask) m) →
         Knows P width b hub c ⊎ NamedKnows P width (w mask) b c tasks
     on-known {m} y (inl (s, inl d)) = let (p, h, e) = released-acquired m y d in acquired-known p h e
     on-known y (inl (s, inr (p, d, (h, z)))) = acquired-known p h d

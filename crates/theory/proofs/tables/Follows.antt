@@ -8,7 +8,7 @@ use Prim.Native.Nat.{ℕ, _≤_, _<_}
 use native.Mathlib.Omega.{arith}
 use borrow.Author.Tests.{lt-ltb, le-ltb}
 use lib.Dec.{T, ltb}
-use Rattle.theory.specs.order.Recording.{Op, join, Event, act, series, kind, _is_}
+use Rattle.theory.specs.order.Recording.{Op, join, Event, act, series, sizeOf, kind, _is_}
 use Rattle.theory.specs.fillings.Completion.{Filling, fills}
 use Rattle.theory.specs.tables.Rows.{hub, acquiredRow, releasedRow, alsoReleased}
 use Rattle.theory.specs.order.Limits.{tasks}
@@ -44,7 +44,7 @@ Released-row asked t released r = (r ≡ t) ⊎ ((r ≡ released) ⊎ (r ≡ als
 
 module _ {K K′ : ℕ → Type 0} {flag : Bool} {w : Filling} {Chosen : Event → List Event → Type 0} {Stays : Type 0} {es : List Event} {o : Op} {t n i : ℕ}
     (keeps : (e : Event) (after : List Event) → Chosen e (after ++ (act o t n ∷ [])) ↔ (Stays × Chosen e after))
-    (starts : (u : ℕ) → Releases (act o t n) (due u) → (u ≡ t) ⊎ (¬ Acted w u es)) (ht : t < tasks) (hn : n < series o)
+    (starts : (u : ℕ) → Releases (act o t n) (due u) → (u ≡ t) ⊎ (¬ Acted w u es)) (ht : t < tasks) (hn : n < sizeOf (series o))
     (flagged : n < tasks → (flag ≡ true) ↔ Acted w n (es ++ (act o t n ∷ []))) (ended : Ended w Chosen es i) (owned : OwnPart K w Chosen Stays es (act o t n) t i)
     (flowed : (r : ℕ) → K′ r ↔ (K r ⊎ (Released-row (fills w) t (releasedRow (kind o) t n) r × (K t ⊎ K (acquiredRow (kind o) t n (o is join && flag)))))) where
   -- the row that it reads

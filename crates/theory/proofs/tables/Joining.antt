@@ -3,12 +3,11 @@ use mathlib.Core.Path.{_≡_, refl, sym, subst}
 use mathlib.Core.Bool.{Bool, true, false, _||_, true≢false}
 use mathlib.Core.Logic.{_↔_}
 use mathlib.Core.List.{List}
-use Prim.Native.Nat.{ℕ, zero, suc, max, _≤_, _<_}
+use Prim.Native.Nat.{ℕ, zero, suc, max, _<_}
 use native.Mathlib.Omega.{arith}
 use lib.Dec.{ltb}
 use Rattle.theory.specs.order.Limits.{tasks}
-use Rattle.theory.specs.tables.Turns.{turns}
-use Rattle.theory.specs.acceptance.Table.{anyBelow}
+use Rattle.theory.specs.basics.Turns.{turns, anyBelow}
 use Rattle.theory.specs.tables.Rows.{cell, joinCell, anyNewer}
 use Rattle.theory.specs.tables.Joining.{OnePass}
 use Rattle.theory.proofs.basics.Reflects.{Reflects, right, wrong, at-most}

@@ -7,7 +7,7 @@ use mathlib.Core.List.{List}
 use Prim.Native.Nat.{ℕ, zero, suc, _+_, _*_, _≤_, _<_}
 use native.Mathlib.Omega.{arith}
 use lib.Dec.{T, lit<, eqb}
-use Rattle.theory.specs.tables.Turns.{turns}
+use Rattle.theory.specs.basics.Turns.{turns}
 use Rattle.theory.specs.fillings.Completion.{bit}
 use Rattle.theory.specs.tables.Rows.{cell, joinRow, rowOf, putRow, isReleased, hub, rowOrHub, gather, spread, noteNamed, mix, mark, actedRow, tableRows}
 use Rattle.theory.specs.order.Limits.{tasks}

@@ -7,8 +7,8 @@ use lib.Dec.{eqb}
 use lib.Pow.{shr-shr}
 use Rattle.theory.specs.order.Limits.{tasks}
 use Rattle.theory.specs.fillings.Completion.{bit}
-use Rattle.theory.specs.tables.Turns.{turns}
-use Rattle.theory.specs.tables.Reckonings.{indicator, maskOf}
+use Rattle.theory.specs.basics.Turns.{turns, indicator}
+use Rattle.theory.specs.tables.Reckonings.{maskOf}
 
 -- the highest n tasks that pass, as a mask
 abbrev highest : (ℕ → Bool) → ℕ → ℕ

@@ -1,7 +1,7 @@
 -- Which tasks a mark names, and what it releases to, by the rows of the tables. Assumes nothing.
 use mathlib.Core.Path.{_≡_, sym, subst}
 use mathlib.Core.Bool.{Bool, true}
-use Prim.Native.Nat.{ℕ, suc, _+_, _≤_, _<_}
+use Prim.Native.Nat.{ℕ, suc, _≤_, _<_}
 use native.Mathlib.Omega.{arith}
 use borrow.Author.Tests.{lt-ltb, le-ltb}
 use lib.Dec.{T}
@@ -10,7 +10,7 @@ use Rattle.theory.specs.tables.Rows.{isReleased, flagRow, semaphoreRow}
 use Rattle.theory.specs.order.Limits.{tasks}
 use Rattle.theory.proofs.basics.Reflects.{by-test, both, at-most, passed, passes}
 use Rattle.theory.proofs.order.Carry.{Node}
-use Rattle.theory.proofs.fillings.Fullest.{Released}
+use Rattle.theory.proofs.fillings.Fullest.{FillerReleases}
 use Rattle.theory.proofs.fillings.Reach.{released-due, released-semaphore, released-flag}
 use Rattle.theory.proofs.tables.Nodes.{row, InRange, due-in, semaphore-in, flag-in}
 
@@ -34,12 +34,12 @@ yes-if : {b : Bool} → b ≡ true → T b
 yes-if e = subst T (sym e) tt
 
 module _ {mask : ℕ} where
-  pub released-test : {n : Node} → InRange n → Released mask n → T (isReleased mask (row n))
+  pub released-test : {n : Node} → InRange n → FillerReleases mask n → T (isReleased mask (row n))
   released-test (due-in {t = t} h) x = subst T (sym (released-at-due mask t h)) (named-bit (released-due .0 x))
   released-test (semaphore-in {s = s} h) x = yes-if (released-at-object mask (semaphoreRow s) (omega arith))
   released-test (flag-in {f = f} h) x = yes-if (released-at-object mask (flagRow f) (omega arith))
 
-  pub test-released : (t : ℕ) × Named mask t → {n : Node} → InRange n → T (isReleased mask (row n)) → Released mask n
+  pub test-released : (t : ℕ) × Named mask t → {n : Node} → InRange n → T (isReleased mask (row n)) → FillerReleases mask n
   test-released some (due-in {t = t} h) x = released-due .1 (bit-named mask t h (subst T (released-at-due mask t h) x))
   test-released some (semaphore-in h) x = released-semaphore .1 (h, some)
   test-released some (flag-in h) x = released-flag .1 (h, some)

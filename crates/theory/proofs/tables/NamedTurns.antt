@@ -13,7 +13,7 @@ use lib.Pow.{shr-shr, shr-le, field, mod-mod-pow}
 use borrow.Author.Tests.{lt-ltb}
 use Rattle.theory.specs.fillings.Completion.{bit}
 use Rattle.theory.specs.order.Limits.{tasks}
-use Rattle.theory.specs.tables.Turns.{turns}
+use Rattle.theory.specs.basics.Turns.{turns}
 use Rattle.theory.specs.tables.Reckonings.{lowestTask}
 use Rattle.theory.specs.tables.Rows.{hub, cell, joinRow, rowOrHub, isReleased, rowOf, putRow}
 use Rattle.theory.proofs.basics.Reflects.{Reflects, right, wrong, at-most}

@@ -1,5 +1,5 @@
 -- Nodes and the rows that the tables have for them: one row for each node in range. That a task has acted has none: where it has, order
--- that has come to its next act has come to that (Acted.antt). Assumes nothing.
+-- that has come to its next act has come to that (fillings/HasActed.antt). Assumes nothing.
 use mathlib.Core.Path.{_≡_, refl, sym, _∙_, ap}
 use mathlib.Core.Bool.{Bool, true, false, cond, _&&_}
 use mathlib.Core.Logic.{_⊎_, inl, inr}
@@ -7,7 +7,7 @@ use Prim.Native.Nat.{ℕ, _+_, _-_, _≤_, _<_}
 use native.Mathlib.Omega.{arith}
 use borrow.Author.Tests.{lt-ltb, le-ltb}
 use lib.Dec.{ltb}
-use Rattle.theory.specs.order.Recording.{Op, take, give, look, set, start, join, act, series, kind, _is_}
+use Rattle.theory.specs.order.Recording.{Op, take, give, look, set, start, join, act, series, sizeOf, kind, _is_}
 use Rattle.theory.specs.tables.Rows.{acquiredRow, releasedRow, hub, flagRow, semaphoreRow}
 use Rattle.theory.specs.order.Limits.{tasks, semaphores, flags}
 use Rattle.theory.proofs.order.Ops.{Plain, Role, a-take, a-give, a-look, a-set, a-start, a-join, plain, role}
@@ -96,10 +96,10 @@ released-row o t n = by-role (role o)
     by-role a-join = refl
     by-role (plain x) = rw (x .not-give, x .not-set, x .not-start)
 
-pub read-in : (o : Op) {t n : ℕ} (joins : Bool) → t < tasks → n < series o → InRange (readNode o t n joins)
+pub read-in : (o : Op) {t n : ℕ} (joins : Bool) → t < tasks → n < sizeOf (series o) → InRange (readNode o t n joins)
 read-in o {t} {n} joins h l = by-role (role o) joins l
   where
-    by-role : {o : Op} → Role o → (joins : Bool) → n < series o → InRange (readNode o t n joins)
+    by-role : {o : Op} → Role o → (joins : Bool) → n < sizeOf (series o) → InRange (readNode o t n joins)
     by-role a-take joins l = semaphore-in l
     by-role a-give joins l = due-in h
     by-role a-look joins l = flag-in l
@@ -109,10 +109,10 @@ read-in o {t} {n} joins h l = by-role (role o) joins l
     by-role a-join false l = due-in h
     by-role (plain x) joins l = rw (x .not-take, x .not-look, x .not-join) (due-in h)
 
-pub released-in : (o : Op) {t n : ℕ} → t < tasks → n < series o → InRange (releasedNode o t n)
+pub released-in : (o : Op) {t n : ℕ} → t < tasks → n < sizeOf (series o) → InRange (releasedNode o t n)
 released-in o {t} {n} h l = by-role (role o) l
   where
-    by-role : {o : Op} → Role o → n < series o → InRange (releasedNode o t n)
+    by-role : {o : Op} → Role o → n < sizeOf (series o) → InRange (releasedNode o t n)
     by-role a-take l = due-in h
     by-role a-give l = semaphore-in l
     by-role a-look l = due-in h
@@ -170,7 +170,7 @@ acquired-read o t n joins = by-role (role o)
 pub plain-acquired : {o : Op} → Plain o → (t n : ℕ) → acquiredNode o t n ≡ due t
 plain-acquired x t n = rw (x .not-take, x .not-look, x .not-join)
 
-pub joined-in : {o : Op} {t n : ℕ} → Acquires (acted n) (act o t n) → n < series o → n < tasks
+pub joined-in : {o : Op} {t n : ℕ} → Acquires (acted n) (act o t n) → n < sizeOf (series o) → n < tasks
 joined-in by-join l = l
 
 pub releases-cases : {o : Op} {t n : ℕ} {p : Node} → Releases (act o t n) p → (p ≡ due t) ⊎ ((p ≡ acted t) ⊎ (p ≡ releasedNode o t n))
@@ -181,10 +181,10 @@ releases-cases by-set = inr (inr refl)
 releases-cases by-start = inr (inr refl)
 
 -- a row of an object that an act releases to is that of the object it names
-pub released-object : (o : Op) {t n : ℕ} → t < tasks → n < series o → tasks ≤ row (releasedNode o t n) → Object (releasedNode o t n)
+pub released-object : (o : Op) {t n : ℕ} → t < tasks → n < sizeOf (series o) → tasks ≤ row (releasedNode o t n) → Object (releasedNode o t n)
 released-object o {t} {n} h l k = by-role (role o) l k
   where
-    by-role : {o : Op} → Role o → n < series o → tasks ≤ row (releasedNode o t n) → Object (releasedNode o t n)
+    by-role : {o : Op} → Role o → n < sizeOf (series o) → tasks ≤ row (releasedNode o t n) → Object (releasedNode o t n)
     by-role a-take l k = absurd (omega arith)
     by-role a-give l k = a-semaphore l
     by-role a-look l k = absurd (omega arith)

@@ -11,8 +11,8 @@ use Rattle.theory.proofs.tables.Ranges.{access-onward}
 
 module _ {j : ℕ → ℕ → ℕ} (same : Same j) (w : ℕ) (asked : Bool) (k t n : ℕ) (own : List ℕ) {x : List ℕ} (e : x ≡ own) where
   -- after an access that is all
-  pub accessed : accesses k ≡ true → t < tasks → x ≡ onward j w asked k t n own
-  accessed h l = e ∙ access-onward same w asked k t n own h l
+  pub onward-accessed : accesses k ≡ true → t < tasks → x ≡ onward j w asked k t n own
+  onward-accessed h l = e ∙ access-onward same w asked k t n own h l
 
   -- after another act its order comes to it
   pub passed-on : {y : List ℕ} → y ≡ onward j w asked k t n x → y ≡ onward j w asked k t n own

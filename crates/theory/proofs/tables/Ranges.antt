@@ -9,13 +9,13 @@ use native.Mathlib.Omega.{arith}
 use lib.Dec.{T, ltb, eqb}
 use lib.ListN.{length}
 use Rattle.theory.specs.order.Limits.{tasks, variables}
-use Rattle.theory.specs.order.Recording.{Op, take, give, look, set, start, join, kind, isAccess, lossMark, Kind, of-op, of-mark, kinds, numberedKind, kindAccesses, accesses, kindSeries}
+use Rattle.theory.specs.order.Recording.{Op, take, give, look, set, start, join, kind, isAccess, lossMark, Kind, of-op, of-mark, kinds, numberedKind, kindAccesses, accesses, sizeOf, seriesSize}
 use Rattle.theory.specs.order.Path.{rule}
 use Rattle.theory.specs.history.History.{kindClashes}
 use Rattle.theory.specs.acceptance.Table.{Fitting, Proper}
 use Rattle.theory.specs.tables.Rows.{cell, actedRow, joinsActed, acquiredRow, releasedRow, onward, hub, tableRows}
 use Rattle.theory.proofs.basics.Reflects.{Reflects, right, wrong, equal, at-most}
-use Rattle.theory.proofs.order.Ops.{Role, a-take, a-give, a-look, a-set, a-start, a-join, plain, role, op-of, access-kind, access-on, series-op}
+use Rattle.theory.proofs.order.Ops.{Role, a-take, a-give, a-look, a-set, a-start, a-join, plain, role, op-of, access-kind, access-series, series-op}
 use Rattle.theory.proofs.order.Numbered.{kind-above}
 use Rattle.theory.proofs.tables.Rows.{Same}
 use Rattle.theory.proofs.tables.Acts.{flow-alone}
@@ -34,8 +34,8 @@ of-kind k j x y h l = decided (equal k j)
     decided (wrong n) = l
 
 -- `on` of an act whose kind is known
-on-below : {k t n : ℕ} (j : ℕ) → Fitting k t n → k ≡ j → n < kindSeries j
-on-below {n = n} j f e = subst (λ (i : ℕ). n < kindSeries i) e (f .on-fits)
+on-below : {k t n : ℕ} (j : ℕ) → Fitting k t n → k ≡ j → n < seriesSize j
+on-below {n = n} j f e = subst (λ (i : ℕ). n < seriesSize i) e (f .on-fits)
 
 -- the rows that an act acquires and releases to are of tasks and objects
 pub acquired-fits : {k t n : ℕ} {joins : Bool} → Fitting k t n → (joins ≡ true → k ≡ kind join) → acquiredRow k t n joins < hub
@@ -63,7 +63,7 @@ joins-kind w b k on e = decided (equal k (kind join)) e
     decided (wrong n) e = absurd (true≢false (sym e))
 
 -- the op of an access
-access-of : (k : ℕ) → accesses k ≡ true → (o : Op) × (k ≡ kind o) × T (isAccess o)
+pub access-of : (k : ℕ) → accesses k ≡ true → (o : Op) × (k ≡ kind o) × T (isAccess o)
 access-of k e = let (o, q) = op-of k known no-mark in (o, q, subst T (sym (sym (access-kind o) ∙ (ap accesses (sym q) ∙ e))) tt)
   where
     known : k < length kinds
@@ -100,18 +100,19 @@ pub access-onward : {j : ℕ → ℕ → ℕ} → Same j → (w : ℕ) (asked : 
 access-onward s w asked k t n b h l = let a = access-alone w b k t n h in rw (a .0, a .1) (flow-alone s w asked t b l)
 
 -- `on` of an access is a variable
+pub access-size : (k : ℕ) → accesses k ≡ true → seriesSize k ≡ variables
+access-size k e = let (o, q, a) = access-of k e in ap seriesSize q ∙ series-op o ∙ ap sizeOf (access-series o a)
+
 pub access-fits : {k t n : ℕ} → Fitting k t n → accesses k ≡ true → n < variables
-access-fits {k} {n = n} f e =
-    let (o, q, a) = access-of k e in
-    access-on o a (subst (λ (i : ℕ). n < i) (ap kindSeries q ∙ series-op o) (f .on-fits))
+access-fits {k} {n = n} f e = subst (λ (i : ℕ). n < i) (access-size k e) (f .on-fits)
 
 -- the ranges of a proper access
 pub access-proper : {k t n : ℕ} → Proper k t n → accesses k ≡ true → (t < tasks) × (n < variables)
 access-proper {k} p e = let f = p .act-fits (access-acts k e) in (f .task-fits, access-fits f e)
 
 -- what clashes with something is an access
-pub clash-access : (k : ℕ) (p : Op) → true ≡ kindClashes (numberedKind k) p → accesses k ≡ true
-clash-access k p e = of (numberedKind k) e
+pub clash-kind-access : (k : ℕ) (p : Op) → true ≡ kindClashes (numberedKind k) p → accesses k ≡ true
+clash-kind-access k p e = of (numberedKind k) e
   where
     of : (y : Kind) → true ≡ kindClashes y p → kindAccesses y ≡ true
     of (of-op o) e = and-elim-left (isAccess o) (isAccess p && rule o p) (sym e)

@@ -150,12 +150,12 @@ one-kept {i = i} {j = j} o k o′ k′ = decided (equal i j) (at-most (suc i) j)
 
 -- A test that tells whether order from that access has come to task t's next act; where there is none it fails
 
-pub record Tells (w : Filling) (es : List Event) (last : List ℕ) (p : Op) (t v u : ℕ) (apart : Bool) : Type 0 where
+pub record TellsApart (w : Filling) (es : List Event) (last : List ℕ) (p : Op) (t v u : ℕ) (apart : Bool) : Type 0 where
   pub none : latestNumber last (kind p) v u ≡ 0 → apart ≡ false
   pub tells : {i : ℕ} {e : Event} {after : List Event} → Occurs es i e after → ActsIn u e → latestNumber last (kind p) v u ≡ suc i → T (not apart) ↔ Reach w e after (due t)
 
 -- such a test finds the candidates, for clocks and for sets
-module _ {w : Filling} {es : List Event} {last : List ℕ} {apart : Bool} (p : Op) {t v u : ℕ} (x : Tells w es last p t v u apart) (h : ExactHistory es last) (ap : T (isAccess p))
+module _ {w : Filling} {es : List Event} {last : List ℕ} {apart : Bool} (p : Op) {t v u : ℕ} (x : TellsApart w es last p t v u apart) (h : ExactHistory es last) (ap : T (isAccess p))
     (hv : v < variables) (hu : u < tasks) where
   pub sound : T apart → (i : ℕ) × Candidate (filling w) (act p t v) es u i × (latestNumber last (kind p) v u ≡ suc i)
   sound a = found (latestNumber last (kind p) v u) refl
@@ -188,7 +188,7 @@ module _ {w : Filling} {es : List Event} {last : List ℕ} {apart : Bool} (p : O
 -- The tests of the clocks and of the sets are such
 
 module _ {w : Filling} {es : List Event} {b last : List ℕ} (p : Op) {t v u : ℕ} (h : ExactHistory es last) (ht : t < tasks) (hv : v < variables) (hu : u < tasks) where
-  pub clock-tells : ExactClocks w es b → Tells w es last p t v u (clockApart b last (kind p) t v u)
+  pub clock-tells : ExactClocks w es b → TellsApart w es last p t v u (clockApart b last (kind p) t v u)
   clock-tells x = record { none = λ e. rw (e, le-ltb (cell tasks b t u) 0 zero-le); tells = tells }
     where
       -- what the cell of the task's next act and column u says
@@ -214,7 +214,7 @@ module _ {w : Filling} {es : List Event} {b last : List ℕ} (p : Op) {t v u : �
               let k = column i .1 (record { j = i; e = e; after = after; recent = le-refl i; occurs = q; chosen = a; reach = r }) in
               omega arith
 
-  pub set-tells : ExactSets w es b → Tells w es last p t v u (setApart b last (kind p) t v u)
+  pub set-tells : ExactSets w es b → TellsApart w es last p t v u (setApart b last (kind p) t v u)
   set-tells x = record { none = λ e. rw e; tells = tells }
     where
       column : T (hasSlot b t (latestSlot (kind p) v u)) ↔ Came w (LastInSlot (latestSlot (kind p) v u)) es 0 (due t)

@@ -3,12 +3,12 @@ use mathlib.Core.Path.{_≡_, refl, sym, _∙_, ap, subst}
 use mathlib.Core.Bool.{Bool, true, false, cond}
 use mathlib.Core.Logic.{_↔_, _⊎_, inl, inr, _≢_}
 use mathlib.Core.List.{List, [], _∷_, _++_}
-use Prim.Native.Nat.{ℕ, _/_, _%_, _<_, zero-le}
+use Prim.Native.Nat.{ℕ, _<_, zero-le}
 use native.Mathlib.Omega.{arith}
 use lib.Bits.{bitOr}
 use lib.Dec.{T, eqb}
 use lib.ListN.{length, replicate}
-use Rattle.theory.specs.order.Recording.{Op, Event, act, lost, series, kind, numberedKind}
+use Rattle.theory.specs.order.Recording.{Op, Event, act, lost, series, sizeOf, kind, numberedKind}
 use Rattle.theory.specs.fillings.Completion.{bit, Filling, fills}
 use Rattle.theory.specs.tables.Rows.{cellCount, cell, noteActed, mark, hub, rowCount, actedRow}
 use Rattle.theory.specs.history.History.{askers, asker, kindClashes, slot, slots, underEach}
@@ -55,7 +55,7 @@ keeps s x e after = (λ k. (λ q. k .1 (snoc-last after x q), (k .0, λ q. k .1 
     apart n m (inl q) = m q
     apart n m (inr q) = n q
 
-module _ {w : Filling} {es : List Event} {b : List ℕ} {t n : ℕ} (o : Op) (x : ExactSets w es b) (ht : t < tasks) (hn : n < series o) where
+module _ {w : Filling} {es : List Event} {b : List ℕ} {t n : ℕ} (o : Op) (x : ExactSets w es b) (ht : t < tasks) (hn : n < sizeOf (series o)) where
   -- a slot that the act is not in
   unowned : {b′ : List ℕ} (s : ℕ) → s < slots → ¬ InSlot s (act o t n) → ((r : ℕ) → r < rowCount → hasSlot b′ r s ≡ hasSlot b r s) →
       Owned (HasBit s) w (LastInSlot s) (¬ InSlot s (act o t n)) es (act o t n) t slotWords b′ 0 (slotWord s)

@@ -10,9 +10,8 @@ use borrow.Author.Tests.{eq-eqb, ne-eqb}
 use lib.Bits.{bitAnd, bitOr, or-step, and-step, or-shr, and-shr, and-high}
 use lib.Dec.{T, eqb}
 use lib.Pow.{pow-pos, pow-add, shr-shr}
-use Rattle.theory.specs.tables.Turns.{turns}
+use Rattle.theory.specs.basics.Turns.{turns, anyBelow}
 use Rattle.theory.specs.fillings.Completion.{bit}
-use Rattle.theory.specs.acceptance.Table.{anyBelow}
 use Rattle.theory.specs.history.History.{slot}
 use Rattle.theory.specs.tables.Rows.{cell}
 use Rattle.theory.specs.tables.Reckonings.{slotWords, slotWord, slotPlace, hasSlot, knownSlots, withBit, withoutBit, wordBits}

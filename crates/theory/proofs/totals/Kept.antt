@@ -14,10 +14,10 @@ use Rattle.theory.specs.declared.record.Record.{Record}
 use Rattle.theory.specs.order.Limits.{variables, records}
 use Rattle.theory.specs.order.Recording.{Event, act, lost, kind, eventOf, isAccess}
 use Rattle.theory.specs.acceptance.Table.{standing, refusal, appendUnless, extended, recording}
-use Rattle.theory.specs.acceptance.Control.{counted, controlAfter}
+use Rattle.theory.specs.acceptance.Control.{controlAfter}
 use Rattle.theory.specs.verdicts.Verdict.{Verdict, Race, Clear, Doubt}
 use Rattle.theory.specs.verdicts.Search.{judge}
-use Rattle.theory.specs.tables.Reckonings.{indicator}
+use Rattle.theory.specs.basics.Turns.{indicator}
 use Rattle.theory.specs.feeding.Meaning.{Meaning, refuses, takes, judges, meaning}
 use Rattle.theory.specs.feeding.Step.{freshControl, freshState, freshSets, stepOf, setStepOf}
 use Rattle.theory.specs.feeding.Feeding.{Checker, replies, runs, afterAll, byClocks, bySets, checkerRefusal, answerTo, answerUnless, acceptedAnswer}
@@ -83,13 +83,13 @@ raceCount [] = 0
 raceCount (m ∷ answers) = indicator (isRace m) + raceCount answers
 
 -- of a checker that keeps its totals so
-pub record Keeps {S : Type 0} (c : Checker S) (R : List Event → S → Type 0) : Type 0 where
+pub record CountsSo {S : Type 0} (c : Checker S) (R : List Event → S → Type 0) : Type 0 where
   pub simulates : Simulates c R
   pub exact : (es : List Event) (s : S) → R es s → ExactControl es (c .control s)
   pub taken : (s : S) (r : Record) → checkerRefusal c s r ≡ 0 → c .control (c .next s r) ≡ totalled (meaning (c .answer s r)) (r .on) (controlAfter (r .kind) (r .task) (r .on) (c .control s))
   pub refused : (s : S) (r : Record) (n : ℕ) → checkerRefusal c s r ≡ suc n → c .next s r ≡ s
 
-module _ {S : Type 0} {c : Checker S} {R : List Event → S → Type 0} (k : Keeps c R) where
+module _ {S : Type 0} {c : Checker S} {R : List Event → S → Type 0} (k : CountsSo c R) where
   went : (es : List Event) (s : S) (r : Record) → R es s → Below es (c .control s) →
       Went (appendUnless es r (refusal es r)) (c .control s) (c .control (c .next s r)) r (meaning (c .answer s r))
   went es s r x b = decided (refusal es r) refl
@@ -162,7 +162,7 @@ counted-as v (a-mark t n m) = refl
 abbrev threeGiven : ℕ → List Record → List Meaning → ℕ
 threeGiven v rs answers = given Clear v rs answers + given Race v rs answers + given Doubt v rs answers
 
-module _ {S : Type 0} {c : Checker S} {R : List Event → S → Type 0} (k : Keeps c R) (v : ℕ) where
+module _ {S : Type 0} {c : Checker S} {R : List Event → S → Type 0} (k : CountsSo c R) (v : ℕ) where
   sum-step : (es : List Event) (s : S) (r : Record) → R es s → accessCount v (appendUnless es r (refusal es r)) ≡ accessCount v es + threeCounts v r (meaning (c .answer s r))
   sum-step es s r x = decided (refusal es r) refl
     where
@@ -199,15 +199,15 @@ some-race (m ∷ answers) = (λ h. decided (some-race answers) h (by-test (isRac
 
 -- From a fresh state
 
-pub fresh-cell : (i : ℕ) → 0 < i → i < controlCells → getD freshControl i 0 ≡ 0
-fresh-cell i h l = getD-set-other (replicate controlCells 0) 0 i 1 0 (λ q. omega arith) ∙ getD-replicate {A = ℕ} controlCells i 0 0 l
+pub fresh-control-cell : (i : ℕ) → 0 < i → i < controlCells → getD freshControl i 0 ≡ 0
+fresh-control-cell i h l = getD-set-other (replicate controlCells 0) 0 i 1 0 (λ q. omega arith) ∙ getD-replicate {A = ℕ} controlCells i 0 0 l
 
-module _ {S : Type 0} {c : Checker S} {R : List Event → S → Type 0} (k : Keeps c R) (fresh : c .control (c .fresh) ≡ freshControl) where
+module _ {S : Type 0} {c : Checker S} {R : List Event → S → Type 0} (k : CountsSo c R) (fresh : c .control (c .fresh) ≡ freshControl) where
   no-total : (w : Verdict) (v : ℕ) → v < variables → total w v (c .control (c .fresh)) ≡ 0
-  no-total w v hv = rw fresh (fresh-cell (totalAt w v) (omega arith) (omega (arith, place-below w)))
+  no-total w v hv = rw fresh (fresh-control-cell (totalAt w v) (omega arith) (omega (arith, place-below w)))
 
   no-race : races (c .control (c .fresh)) ≡ 0
-  no-race = rw fresh (fresh-cell racesAt (omega arith) (omega arith))
+  no-race = rw fresh (fresh-control-cell racesAt (omega arith) (omega arith))
 
   below : Below [] (c .control (c .fresh))
   below = record { few = omega arith; totals = λ w v hv. omega (arith, no-total w v hv); of-races = omega (arith, no-race) }
@@ -236,7 +236,7 @@ module _ {S : Type 0} {c : Checker S} {R : List Event → S → Type 0} (k : Kee
         λ x. lt-ltb 0 (races after) (let l = some-race answers .1 x in omega (arith, l, counted-races)),
       )
 
-pub clocks-keep : Keeps byClocks Represents
+pub clocks-keep : CountsSo byClocks Represents
 unfolding stepOf
 clocks-keep =
     record {
@@ -246,7 +246,7 @@ clocks-keep =
       refused = λ s r n e. rw e;
     }
 
-pub sets-keep : Keeps bySets RepresentsSets
+pub sets-keep : CountsSo bySets RepresentsSets
 unfolding setStepOf
 sets-keep =
     record {

@@ -1,14 +1,13 @@
 -- What one accepted record does to the totals: they move by what is counted of it. Assumes nothing.
 use mathlib.Core.Path.{_≡_, refl, sym, _∙_, ap, subst}
-use mathlib.Core.Bool.{Bool, true, false, cond, _&&_}
+use mathlib.Core.Bool.{Bool, false, _&&_}
 use mathlib.Core.Logic.{_≢_}
 use mathlib.Core.List.{List}
 use Prim.Native.Nat.{ℕ, suc, _+_, _≤_, _<_}
 use native.Mathlib.Omega.{arith}
 use borrow.Author.Tests.{eqb-false}
 use lib.Dec.{T, eqb}
-use lib.ListN.{length, getD, length-set}
-use lib.Seq.{getD-set-other}
+use lib.ListN.{length, getD}
 use Rattle.theory.specs.declared.record.Record.{Record}
 use Rattle.theory.specs.order.Limits.{variables}
 use Rattle.theory.specs.order.Recording.{Event, act, kind, lossMark, eventOf, isAccess}
@@ -16,7 +15,7 @@ use Rattle.theory.specs.acceptance.Table.{Proper}
 use Rattle.theory.specs.acceptance.Control.{acceptanceCells, controlAfter}
 use Rattle.theory.specs.verdicts.Verdict.{Verdict, Race, Clear, Doubt}
 use Rattle.theory.specs.verdicts.Search.{judge}
-use Rattle.theory.specs.tables.Reckonings.{indicator}
+use Rattle.theory.specs.basics.Turns.{indicator}
 use Rattle.theory.specs.feeding.Meaning.{Meaning, takes, judges}
 use Rattle.theory.specs.feeding.Feeding.{acceptedAnswer}
 use Rattle.theory.specs.tables.Counters.{oneMore, raise}

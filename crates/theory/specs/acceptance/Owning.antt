@@ -6,7 +6,7 @@ use mathlib.Core.Path.{_≡_}
 use mathlib.Core.Bool.{Bool, true, false, cond, _||_}
 use mathlib.Core.List.{List, [], _∷_}
 use lib.Dec.{eqb}
-use Rattle.theory.specs.order.Recording.{Op, take, give, owned, Event, act, lost, _is_}
+use Rattle.theory.specs.order.Recording.{take, give, owned, Event, act, lost, _is_}
 
 -- the record puts the recording under the profile
 abbrev pub isOwned : Event → Bool

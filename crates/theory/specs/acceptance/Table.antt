@@ -8,8 +8,8 @@ use lib.Dec.{leb, eqb}
 use lib.ListN.{length}
 use Rattle.theory.specs.declared.record.Record.{Record}
 use Rattle.theory.specs.order.Limits.{tasks, records}
-use Rattle.theory.specs.tables.Turns.{turns}
-use Rattle.theory.specs.order.Recording.{Op, take, give, start, join, owned, Effect, keeps, begins, ends, about, Event, act, lost, kind, kinds, lossMark, kindSeries, eventOf}
+use Rattle.theory.specs.basics.Turns.{anyBelow}
+use Rattle.theory.specs.order.Recording.{Op, take, give, start, join, owned, Effect, keeps, begins, ends, about, Event, act, lost, kind, kinds, lossMark, seriesSize, eventOf}
 use Rattle.theory.specs.fillings.Completion.{names}
 use Rattle.theory.specs.acceptance.Owning.{isSomebody, isBy, under, holder}
 
@@ -50,7 +50,7 @@ phase es t = laterPhase (cond (eqb t zero) live unseen) es t
 -- the numbers of an act are in their ranges
 pub record Fitting (k task on : ℕ) : Type 0 where
   pub task-fits : task < tasks
-  pub on-fits : on < kindSeries k
+  pub on-fits : on < seriesSize k
 
 -- what the code for an accepted record may rely on: an act's numbers are in their ranges, and a mark names somebody
 pub record Proper (k task on : ℕ) : Type 0 where
@@ -67,10 +67,6 @@ isAct r = not (isMark r)
 
 abbrev pub hasKind : Record → Op → Bool
 hasKind r o = eqb (r .kind) (kind o)
-
--- the test passes at one of the numbers below n at least
-abbrev pub anyBelow : ℕ → (ℕ → Bool) → Bool
-anyBelow n p = turns n (λ k b. b || p k) false
 
 -- what acceptance looks at: which tasks are live and unseen, how many records are accepted already, whether the recording is under the profile, and
 -- then which semaphores are held, and by whom
@@ -99,7 +95,7 @@ rows s r =
     -- acting task above 15
     ∷ (2 when (isAct r && leb tasks (r .task)))
     -- `on` outside its series
-    ∷ (3 when (isAct r && leb (kindSeries (r .kind)) (r .on)))
+    ∷ (3 when (isAct r && leb (seriesSize (r .kind)) (r .on)))
     -- mask 0 or above 65,535
     ∷ (4 when (isMark r && (eqb (r .on) 0 || leb (2 ^ tasks) (r .on))))
     -- 4,000,000 records are already accepted

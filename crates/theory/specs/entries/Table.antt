@@ -75,8 +75,8 @@ abbrev pub excuseOpen : List ℕ → ℕ → ℕ → ℕ → ℕ → Excuse
 excuseOpen last k on mask w = cond (eqb mask 0) (excuseOf true w) (excuseOf false (latestNumber last k on (lowestTask mask)))
 
 -- by the tables that are looked at
-unfoldable pub excuseBy : List ℕ → List ℕ → List ℕ → Record → ℕ → Excuse
-excuseBy control last fullclocks r w =
+unfoldable pub tablesExcuse : List ℕ → List ℕ → List ℕ → Record → ℕ → Excuse
+tablesExcuse control last fullclocks r w =
     cond (ltb 0 (entryCount control) && accessInRange r)
     (excuseOpen last (r .kind) (r .on) (openTasks control last fullclocks (r .kind) (r .task) (r .on)) w)
     (excuseOf false w)
@@ -86,4 +86,4 @@ abbrev pub openMask : State → Record → ℕ
 openMask s r = openTasks (s .control) (s .last) (s .fullclocks) (r .kind) (r .task) (r .on)
 
 abbrev pub excuse : State → Record → ℕ → Excuse
-excuse s r w = excuseBy (s .control) (s .last) (s .fullclocks) r w
+excuse s r w = tablesExcuse (s .control) (s .last) (s .fullclocks) r w

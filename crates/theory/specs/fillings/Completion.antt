@@ -7,7 +7,7 @@ use mathlib.Core.List.{List, [], _∷_, _++_}
 use lib.Dec.{T, ltb, eqb}
 use lib.ListN.{length}
 use Rattle.theory.specs.order.Limits.{tasks}
-use Rattle.theory.specs.order.Recording.{Op, take, give, look, set, miss, Event, act, lost, Every, series, losable}
+use Rattle.theory.specs.order.Recording.{Op, take, give, look, set, miss, Event, act, lost, Every, series, sizeOf, losable}
 
 -- the bit of weight 2 to the power t is in the mask
 abbrev pub bit : ℕ → ℕ → Bool
@@ -23,7 +23,7 @@ pub record Named (mask t : ℕ) : Type 0 where
 
 -- a record that a completion may put for a mark: by a task that the mark names, on a semaphore or flag 0 to 31
 pub data Filler (mask : ℕ) : Event → Type 0 where
-  filler : {o : Op} {t n : ℕ} → T (losable o) → Named mask t → n < series o → Filler mask (act o t n)
+  filler : {o : Op} {t n : ℕ} → T (losable o) → Named mask t → n < sizeOf (series o) → Filler mask (act o t n)
 
 -- "A completion puts .. any finite list of takes, gives, looks and sets", and "may contain misses as well"; nothing else: "A completion never
 -- contains a fresh"
@@ -65,7 +65,7 @@ inTurn (suc n) f = f zero ++ inTurn n (λ k. f (suc k))
 
 -- task t does the op on each number of the op's series
 unfoldable pub onEach : Op → ℕ → List Event
-onEach o t = inTurn (series o) (λ n. act o t n ∷ [])
+onEach o t = inTurn (sizeOf (series o)) (λ n. act o t n ∷ [])
 
 -- one task's part of a round: it takes every semaphore and looks at every flag, then gives and sets them all
 unfoldable pub part : ℕ → List Event

@@ -5,7 +5,7 @@ use mathlib.Core.Bool.{Bool, false, cond}
 use mathlib.Core.List.{List, [], _∷_}
 use lib.Dec.{eqb}
 use lib.ListN.{getD, set, length}
-use Rattle.theory.specs.tables.Turns.{turns}
+use Rattle.theory.specs.basics.Turns.{turns}
 use Rattle.theory.specs.order.Limits.{tasks, variables}
 use Rattle.theory.specs.order.Recording.{Op, read, write, bump, fresh, kind, about, accessNumber, opOf, Kind, of-op, of-mark, numberedKind}
 use Rattle.theory.specs.order.Path.{clashes}

@@ -9,11 +9,10 @@ use lib.ListN.{getD, set, replicate}
 use Rattle.theory.specs.declared.record.Record.{Record}
 use Rattle.theory.specs.declared.walk.Walk.{Walk}
 use Rattle.theory.specs.declared.walk.Pairs.{Pairs}
-use Rattle.theory.specs.tables.Turns.{turns}
+use Rattle.theory.specs.basics.Turns.{turns, anyBelow}
 use Rattle.theory.specs.order.Limits.{tasks, variables}
 use Rattle.theory.specs.order.Recording.{read, write, take, give, look, set as sets, start, join, fresh, kind, lossMark, accesses, numberedKind}
 use Rattle.theory.specs.fillings.Completion.{bit}
-use Rattle.theory.specs.acceptance.Table.{anyBelow}
 use Rattle.theory.specs.history.History.{asker, askAt, kindClashes}
 use Rattle.theory.specs.tables.Rows.{hub, taskRow, acquiredRow, releasedRow}
 use Rattle.theory.specs.tables.Reckonings.{wordBits, withBit, withoutBit}

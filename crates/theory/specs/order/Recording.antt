@@ -47,7 +47,7 @@ sizeOf flag = flags
 sizeOf variable = variables
 sizeOf profile = profiles
 
--- What differs from op to op, but for the steps that it makes and the conflicts that it has (Order.antt)
+-- What differs from op to op, but for the steps that it makes and the conflicts that it has (Path.antt)
 pub record Features : Type 0 where
   -- its kind number, in a record that is fed; numbers are added and never reused
   pub kind : ℕ
@@ -79,11 +79,8 @@ about owned = features 12 profile no-access false keeps
 abbrev pub kind : Op → ℕ
 kind o = (about o) .kind
 
-abbrev pub seriesOf : Op → Series
-seriesOf o = (about o) .series
-
-abbrev pub series : Op → ℕ
-series o = sizeOf (seriesOf o)
+abbrev pub series : Op → Series
+series o = (about o) .series
 
 abbrev pub isAccess : Op → Bool
 isAccess o = accessing ((about o) .access)
@@ -118,9 +115,9 @@ kindOp of-mark = read
 abbrev pub opOf : ℕ → Op
 opOf k = kindOp (numberedKind k)
 
--- the size of a kind's series
-abbrev pub kindSeries : ℕ → ℕ
-kindSeries k = series (opOf k)
+-- the size of the series of kind number k
+abbrev pub seriesSize : ℕ → ℕ
+seriesSize k = sizeOf (series (opOf k))
 
 -- the kind is an access
 abbrev pub kindAccesses : Kind → Bool

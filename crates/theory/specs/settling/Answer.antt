@@ -1,5 +1,5 @@
 -- F-10: what is answered, for every list of records and every home set. proofs/settling proves it of `settles`, and of the table of single tasks.
-use Prim.Native.Nat.{ℕ, suc, _^_, _<_}
+use Prim.Native.Nat.{ℕ, suc, _-_, _^_, _<_}
 use mathlib.Core.Path.{_≡_}
 use mathlib.Core.Bool.{Bool, true, false, cond}
 use mathlib.Core.Logic.{_↔_}
@@ -28,7 +28,7 @@ EveryTask home = (t : ℕ) → t < tasks → T (isHome home t)
 
 -- "the empty and the full one": 0 and 65,535, and whatever has the same 16 bits
 abbrev pub EmptyAndFull : Type 0
-EmptyAndFull = NoTask 0 × EveryTask 65_535
+EmptyAndFull = NoTask 0 × EveryTask (2 ^ tasks - 1)
 
 abbrev pub Includes : ℕ → ℕ → Type 0
 Includes home′ home = (t : ℕ) → t < tasks → T (isHome home t) → T (isHome home′ t)

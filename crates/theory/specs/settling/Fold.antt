@@ -9,7 +9,7 @@ use lib.ListN.{getD, set, replicate}
 use Rattle.theory.specs.declared.record.Record.{Record}
 use Rattle.theory.specs.declared.settled.Settled.{Settled}
 use Rattle.theory.specs.declared.state.State.{State}
-use Rattle.theory.specs.tables.Turns.{turns}
+use Rattle.theory.specs.basics.Turns.{turns}
 use Rattle.theory.specs.order.Limits.{tasks}
 use Rattle.theory.specs.order.Recording.{accesses}
 use Rattle.theory.specs.fillings.Completion.{Filling}

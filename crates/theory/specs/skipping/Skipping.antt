@@ -6,7 +6,7 @@ use mathlib.Core.List.{List, [], _∷_, _++_}
 use lib.Dec.{eqb}
 use Rattle.theory.specs.order.Recording.{take, give, Event, act, lost, _is_}
 use Rattle.theory.specs.acceptance.Owning.{Who, by, isBy, whoSince}
-use Rattle.theory.specs.tables.Reckonings.{indicator}
+use Rattle.theory.specs.basics.Turns.{indicator}
 
 -- who gave semaphore s last, after an event, from who did before
 abbrev pub nextGiver : Event → ℕ → Who → Who

@@ -44,11 +44,11 @@ abbrev pub newPlace : Related → ℕ
 newPlace x = moved (anySwap (x .one) (x .other) (x .behind) (x .ahead)) (x .place)
 
 -- what the record at a place of a recording is told when it is fed
-abbrev pub saidOf : List Record → ℕ → Option Said
-saidOf rs k = Option·map (λ l. l .said) (getElem? (linesAmong rs rs (answersFrom [] rs)) k)
+abbrev pub saidAtPlace : List Record → ℕ → Option Said
+saidAtPlace rs k = Option·map (λ l. l .said) (getElem? (linesAmong rs rs (answersFrom [] rs)) k)
 
 abbrev pub toldAt : List Event → ℕ → Option Said
-toldAt es k = saidOf (map eventRecord es) k
+toldAt es k = saidAtPlace (map eventRecord es) k
 
 pub record Changes (x : Related) : Type 0 where
   -- the two meet every other premise
@@ -69,8 +69,8 @@ AllChange (x ∷ xs) = Changes x × AllChange xs
 abbrev pub EachNeeded : Type 0
 EachNeeded = (q : Premise) → (x : Related) × (x .premise ≡ q) × Changes x
 
-abbrev pub row : Premise → List Event → Event → Event → List Event → ℕ → Said → Said → Related
-row q ahead e f behind k was becomes =
+abbrev pub exampleRow : Premise → List Event → Event → Event → List Event → ℕ → Said → Said → Related
+exampleRow q ahead e f behind k was becomes =
     record { premise = q; ahead = ahead; one = e; other = f; behind = behind; place = k; was = was; becomes = becomes }
 
 abbrev pub clear : Said
@@ -88,38 +88,38 @@ abbrev pub related : List Related
 related =
     -- a loss mark, which names only the task that does not act in the other: what was lost may have taken what is given before it, and not what is
     -- given after it
-    row two-acts (act start 0 1 ∷ w0 ∷ []) (act give 0 4) (lost 2) (w1 ∷ []) 4 (doubt 0) (race 0)
+    exampleRow two-acts (act start 0 1 ∷ w0 ∷ []) (act give 0 4) (lost 2) (w1 ∷ []) 4 (doubt 0) (race 0)
     -- the same task acts: it gives what it has written, or writes once it has given
-    ∷ row actors-differ (act start 0 1 ∷ []) w0 (act give 0 4) (act take 1 4 ∷ w1 ∷ []) 4 clear (race 0)
+    ∷ exampleRow actors-differ (act start 0 1 ∷ []) w0 (act give 0 4) (act take 1 4 ∷ w1 ∷ []) 4 clear (race 0)
     -- one names the task that acts in the other: before its start a task may not act
-    ∷ row names-no-actor [] (act start 0 1) w1 [] 1 clear (refused 6)
+    ∷ exampleRow names-no-actor [] (act start 0 1) w1 [] 1 clear (refused 6)
     -- nor once it is joined
-    ∷ row names-no-actor (act start 0 1 ∷ []) w1 (act join 0 1) [] 1 clear (refused 6)
+    ∷ exampleRow names-no-actor (act start 0 1 ∷ []) w1 (act join 0 1) [] 1 clear (refused 6)
     -- both name the same task: one that was not started is not joined
-    ∷ row names-no-same (act start 0 2 ∷ []) (act start 0 1) (act join 2 1) [] 2 taken (refused 9)
+    ∷ exampleRow names-no-same (act start 0 2 ∷ []) (act start 0 1) (act join 2 1) [] 2 taken (refused 9)
     -- a semaphore in common: a take acquires what was given before it
-    ∷ row no-semaphore (act start 0 1 ∷ w0 ∷ []) (act give 0 4) (act take 1 4) (w1 ∷ []) 4 clear (race 0)
+    ∷ exampleRow no-semaphore (act start 0 1 ∷ w0 ∷ []) (act give 0 4) (act take 1 4) (w1 ∷ []) 4 clear (race 0)
     -- and under the profile it needs a free one
-    ∷ row no-semaphore (act owned 0 0 ∷ act start 0 1 ∷ act take 0 4 ∷ []) (act give 0 4) (act take 1 4) [] 4 taken (refused 16)
+    ∷ exampleRow no-semaphore (act owned 0 0 ∷ act start 0 1 ∷ act take 0 4 ∷ []) (act give 0 4) (act take 1 4) [] 4 taken (refused 16)
     -- a flag in common: a look acquires what was set before it
-    ∷ row no-flag (act start 0 1 ∷ w0 ∷ []) (act set 0 3) (act look 1 3) (w1 ∷ []) 4 clear (race 0)
+    ∷ exampleRow no-flag (act start 0 1 ∷ w0 ∷ []) (act set 0 3) (act look 1 3) (w1 ∷ []) 4 clear (race 0)
     -- a variable in common: of two writes the later one is a Race
-    ∷ row no-variable (act start 0 1 ∷ []) w0 w1 [] 1 clear (race 1)
+    ∷ exampleRow no-variable (act start 0 1 ∷ []) w0 w1 [] 1 clear (race 1)
     -- of a read and a write, in either order
-    ∷ row no-variable (act start 0 1 ∷ []) r0 w1 [] 1 clear (race 1)
-    ∷ row no-variable (act start 0 1 ∷ []) w0 r1 [] 1 clear (race 1)
+    ∷ exampleRow no-variable (act start 0 1 ∷ []) r0 w1 [] 1 clear (race 1)
+    ∷ exampleRow no-variable (act start 0 1 ∷ []) w0 r1 [] 1 clear (race 1)
     -- of a bump and a read, in either order, and of a bump and a write
-    ∷ row no-variable (act start 0 1 ∷ []) b0 r1 [] 1 clear (race 1)
-    ∷ row no-variable (act start 0 1 ∷ []) r0 b1 [] 1 clear (race 1)
-    ∷ row no-variable (act start 0 1 ∷ []) b0 w1 [] 1 clear (race 1)
+    ∷ exampleRow no-variable (act start 0 1 ∷ []) b0 r1 [] 1 clear (race 1)
+    ∷ exampleRow no-variable (act start 0 1 ∷ []) r0 b1 [] 1 clear (race 1)
+    ∷ exampleRow no-variable (act start 0 1 ∷ []) b0 w1 [] 1 clear (race 1)
     -- a fresh empties the history of what stands before it
-    ∷ row no-variable (act start 0 1 ∷ []) w0 (act fresh 1 5) (w1 ∷ []) 3 clear (race 0)
-    ∷ row no-variable (act start 0 1 ∷ []) r0 (act fresh 1 5) (w1 ∷ []) 3 clear (race 0)
-    ∷ row no-variable (act start 0 1 ∷ []) b0 (act fresh 1 5) (w1 ∷ []) 3 clear (race 0)
+    ∷ exampleRow no-variable (act start 0 1 ∷ []) w0 (act fresh 1 5) (w1 ∷ []) 3 clear (race 0)
+    ∷ exampleRow no-variable (act start 0 1 ∷ []) r0 (act fresh 1 5) (w1 ∷ []) 3 clear (race 0)
+    ∷ exampleRow no-variable (act start 0 1 ∷ []) b0 (act fresh 1 5) (w1 ∷ []) 3 clear (race 0)
     -- an `owned`: who has taken before it holds nothing after it
-    ∷ row none-owned (act start 0 1 ∷ []) (act owned 0 0) (act take 1 4) (act give 1 4 ∷ []) 3 taken (refused 16)
+    ∷ exampleRow none-owned (act start 0 1 ∷ []) (act owned 0 0) (act take 1 4) (act give 1 4 ∷ []) 3 taken (refused 16)
     -- and who has not taken may give before it
-    ∷ row none-owned (act start 0 1 ∷ []) (act give 1 4) (act owned 0 0) [] 1 taken (refused 16)
+    ∷ exampleRow none-owned (act start 0 1 ∷ []) (act give 1 4) (act owned 0 0) [] 1 taken (refused 16)
     ∷ []
 
 -- And records that meet every premise, so that they may be swapped wherever they stand side by side
@@ -189,9 +189,9 @@ pub record HeldPairs : Type 0 where
 
 -- "Partner record numbers may shift": w0 and the write of variable 6 are unrelated, and the read's partner, w0, has number 2, or 3 once they are swapped
 
-abbrev pub findingsOf : List Event → List Finding
-findingsOf es = verdictsOf (answersFrom [] (map eventRecord es))
+abbrev pub fedFindings : List Event → List Finding
+fedFindings es = verdictsOf (answersFrom [] (map eventRecord es))
 
 pub record NumbersShift : Type 0 where
-  pub before : findingsOf (act start 0 1 ∷ w0 ∷ act write 1 6 ∷ r1 ∷ []) ≡ (2 ∶ Clear with 0) ∷ (3 ∶ Clear with 0) ∷ (4 ∶ Race with 2) ∷ []
-  pub after : findingsOf (act start 0 1 ∷ act write 1 6 ∷ w0 ∷ r1 ∷ []) ≡ (2 ∶ Clear with 0) ∷ (3 ∶ Clear with 0) ∷ (4 ∶ Race with 3) ∷ []
+  pub before : fedFindings (act start 0 1 ∷ w0 ∷ act write 1 6 ∷ r1 ∷ []) ≡ (2 ∶ Clear with 0) ∷ (3 ∶ Clear with 0) ∷ (4 ∶ Race with 2) ∷ []
+  pub after : fedFindings (act start 0 1 ∷ act write 1 6 ∷ w0 ∷ r1 ∷ []) ≡ (2 ∶ Clear with 0) ∷ (3 ∶ Clear with 0) ∷ (4 ∶ Race with 3) ∷ []

@@ -6,11 +6,11 @@ use mathlib.Core.Logic.{_≢_}
 use mathlib.Core.List.{[], _∷_}
 use lib.Dec.{T}
 use Rattle.theory.specs.declared.record.Record.{Record}
-use Rattle.theory.specs.order.Recording.{Op, read, miss, bump, Series, task, semaphore, flag, variable, profile, seriesOf, Event, act, eventOf, ActsIn, Unmarked, _is_}
+use Rattle.theory.specs.order.Recording.{Op, read, miss, bump, Series, task, semaphore, flag, variable, profile, series, Event, act, eventOf, ActsIn, Unmarked, _is_}
 
 -- the record is an act that names number n of the series
 pub data Names (x : Series) (n : ℕ) : Event → Type 0 where
-  names : {o : Op} {t : ℕ} → seriesOf o ≡ x → Names x n (act o t n)
+  names : {o : Op} {t : ℕ} → series o ≡ x → Names x n (act o t n)
 
 -- the ops of which two may have a variable in common: "two reads or two bumps"
 abbrev pub sharing : Op → Bool

@@ -1,20 +1,21 @@
 -- The two reckonings on tables: clocks and sets, each for the recording as it arrived and for the fullest filling.
 use Prim.Native.Nat.{ℕ, _+_, _*_, _-_, _/_, _%_, _^_, max}
-use mathlib.Core.Bool.{Bool, true, false, cond, _&&_, not}
+use mathlib.Core.Bool.{Bool, cond, _&&_, not}
 use mathlib.Core.List.{List}
 use lib.Bits.{bitAnd, bitOr}
 use lib.Count.{trailingZeros}
 use lib.Dec.{ltb, eqb}
 use lib.ListN.{set}
 use Rattle.theory.specs.declared.masks.Masks.{Masks}
-use Rattle.theory.specs.tables.Turns.{turns}
+use Rattle.theory.specs.basics.Turns.{turns, indicator}
 use Rattle.theory.specs.order.Limits.{tasks}
 use Rattle.theory.specs.order.Recording.{lossMark, accesses}
 use Rattle.theory.specs.fillings.Completion.{bit, Filling, fills}
 use Rattle.theory.specs.tables.Rows.{rowCount, taskRow, cell, noteActed, onward, mark}
 use Rattle.theory.specs.history.History.{slot, slots, latestSlot, latestNumber, underEach}
 
--- Clocks: at row n and column u the number of the last record of task u from which order has come to node n
+-- Clocks: at row n and column u the number of the last record of task u from which order has come to node n. A task's row is its task clock, as it is
+-- before its next act; that of a semaphore or a flag is the clock that it was given
 
 abbrev pub clockOwn : ℕ → ℕ → List ℕ → List ℕ
 clockOwn task number b = noteActed tasks task (set b (taskRow task * tasks + task) number)
@@ -26,7 +27,8 @@ clockAct asked k task on number b = onward max tasks asked k task on (clockOwn t
 abbrev pub nextClocks : Filling → ℕ → ℕ → ℕ → ℕ → List ℕ → List ℕ
 nextClocks w k task on number b = cond (eqb k lossMark) (mark max tasks (w on) b) (clockAct (fills w) k task on number b)
 
--- Sets: at row n and slot s whether order from the kept access of slot s has come to node n, as a bit
+-- Sets: at row n and slot s whether order from the kept access of slot s has come to node n, as a bit. Its column is the lockset of that access, as
+-- document 004 has it: the tasks and objects by which a later access is in order with it
 
 -- so many bits a word
 abbrev pub wordBits : ℕ
@@ -83,10 +85,6 @@ clockApart cells last k task on u = ltb (cell tasks cells (taskRow task) u) (lat
 
 abbrev pub setApart : List ℕ → List ℕ → ℕ → ℕ → ℕ → ℕ → Bool
 setApart cells last k task on u = ltb 0 (latestNumber last k on u) && not (hasSlot cells (taskRow task) (latestSlot k on u))
-
-abbrev pub indicator : Bool → ℕ
-indicator true = 1
-indicator false = 0
 
 -- the tasks that pass the test as a mask
 unfoldable pub maskOf : (ℕ → Bool) → ℕ

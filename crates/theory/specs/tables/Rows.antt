@@ -6,11 +6,10 @@ use mathlib.Core.Bool.{Bool, true, false, cond, not, _&&_, _||_}
 use mathlib.Core.List.{List}
 use lib.Dec.{ltb, eqb}
 use lib.ListN.{getD, set, replicate}
-use Rattle.theory.specs.tables.Turns.{turns}
+use Rattle.theory.specs.basics.Turns.{turns, anyBelow}
 use Rattle.theory.specs.order.Limits.{tasks, semaphores, flags}
 use Rattle.theory.specs.order.Recording.{Op, kind}
 use Rattle.theory.specs.fillings.Completion.{bit}
-use Rattle.theory.specs.acceptance.Table.{anyBelow}
 
 -- the rows: each task's next act, the semaphores, the flags, and the hub, which knows what any semaphore or flag knows
 abbrev pub taskRow : ℕ → ℕ

@@ -156,10 +156,15 @@ table =
     ∷ (act start 0 1 ∷ r0 ∷ act give 0 4 ∷ act take 1 4 ∷ b1 ∷ [] gives (2 ∶ Clear with 0) ∷ (5 ∶ Clear with 0) ∷ [])
     -- a task's latest access is a bump and its older one a read: against a bump the partner is the read
     ∷ (act start 0 1 ∷ r0 ∷ b0 ∷ b1 ∷ [] gives (2 ∶ Clear with 0) ∷ (3 ∶ Clear with 0) ∷ (4 ∶ Race with 2) ∷ [])
+    -- against a write the latest of its three kinds, whichever it is
+    ∷ (act start 0 1 ∷ r0 ∷ w0 ∷ b0 ∷ w1 ∷ [] gives (2 ∶ Clear with 0) ∷ (3 ∶ Clear with 0) ∷ (4 ∶ Clear with 0) ∷ (5 ∶ Race with 4) ∷ [])
+    ∷ (act start 0 1 ∷ b0 ∷ w0 ∷ r0 ∷ w1 ∷ [] gives (2 ∶ Clear with 0) ∷ (3 ∶ Clear with 0) ∷ (4 ∶ Clear with 0) ∷ (5 ∶ Race with 4) ∷ [])
+    ∷ (act start 0 1 ∷ b0 ∷ r0 ∷ w0 ∷ w1 ∷ [] gives (2 ∶ Clear with 0) ∷ (3 ∶ Clear with 0) ∷ (4 ∶ Clear with 0) ∷ (5 ∶ Race with 4) ∷ [])
     -- a bump across a mark
     ∷ (act start 0 1 ∷ w0 ∷ lost 3 ∷ b1 ∷ [] gives (2 ∶ Clear with 0) ∷ (4 ∶ Doubt with 2) ∷ [])
-    -- and after a fresh
+    -- and after a fresh; a bump before it does not count either
     ∷ (act start 0 1 ∷ w0 ∷ act fresh 0 5 ∷ b1 ∷ [] gives (2 ∶ Clear with 0) ∷ (4 ∶ Clear with 0) ∷ [])
+    ∷ (act start 0 1 ∷ b0 ∷ act fresh 0 5 ∷ w1 ∷ [] gives (2 ∶ Clear with 0) ∷ (4 ∶ Clear with 0) ∷ [])
     -- F-12: under the profile a take acquires what its holder before it gave, and what was given of another semaphore it does not
     ∷ (own ∷ act start 0 1 ∷ act take 0 4 ∷ w0 ∷ act give 0 4 ∷ act take 1 4 ∷ w1 ∷ [] gives (4 ∶ Clear with 0) ∷ (7 ∶ Clear with 0) ∷ [])
     ∷ (own ∷ act start 0 1 ∷ act take 0 4 ∷ w0 ∷ act give 0 4 ∷ act take 1 6 ∷ w1 ∷ [] gives (4 ∶ Clear with 0) ∷ (7 ∶ Race with 4) ∷ [])

@@ -1,5 +1,6 @@
 -- The loop ends.
 use Prim.Native.Nat.{_-_}
+use Rattle.theory.specs.order.Limits.{entries}
 use borrow.Author.Needs.{needs}
 use Rattle.cases.proofs.accepting.replaced.Statement.{statement}
 use Rattle.cases.proofs.accepting.replaced.Tie as tie
@@ -8,7 +9,7 @@ abbrev Inv-loop : tie.InvT-loop
 Inv-loop control₀ n₀ control n = Unit
 
 abbrev μ-loop : tie.MeasureT-loop
-μ-loop control₀ n₀ control n = 199 - n
+μ-loop control₀ n₀ control n = entries - 1 - n
 
 pub replaced-spec : {M : Type 1} → statement M
 replaced-spec =

@@ -3,14 +3,13 @@ use mathlib.Core.Path.{_≡_, refl, sym, ap, _∙_}
 use mathlib.Core.Bool.{true, false}
 use mathlib.Core.List.{List}
 use Prim.Native.Nat.{ℕ}
-use lib.ListN.{set}
 use borrow.Author.Tests.{ne-eqb}
 use Rattle.theory.specs.order.Recording.{accesses}
 use Rattle.theory.specs.tables.Rows.{noteActed}
 use Rattle.theory.specs.tables.Reckonings.{slotWords, addSlot, clearSlot, setOwn}
 use Rattle.theory.proofs.history.Accesses.{of-access, fresh-fits, kept-nowhere, kept-other}
 use Rattle.theory.proofs.tables.Rows.{same-or}
-use Rattle.theory.proofs.tables.Onward.{accessed, passed-on}
+use Rattle.theory.proofs.tables.Onward.{onward-accessed, passed-on}
 use borrow.Author.Needs.{needs}
 use Rattle.checker.proofs.acting.act_by_sets.Statement.{statement}
 use Rattle.checker.proofs.acting.act_by_sets.Tie as tie
@@ -35,8 +34,8 @@ returns c =
       simp h (q .0),
       q .1,
       q .2,
-      simp (ne-eqb _ _ n) (accessed same-or slotWords false (a .kind) (a .task .0) (a .on) (setOwn (a .kind) (a .task .0) (a .on) (a .sets .now)) (q .3) h (f .task-fits)),
-      simp (ne-eqb _ _ n) (accessed same-or slotWords true (a .kind) (a .task .0) (a .on) (setOwn (a .kind) (a .task .0) (a .on) (a .fullsets .now)) (q .4) h (f .task-fits)),
+      simp (ne-eqb _ _ n) (onward-accessed same-or slotWords false (a .kind) (a .task .0) (a .on) (setOwn (a .kind) (a .task .0) (a .on) (a .sets .now)) (q .3) h (f .task-fits)),
+      simp (ne-eqb _ _ n) (onward-accessed same-or slotWords true (a .kind) (a .task .0) (a .on) (setOwn (a .kind) (a .task .0) (a .on) (a .fullsets .now)) (q .4) h (f .task-fits)),
     )
 
 renew-requires : tie.Need-renew-requires

@@ -1,10 +1,9 @@
 -- The mask of an access, by where its rows begin.
-use mathlib.Core.Path.{_≡_, _∙_, ap}
+use mathlib.Core.Path.{_≡_, _∙_}
 use Prim.Native.Nat.{_*_}
-use native.Mathlib.Omega.{arith}
 use lib.Dec.{lit<}
 use Rattle.theory.specs.order.Limits.{tasks}
-use Rattle.theory.proofs.tables.Bits.{twice, halved-twice, mask-lt}
+use Rattle.theory.proofs.tables.Bits.{halved-twice, mask-lt}
 use Rattle.theory.proofs.tables.Reckoned.{mask-by-rows}
 use Rattle.theory.proofs.history.Accesses.{access-asks}
 use borrow.Author.Needs.{needs}

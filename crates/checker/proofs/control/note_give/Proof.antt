@@ -4,7 +4,7 @@ use Prim.Native.Nat.{ℕ, _<_}
 use native.Mathlib.Omega.{arith}
 use lib.ListN.{set}
 use lib.Seq.{getD-set-other}
-use Rattle.theory.specs.order.Limits.{semaphores, records}
+use Rattle.theory.specs.order.Limits.{records}
 use Rattle.theory.specs.acceptance.Control.{countAt, countIn, holderAt}
 use borrow.Author.Needs.{needs}
 use Rattle.checker.proofs.control.note_give.Statement.{statement}

@@ -30,17 +30,17 @@ fit v low high control e =
     room true e = refl
     room false e = e
 
-take-in-requires : tie.Need-take-in-requires
-take-in-requires c κs =
+enter-pair-requires : tie.Need-enter-pair-requires
+enter-pair-requires c κs =
     let at-both = c .before .before in
     let a = at-both .before .before .before .before .args in
     fit (a .v) (a .low) (a .high) (a .control .now) (sym (tested at-both) ∙ c .before .if1 .taken)
 
 returns : tie.Need-returns
-returns c = rw (sym (tested (c .before .before .before)) ∙ c .before .before .if1 .taken) (refl, c .take-in .ensures)
+returns c = rw (sym (tested (c .before .before .before)) ∙ c .before .before .if1 .taken) (refl, c .enter-pair .ensures)
 
 returns-2 : tie.Need-returns-2
 returns-2 c = rw (sym (tested (c .before)) ∙ c .if1 .left) (refl, refl)
 
 pub enter-spec : {M : Type 1} → statement M
-enter-spec = tie.close (tie.spec (λ c κs. search needs) (λ c κs. search needs) (λ c κs. search needs) take-in-requires returns returns-2)
+enter-spec = tie.close (tie.spec (λ c κs. search needs) (λ c κs. search needs) (λ c κs. search needs) enter-pair-requires returns returns-2)

@@ -8,14 +8,14 @@ use lib.Dec.{ltb}
 use Rattle.theory.specs.order.Limits.{tasks, variables}
 use Rattle.theory.specs.order.Recording.{accesses}
 use Rattle.theory.specs.declared.record.Record.{Record}
-use Rattle.theory.specs.entries.Table.{entryCount, accessInRange, excuseBy}
+use Rattle.theory.specs.entries.Table.{entryCount, accessInRange, tablesExcuse}
 use Rattle.theory.proofs.history.Accesses.{OfAccess}
 use borrow.Author.Needs.{needs}
 use Rattle.checker.proofs.entries.excuse.Statement.{statement}
 use Rattle.checker.proofs.entries.excuse.Tie as tie
 
 returns : tie.Need-returns
-unfolding excuseBy
+unfolding tablesExcuse
 returns c = rw (c .if1 .taken) refl
 
 -- what the test says of the record
@@ -42,13 +42,13 @@ some : (c : tie.Else1) → ltb 0 (entryCount (c .before .before .args .control .
 some c = lt-ltb 0 (entryCount (c .before .before .args .control .now)) (omega arith)
 
 returns-2 : tie.Need-returns-2
-unfolding excuseBy
+unfolding tablesExcuse
 returns-2 c =
     let at-test = c .before .before .before in
     rw (some (at-test .before), sym (at-test .access-in-range .ensures) ∙ c .before .before .if2 .taken, ← c .before .open-mask .ensures) (c .excuse-open .ensures)
 
 returns-3 : tie.Need-returns-3
-unfolding excuseBy
+unfolding tablesExcuse
 returns-3 c = rw (some (c .before .before), sym (c .before .access-in-range .ensures) ∙ c .if2 .left) refl
 
 pub excuse-spec : {M : Type 1} → statement M

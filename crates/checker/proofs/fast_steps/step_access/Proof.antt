@@ -6,7 +6,8 @@ use Rattle.theory.specs.feeding.Step.{stepOf}
 use Rattle.theory.proofs.acceptance.Accepted.{Accepts, accepts, refused}
 use Rattle.theory.proofs.acceptance.Plain.{plain-access}
 use Rattle.theory.proofs.feeding.FastSteps.{accessed-step}
-use Rattle.theory.proofs.history.Accesses.{OfAccess, of-access, access-series}
+use Rattle.theory.proofs.history.Accesses.{OfAccess, of-access}
+use Rattle.theory.proofs.tables.Ranges.{access-size}
 use Rattle.theory.proofs.tables.Ranges.{access-acts}
 use borrow.Author.Needs.{needs}
 use Rattle.checker.proofs.fast_steps.step_access.Statement.{statement}
@@ -17,7 +18,7 @@ row : (c : tie.After-common-refusal) → let a = c .before .before .before .args
 row c =
     let start = c .before .before .before in
     let a = start .args in
-    (rw (c .before .no-variable .ensures) at (c .common-refusal .ensures)) ∙ sym (rw (access-series (a .r .kind) (start .pre)) at (plain-access (a .control .now) (a .r .task) (a .r .on) (a .r .kind) (start .pre) .refusal))
+    (rw (c .before .no-variable .ensures) at (c .common-refusal .ensures)) ∙ sym (rw (access-size (a .r .kind) (start .pre)) at (plain-access (a .control .now) (a .r .task) (a .r .on) (a .r .kind) (start .pre) .refusal))
 
 returns : tie.Need-returns
 unfolding stepOf

@@ -3,7 +3,6 @@ use mathlib.Core.Path.{_≡_, sym, _∙_}
 use native.Mathlib.Omega.{arith}
 use Rattle.theory.specs.acceptance.Control.{controlRefusal}
 use Rattle.theory.specs.feeding.Step.{stepOf}
-use Rattle.theory.specs.tables.Reckonings.{clockOwn}
 use Rattle.theory.proofs.acceptance.Accepted.{Accepts, accepts, refused}
 use Rattle.theory.proofs.acceptance.Plain.{plain-hand-over}
 use Rattle.theory.proofs.feeding.FastSteps.{handed-step}

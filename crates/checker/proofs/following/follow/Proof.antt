@@ -8,14 +8,14 @@ use Rattle.theory.specs.feeding.Following.{followed, recordIn}
 use Rattle.theory.specs.lazy.Fold.{lazyOf, lazyAfter}
 use Rattle.theory.proofs.acceptance.Accepted.{Accepts, accepts}
 use Rattle.theory.proofs.feeding.Listed.{Goes, goes-first, goes-out, goes-refused, goes-on}
-use Rattle.theory.proofs.lazy.Code.{Within, within-more}
+use Rattle.theory.proofs.lazy.Code.{WithinCount, count-within-more}
 use borrow.Author.Needs.{needs}
 use Rattle.checker.proofs.following.follow.Statement.{statement}
 use Rattle.checker.proofs.following.follow.Tie as tie
 
 abbrev Inv-loop : tie.InvT-loop
 Inv-loop list upto q control₀ nodes₀ counts₀ kept₀ i₀ control nodes counts kept i =
-    (i ≤ upto) × Within control (kept .walked)
+    (i ≤ upto) × WithinCount control (kept .walked)
     × Goes (lazyAfter q) list upto (followed (lazyAfter q) control₀ (lazyOf nodes₀ counts₀ kept₀) (take upto (map recordIn list))) i control (lazyOf nodes counts kept)
 
 abbrev μ-loop : tie.MeasureT-loop
@@ -54,7 +54,7 @@ loop-again c =
     let a = accepted at-if1 in
     let r = at-record .record-at in (
       search needs,
-      within-more (lazyOf (x .nodes) (x .counts) (x .kept)) (at-loop .before .args .q) (r .result) (x .inv .1) (a .proper) (at-note .note .ensures) (c .follow-record .ensures),
+      count-within-more (lazyOf (x .nodes) (x .counts) (x .kept)) (at-loop .before .args .q) (r .result) (x .inv .1) (a .proper) (at-note .note .ensures) (c .follow-record .ensures),
       goes-on (x .inv .2) (at-record .before .loop-test .taken) (at-loop .before .pre .0) (r .ensures) (sym (at-if1 .before .refusal .ensures) ∙ at-if1 .if1 .left)
           (at-note .note .ensures) (c .follow-record .ensures),
     )

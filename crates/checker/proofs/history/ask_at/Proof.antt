@@ -1,9 +1,6 @@
 -- The number of the kind among theirs, looked for from the first to the last.
-use mathlib.Core.Path.{refl, subst, sym}
-use mathlib.Core.Bool.{cond}
-use Prim.Native.Nat.{ℕ, _≤_, _-_}
+use Prim.Native.Nat.{_≤_, _-_}
 use native.Mathlib.Omega.{arith}
-use lib.Dec.{ltb}
 use lib.ListN.{length}
 use Rattle.theory.specs.history.History.{askers}
 use Rattle.theory.proofs.basics.Turns.{Turned, no-turn, one-turn, all-turns}

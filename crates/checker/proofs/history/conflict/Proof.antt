@@ -5,9 +5,8 @@ use Prim.Native.Nat.{ℕ, _<_}
 use lib.Dec.{eqb}
 use lib.ListN.{length}
 use borrow.Author.Tests.{not-false}
-use Rattle.theory.specs.tables.Turns.{turns}
+use Rattle.theory.specs.basics.Turns.{turns, anyBelow}
 use Rattle.theory.specs.order.Path.{rule, clashes}
-use Rattle.theory.specs.acceptance.Table.{anyBelow}
 use Rattle.theory.specs.history.History.{askers, asker}
 use Rattle.theory.proofs.acceptance.Rows.{none-below}
 use Rattle.theory.proofs.order.Numbered.{same, same-true}

@@ -1,12 +1,11 @@
 -- One slot after the other has 0.
 use mathlib.Core.Path.{_≡_, refl, subst}
-use mathlib.Core.List.{List}
 use Prim.Native.Nat.{ℕ, _≤_, _-_, _+_, _*_}
 use native.Mathlib.Omega.{arith}
 use lib.ListN.{set}
 use Rattle.theory.specs.order.Limits.{tasks, variables}
-use Rattle.theory.specs.tables.Turns.{turns}
-use Rattle.theory.specs.history.History.{slots, emptiedUnder}
+use Rattle.theory.specs.basics.Turns.{turns}
+use Rattle.theory.specs.history.History.{emptiedUnder}
 use Rattle.theory.proofs.basics.Turns.{Turned, no-turn, one-turn, all-turns}
 use borrow.Author.Needs.{needs}
 use Rattle.checker.proofs.history.empty_under.Statement.{statement}

@@ -5,7 +5,7 @@ use Rattle.checker.proofs.masks.answer_by.Statement.{statement}
 use Rattle.checker.proofs.masks.answer_by.Tie as tie
 
 returns : tie.Need-returns
-returns c = rw (← c .before .before .either .ensures, c .before .if1 .taken) (c .unordered .ensures)
+returns c = rw (← c .before .before .either .ensures, c .before .if1 .taken) (c .race-or-doubt .ensures)
 
 returns-2 : tie.Need-returns-2
 returns-2 c = rw (← c .before .either .ensures, c .if1 .left) refl

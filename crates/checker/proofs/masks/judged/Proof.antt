@@ -1,8 +1,5 @@
 -- The partner is that of the mask that decides, where one does.
-use mathlib.Core.Path.{_≡_, sym, _∙_}
-use Prim.Native.Nat.{_%_, _^_}
-use Rattle.theory.specs.order.Limits.{tasks}
-use Rattle.theory.specs.history.History.{latestNumber}
+use mathlib.Core.Path.{_∙_}
 use Rattle.theory.proofs.feeding.FastSteps.{judged-so}
 use borrow.Author.Needs.{needs}
 use Rattle.checker.proofs.masks.judged.Statement.{statement}

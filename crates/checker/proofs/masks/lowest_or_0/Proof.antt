@@ -1,11 +1,7 @@
 -- A mask that is not empty has its lowest task among the tasks.
-use Prim.Native.Nat.{_%_}
-use mathlib.Core.Path.{_≡_}
 use native.Mathlib.Omega.{arith}
 use Rattle.theory.specs.order.Limits.{tasks}
-use Rattle.theory.specs.tables.Reckonings.{lowestTask}
 use Rattle.theory.proofs.tables.Bits.{trailing-lt}
-use borrow.Author.Needs.{needs}
 use Rattle.checker.proofs.masks.lowest_or_0.Statement.{statement}
 use Rattle.checker.proofs.masks.lowest_or_0.Tie as tie
 

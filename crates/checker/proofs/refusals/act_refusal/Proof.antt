@@ -6,7 +6,7 @@ use lib.Dec.{leb}
 use lib.ListN.{drop}
 use borrow.Author.Tests.{ne-eqb}
 use Rattle.theory.specs.order.Limits.{tasks}
-use Rattle.theory.specs.order.Recording.{kindSeries}
+use Rattle.theory.specs.order.Recording.{seriesSize}
 use Rattle.theory.specs.acceptance.Table.{firstRow}
 use Rattle.theory.specs.acceptance.Control.{controlStanding, controlRefusal}
 use Rattle.theory.proofs.acceptance.Rows.{actRows, act-rows}
@@ -19,7 +19,7 @@ entered : (c : tie.Start) → let control = c .args .control .now in controlRefu
 entered c = act-rows (controlStanding (c .args .control .now)) (c .args .r) (c .pre)
 
 common : (c : tie.After-common-refusal) → let a = c .before .before .args in
-    c .common-refusal .result ≡ firstRow (commonRows (controlStanding (a .control .now)) (a .r .task) (leb (kindSeries (a .r .kind)) (a .r .on)))
+    c .common-refusal .result ≡ firstRow (commonRows (controlStanding (a .control .now)) (a .r .task) (leb (seriesSize (a .r .kind)) (a .r .on)))
 common c = rw (c .before .outside .ensures) at (c .common-refusal .ensures)
 
 returns : tie.Need-returns
@@ -30,7 +30,7 @@ returns c =
 
 -- once none of them applies
 past : (c : tie.Else1) → let a = c .before .before .before .args in let control = a .control .now in
-    (firstRow (actRows (controlStanding control) (a .r)) ≡ firstRow (drop 5 (actRows (controlStanding control) (a .r)))) × (a .r .task < tasks) × (a .r .on < kindSeries (a .r .kind))
+    (firstRow (actRows (controlStanding control) (a .r)) ≡ firstRow (drop 5 (actRows (controlStanding control) (a .r)))) × (a .r .task < tasks) × (a .r .on < seriesSize (a .r .kind))
 past c = let a = c .before .before .before .args in common-passes (controlStanding (a .control .now)) (a .r) (common (c .before)) (c .if1 .left)
 
 rest : (c : tie.Else1) → let a = c .before .before .before .args in let control = a .control .now in

@@ -1,6 +1,5 @@
 -- Kind by kind.
 use borrow.Author.Tests.{ne-eqb}
-use borrow.Author.Needs.{needs}
 use Rattle.checker.proofs.rows.hands_over.Statement.{statement}
 use Rattle.checker.proofs.rows.hands_over.Tie as tie
 

@@ -1,6 +1,5 @@
 -- Kind by kind.
 use borrow.Author.Tests.{ne-eqb}
-use borrow.Author.Needs.{needs}
 use Rattle.checker.proofs.rows.is_release.Statement.{statement}
 use Rattle.checker.proofs.rows.is_release.Tie as tie
 

@@ -4,7 +4,7 @@ use mathlib.Core.List.{[]}
 use Rattle.theory.specs.declared.settled.Settled.{Settled}
 use Rattle.theory.specs.acceptance.Control.{controlRefusal}
 use Rattle.theory.specs.settling.Fold.{sideOf, sideAfter}
-use Rattle.theory.proofs.acceptance.Accepted.{Accepts, accepts}
+use Rattle.theory.proofs.acceptance.Accepted.{accepts}
 use Rattle.theory.proofs.feeding.Listed.{followed-refused, followed-accepted}
 use Rattle.theory.proofs.settling.Refused.{end-refusal}
 use borrow.Author.Needs.{needs}

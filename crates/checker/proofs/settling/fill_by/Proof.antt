@@ -1,11 +1,6 @@
 -- A mark is filled in by those of its tasks that are home's; an act has its own part, and passes order on.
-use mathlib.Core.Path.{_∙_, ap}
-use mathlib.Core.List.{List}
-use Prim.Native.Nat.{ℕ}
 use borrow.Author.Tests.{eq-eqb, ne-eqb}
 use borrow.Author.Needs.{needs}
-use Rattle.theory.specs.order.Limits.{tasks}
-use Rattle.theory.specs.tables.Reckonings.{clockOwn}
 use Rattle.checker.proofs.settling.fill_by.Statement.{statement}
 use Rattle.checker.proofs.settling.fill_by.Tie as tie
 

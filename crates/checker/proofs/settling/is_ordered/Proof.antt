@@ -1,5 +1,4 @@
 -- By the mask.
-use mathlib.Core.Path.{sym, _∙_}
 use borrow.Author.Tests.{eq-eqb, ne-eqb}
 use borrow.Author.Needs.{needs}
 use Rattle.checker.proofs.settling.is_ordered.Statement.{statement}

@@ -1,5 +1,5 @@
 -- The total that the two tests name, and the Races' where it is one.
-use mathlib.Core.Path.{_≡_, refl, _∙_, ap}
+use mathlib.Core.Path.{_≡_, _∙_, ap}
 use native.Mathlib.Omega.{arith}
 use Rattle.theory.specs.tables.Counters.{raise}
 use Rattle.theory.proofs.totals.Counted.{totalsFrom, counts-at, counted-by}

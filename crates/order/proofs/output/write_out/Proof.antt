@@ -1,11 +1,11 @@
 -- What waits lies within the memory.
-use Rattle.text.proofs.Held.{counted}
+use Rattle.text.proofs.Held.{length-taken}
 use borrow.Author.Needs.{needs}
 use Rattle.order.proofs.output.write_out.Statement.{statement}
 use Rattle.order.proofs.output.write_out.Tie as tie
 
 slice-aggregate-write-all : tie.Need-slice-aggregate-write-all
-slice-aggregate-write-all c = counted _ _ (c .before .if1 .left)
+slice-aggregate-write-all c = length-taken _ _ (c .before .if1 .left)
 
 pub write-out-spec : {M : Type 1} → statement M
 write-out-spec =

@@ -1,5 +1,5 @@
 -- The program is safe and ends: the lent memory keeps its length, and the measure is the number of turns that are left.
-use mathlib.Core.Path.{_≡_, refl, sym, _∙_}
+use mathlib.Core.Path.{_≡_, sym, _∙_}
 use native.Mathlib.Omega.{arith}
 use lib.ListN.{length}
 use borrow.Author.Needs.{needs}

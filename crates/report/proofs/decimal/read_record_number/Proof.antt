@@ -1,6 +1,5 @@
 -- `report::decimal::read_record_number` is the test of the length, and the digits. Assumes nothing.
 use mathlib.Core.Path.{sym, _∙_}
-use native.Mathlib.Omega.{arith}
 use borrow.Author.Needs.{needs}
 use Rattle.text.specs.EntryForm.{readRecordNumber}
 use Rattle.text.proofs.EntryForm.{wide-fits}

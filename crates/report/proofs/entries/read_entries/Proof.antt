@@ -4,7 +4,7 @@ use Prim.Native.Nat.{_≤_, _-_}
 use lib.ListN.{length, take}
 use Rattle.text.specs.EntriesRead.{EntriesRead}
 use Rattle.text.proofs.Wrote.{as-long}
-use Rattle.text.proofs.EntriesRead.{twice, none-read, read-next, read-all, next-fits}
+use Rattle.text.proofs.EntriesRead.{bothTimes, none-read, read-next, entries-all-read, next-fits}
 use borrow.Author.Needs.{needs}
 use Rattle.report.proofs.entries.read_entries.Statement.{statement}
 use Rattle.report.proofs.entries.read_entries.Tie as tie
@@ -12,7 +12,7 @@ use Rattle.report.proofs.entries.read_entries.Tie as tie
 abbrev Inv-loop : tie.InvT-loop
 Inv-loop out₀ piece line₀ control₀ begun i₀ out line control reached i =
     (i ≤ length piece) × (length out ≡ length out₀) × (length line ≡ length line₀)
-    × EntriesRead (twice out₀ out) (twice line₀ line) (twice control₀ control) begun (take i piece) reached
+    × EntriesRead (bothTimes out₀ out) (bothTimes line₀ line) (bothTimes control₀ control) begun (take i piece) reached
 
 abbrev μ-loop : tie.MeasureT-loop
 μ-loop out₀ piece line₀ control₀ begun i₀ out line control reached i = length piece - i
@@ -38,7 +38,7 @@ loop-again c =
     )
 
 returns : tie.Need-returns Inv-loop μ-loop
-returns c = read-all (c .before .before .before .before .before .args .piece .now) (c .loop-test .left) (c .before .loop .inv .3)
+returns c = entries-all-read (c .before .before .before .before .before .args .piece .now) (c .loop-test .left) (c .before .loop .inv .3)
 
 pub read-entries-spec : {M : Type 1} → statement M
 read-entries-spec =

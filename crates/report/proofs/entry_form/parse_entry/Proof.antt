@@ -1,7 +1,7 @@
 -- `report::entry_form::parse_entry`: the entry is made of what the fields say. Assumes nothing.
 use mathlib.Core.Path.{_≡_, refl, sym, ap, _∙_}
 use borrow.Author.Needs.{needs}
-use Rattle.text.specs.EntryForm.{wordAfter, recordField, markedBy}
+use Rattle.text.specs.EntryForm.{wordAfter, recordField, markedEntry}
 use Rattle.text.proofs.EntryForm.{fields-read}
 use Rattle.report.proofs.entry_form.parse_entry.Statement.{statement}
 use Rattle.report.proofs.entry_form.parse_entry.Tie as tie
@@ -47,7 +47,7 @@ returns-5 c =
     let var = at-low .before .before .before in
     let at-var = var .before .before in
     let rec = at-var .before .before .before in
-    c .marked .ensures ∙ ap (markedBy _ _ _ _) (c .before .after-spaces .ensures)
+    c .marked-entry .ensures ∙ ap (markedEntry _ _ _ _) (c .before .after-spaces .ensures)
     ∙ sym (fields-read _ (record-read (rec .before .before) ∙ rec .rec .given .1) (sym (at-var .word-field .ensures) ∙ var .var .given .1)
     (sym (at-low .word-field2 .ensures) ∙ low .low .given .1) (sym (at-high .word-field3 .ensures) ∙ high .high .given .1))
 

@@ -4,6 +4,7 @@ use Prim.Native.Nat.{ℕ, _-_, _≤_, _<_}
 use native.Mathlib.Omega.{arith}
 use lib.ListN.{length}
 use borrow.Author.Needs.{needs}
+use Rattle.theory.specs.order.Limits.{tasks}
 use Rattle.text.specs.Bytes.{little}
 use Rattle.text.specs.Places.{taskEnding}
 use Rattle.text.specs.Printing.{decimal}
@@ -12,15 +13,15 @@ use Rattle.report.proofs.fast_reading.guess_task.Statement.{statement}
 use Rattle.report.proofs.fast_reading.guess_task.Tie as tie
 
 abbrev Inv-loop : tie.InvT-loop
-Inv-loop bytes at t₀ t = t ≤ 16
+Inv-loop bytes at t₀ t = t ≤ tasks
 
 abbrev μ-loop : tie.MeasureT-loop
-μ-loop bytes at t₀ t = 16 - t
+μ-loop bytes at t₀ t = tasks - t
 
 abbrev Fits : Ending → Type 0
-Fits r = (r .task < 16) × (r .bytes ≡ little (taskEnding (r .task))) × (r .len ≡ length (decimal (r .task)))
+Fits r = (r .task < tasks) × (r .bytes ≡ little (taskEnding (r .task))) × (r .len ≡ length (decimal (r .task)))
 
-fits : (t : ℕ) → t < 16 → (r : Ending) → r ≡ record { task = t; bytes = little (taskEnding t); len = length (decimal t) } → Fits r
+fits : (t : ℕ) → t < tasks → (r : Ending) → r ≡ record { task = t; bytes = little (taskEnding t); len = length (decimal t) } → Fits r
 fits t h r e = subst Fits (sym e) (h, refl, refl)
 
 returns : tie.Need-returns Inv-loop μ-loop

@@ -28,7 +28,7 @@ returns-2 c =
     let k = o .before .before .op in
     let s = o .before .before .before .before .args .line .now in
     sym (parsed-by s (o .op-end .result) (n .past .result) (cut o) (n .past .ensures .0) (k .result)
-    (k .ensures ∙ ap namedKind (sym (cut-before s (o .op-end .result) (n .past .result) (cut o)))) ∙ rest-mark _ _ (c .before .before .if2 .taken) ∙ sym (c .mark .ensures))
+    (k .ensures ∙ ap namedKind (sym (cut-before s (o .op-end .result) (n .past .result) (cut o)))) ∙ rest-mark _ _ (c .before .before .if2 .taken) ∙ sym (c .parse-mark .ensures))
 
 returns-3 : tie.Need-returns-3
 returns-3 c =
@@ -37,7 +37,7 @@ returns-3 c =
     let k = o .before .before .op in
     let s = o .before .before .before .before .args .line .now in
     sym (parsed-by s (o .op-end .result) (n .past .result) (cut o) (n .past .ensures .0) (k .result)
-    (k .ensures ∙ ap namedKind (sym (cut-before s (o .op-end .result) (n .past .result) (cut o)))) ∙ rest-act _ _ (o .before .if1 .left) (c .before .before .if2 .left) ∙ sym (c .act .ensures))
+    (k .ensures ∙ ap namedKind (sym (cut-before s (o .op-end .result) (n .past .result) (cut o)))) ∙ rest-act _ _ (o .before .if1 .left) (c .before .before .if2 .left) ∙ sym (c .parse-act .ensures))
 
 pub parse-line-spec : {M : Type 1} → statement M
 parse-line-spec =

@@ -1,4 +1,4 @@
--- `report::reader::next_record`: a walk of its MIR, by hand. The borrow is opened; the text that the reader holds and its place go to `record_at`; the place that this answered is stored, the borrow is closed at the reader with it, and what the line says is returned.
+-- `report::reader::next_record`: a walk of its MIR, by hand. The borrow is opened; the text that the reader holds and its place go to `line_taken`; the place that this answered is stored, the borrow is closed at the reader with it, and what the line says is returned.
 -- The reader is Copy, so what its text owns is had for the call beside what the reader owns (`text-out`); at the end the facts of at are made anew (`again`). What a line says owns only facts, which are those of the answer (`LL.owed`). Of the callee the proof knows its contract alone.
 -- Assumes nothing.
 use mathlib.Core.Path.{_≡_, refl, ap}
@@ -49,16 +49,16 @@ use Rattle.text.specs.LineForm.{parseOf}
 use Rattle.text.specs.Reading.{lineAt, nextAt}
 use Rattle.text.proofs.parsed.Parsed as P
 use Rattle.text.proofs.parsed.Parsed.Laws as P′
-use Rattle.report.specs.declared.short.Taken.{Taken}
-use Rattle.report.proofs.short.Taken as S
-use Rattle.report.proofs.short.Taken.Laws as S′
+use Rattle.report.specs.declared.short.LineTaken.{LineTaken}
+use Rattle.report.proofs.short.LineTaken as S
+use Rattle.report.proofs.short.LineTaken.Laws as S′
 use Rattle.report.specs.declared.reader.LineReader.{LineReader}
 use Rattle.report.proofs.reader.LineReader as T
 use Rattle.report.proofs.reader.LineReader.Laws as T′
-use Rattle.report.proofs.short.record_at as record-at
-use Rattle.report.proofs.short.record_at.Symbol as record-at-def
-use Rattle.report.proofs.short.record_at.Symbol.{name as #record-at}
-use Rattle.report.proofs.short.record_at.Met as record-at-thm
+use Rattle.report.proofs.short.line_taken as line-taken
+use Rattle.report.proofs.short.line_taken.Symbol as line-taken-def
+use Rattle.report.proofs.short.line_taken.Symbol.{name as #line-taken}
+use Rattle.report.proofs.short.line_taken.Met as line-taken-thm
 use Rattle.report.proofs.reader.next_record.Key.{name as #next-record}
 use Rattle.report.proofs.reader.next_record as next-record
 use Rattle.report.proofs.reader.next_record.Statement as stated
@@ -85,7 +85,7 @@ sv s = sliceVal (s .ptr) (length (s .now))
 module _ {M : Type 1} (𝓤 : URA M) (H : Heap 𝓤) (A : Atoms 𝓤) (at-mem : Memory → SProp 𝓤) (run : Routine → Fun 𝓤) where
   -- the contract that the proof cites
   abbrev RecordAt : Contract 𝓤
-  RecordAt = tripleOf 𝓤 H A record-at.signature (record-at.spec 𝓤 H A at-mem run)
+  RecordAt = tripleOf 𝓤 H A line-taken.signature (line-taken.spec 𝓤 H A at-mem run)
 
 module _ {M : Type 1} (𝓤 : URA M) (H : Heap 𝓤) (A : Atoms 𝓤) (W : Given 𝓤 H A) (at-mem : Memory → SProp 𝓤) (run : Routine → Fun 𝓤) (κ κ′ : Lft) (q q′ : Share) (bounds : AllOutlive 2 (next-record.signature .outlives) (κ, (κ′, tt))) (b o : ℕ) (γ : GName) (h : LineReader) where
   abbrev x : RefT LineReader × Unit {0}
@@ -128,7 +128,7 @@ module _ {M : Type 1} (𝓤 : URA M) (H : Heap 𝓤) (A : Atoms 𝓤) (W : Given
   again : (n : ℕ) → n < 2 ^ 64 → ent 𝓤 (sem 𝓤 H A Own) (sem 𝓤 H A (B κ′ .own (moved n) (T′.lowered (moved n) ∷ [])))
   again n fits = qed W (‵ Own ∷ []) ∵ owned ! usize (Is usize) (uint-makes 𝓤 H A W w64) n _ (refl, fits) $ move ! (1 ∷ 0 ∷ []) $ by ! (own-put 𝓤 H A W D L 1 vd n (T′.lowered h))
 
-  -- the call of `record_at`: what it is passed, what it asks, and what is known of its answer
+  -- the call of `line_taken`: what it is passed, what it asks, and what is known of its answer
   abbrev to-record : RecordAt 𝓤 H A at-mem run .Ghost
   to-record = (((κ′, tt), (q′, tt), tt, (h .text, (h .at, tt)), (sv (h .text) ∷ [], (vint w64 (h .at) ∷ [], tt))), tt)
 
@@ -137,31 +137,31 @@ module _ {M : Type 1} (𝓤 : URA M) (H : Heap 𝓤) (A : Atoms 𝓤) (W : Given
       qed W ((‵ (flft κ′ q′) ⊛ ‵ ftrue) ∷ ‵ (Slice (h .text)) ∷ []) ∵ nothing ! $ owned ! usize (Is usize) (uint-makes 𝓤 H A W w64) (h .at) _ (refl, fits) $ fjoin ! $
       move ! (2 ∷ 0 ∷ []) $ fjoin ! $ move ! (1 ∷ 0 ∷ []) $ join ! $ frame ! $ done !
 
-  abbrev found : Taken
+  abbrev found : LineTaken
   found = record { parsed = parseOf (lineAt (now (h .text)) (h .at)); next = nextAt (now (h .text)) (h .at) }
 
-  record-said : (r : Taken) → ent 𝓤 (ensured 𝓤 H A record-at.ended (record-at.clauses 𝓤 H A at-mem run) (κ′, tt) (h .text, (h .at, tt)) tt r) (fact 𝓤 (r ≡ found))
-  record-said r = exE 𝓤 _ (λ ws. snd∗ 𝓤 (sem 𝓤 H A (lasts record-at.ended (κ′, tt) (h .text, (h .at, tt)) ws)) (fact 𝓤 (r ≡ found)))
+  record-said : (r : LineTaken) → ent 𝓤 (ensured 𝓤 H A line-taken.ended (line-taken.clauses 𝓤 H A at-mem run) (κ′, tt) (h .text, (h .at, tt)) tt r) (fact 𝓤 (r ≡ found))
+  record-said r = exE 𝓤 _ (λ ws. snd∗ 𝓤 (sem 𝓤 H A (lasts line-taken.ended (κ′, tt) (h .text, (h .at, tt)) ws)) (fact 𝓤 (r ≡ found)))
 
   -- the machine values of an answer, and of what it says of the line
-  abbrev av : Taken → Val
+  abbrev av : LineTaken → Val
   av r = LL.val S.the-type S′.the-laws r
 
-  abbrev pv : Taken → Val
+  abbrev pv : LineTaken → Val
   pv r = EL.val P.the-type P′.the-laws (r .parsed)
 
-  answer-is : (r : Taken) (u : Val) → Is S.the-row r (u ∷ []) → u ≡ av r
+  answer-is : (r : LineTaken) (u : Val) → Is S.the-row r (u ∷ []) → u ≡ av r
   answer-is r u is = ap only (LL.tells S.the-type S′.the-laws r (u ∷ []) is)
 
-  exits : (r : Taken) → r ≡ found
+  exits : (r : LineTaken) → r ≡ found
       → ent 𝓤 (⋆ 𝓤 H A (‵ (fobs γ (B κ′ .coded .code (moved (r .next)))) ∷ ‵ (fbor κ (Body (mem (B κ′)) b o γ)) ∷ ‵ (flft κ q) ∷ (‵ (flft κ′ q′) ⊛ ‵ ftrue) ∷ ‵ (P.the-row .own (r .parsed) (pv r ∷ [])) ∷ [])) (Post (pv r))
   exits r e =
       qed W (‵ (fobs γ (B κ′ .coded .code (moved (r .next)))) ∷ ‵ (fbor κ (Body (mem (B κ′)) b o γ)) ∷ ‵ (flft κ q) ∷ (‵ (flft κ′ q′) ⊛ ‵ ftrue) ∷ ‵ (P.the-row .own (r .parsed) (pv r ∷ [])) ∷ []) ∵
       suffices ! _ (ends-at 𝓤 H A next-record.ended stayed (next-record.clauses 𝓤 H A at-mem run) W (((κ, (κ′, tt)), (q, (q′, tt)), bounds, x, at), tt) (pv r) (r .parsed) (moved (r .next), tt) (tt, tt)) $
-      says ! (ap (λ (y : Taken). y .parsed) e, ap (λ (y : Taken). moved (y .next)) e) $
+      says ! (ap (λ (y : LineTaken). y .parsed) e, ap (λ (y : LineTaken). moved (y .next)) e) $
       move ! (2 ∷ 3 ∷ []) $ join ! $ frame ! $ feqI ! (List Val) (vptr b o ∷ []) (vptr b o ∷ []) refl $ fjoin3 ! $ nothing ! $ move ! (1 ∷ 0 ∷ []) $ fjoin ! $ done !
 
-  module _ (C : Calls 𝓤 H) (Λ : Loops 𝓤 H) (fm : FmC 𝓤 H (W .laws) C) (known : Triple 𝓤 (C #record-at) (RecordAt 𝓤 H A at-mem run)) where
+  module _ (C : Calls 𝓤 H) (Λ : Loops 𝓤 H) (fm : FmC 𝓤 H (W .laws) C) (known : Triple 𝓤 (C #line-taken) (RecordAt 𝓤 H A at-mem run)) where
     walk : ent 𝓤 (onEntry 𝓤 H A next-record.signature (κ, (κ′, tt)) (q, (q′, tt)) x at) (WpFn 𝓤 H C Λ code.function (vptr b o ∷ []) Post)
     walk =
         qed W ((‵ (flft κ q) ⊛ ‵ (flft κ′ q′) ⊛ ‵ ftrue) ∷ ‵ (owns (MutRef (named 0) κ (B κ′) ∷ []) x at) ∷ []) ∵ enter ! C Λ code.function (vptr b o ∷ []) _ $
@@ -178,7 +178,7 @@ module _ {M : Type 1} (𝓤 : URA M) (H : Heap 𝓤) (A : Atoms 𝓤) (W : Given
         -- what the line says, and the place after it
         move ! (1 ∷ 5 ∷ []) $ use1 W (‵ (Slice (h .text)) ⊛ ‵ Own) text-out $ split ! $ move ! (2 ∷ 0 ∷ []) $ use2 W (raw (RecordAt 𝓤 H A at-mem run .pre to-record)) (goes-record (wt .1 .1 .0 .fits)) $
         calls-at ! fm (RecordAt 𝓤 H A at-mem run) known to-record (and-then ! (load ! (from ! (stop !)) (look ! 9 refl)) (and-then ! (load ! (from ! (stop !)) (look ! 7 refl)) (no-more !))) (λ u.
-        use1 W (later (some (λ (r : Taken). ((‵ (flft κ′ q′) ⊛ ‵ ftrue) ⊛ ‵ (S.the-row .own r (u ∷ []))) ⊛ raw (ensured 𝓤 H A record-at.ended (record-at.clauses 𝓤 H A at-mem run) (κ′, tt) (h .text, (h .at, tt)) tt r)))) (id⊢ 𝓤 _) $ await ! tt $ pick ! (λ r.
+        use1 W (later (some (λ (r : LineTaken). ((‵ (flft κ′ q′) ⊛ ‵ ftrue) ⊛ ‵ (S.the-row .own r (u ∷ []))) ⊛ raw (ensured 𝓤 H A line-taken.ended (line-taken.clauses 𝓤 H A at-mem run) (κ′, tt) (h .text, (h .at, tt)) tt r)))) (id⊢ 𝓤 _) $ await ! tt $ pick ! (λ r.
         split ! $ move ! (1 ∷ []) $ use1 W (raw (fact 𝓤 (r ≡ found))) (record-said r) $ heard ! (r ≡ found) (λ e. split ! $ move ! (1 ∷ []) $
         -- [what the answer owns; 'a's token; what the reader owns; its cell; the open borrow; obs; auth; true; _4; …; _3; …; _2; …; _1; …; _0; …]
         peeks ! S.the-row (Is S.the-row) (shows 𝓤 H A S.the-row) r (u ∷ []) (λ is.
@@ -199,14 +199,14 @@ module _ {M : Type 1} (𝓤 : URA M) (H : Heap 𝓤) (A : Atoms 𝓤) (W : Given
         keep ! (1 ∷ 2 ∷ 3 ∷ 4 ∷ 0 ∷ []) $ by ! (exits r e))))))))))))
 
 module _ {M : Type 1} (𝓤 : URA M) (H : Heap 𝓤) (A : Atoms 𝓤) (W : Given 𝓤 H A) (at-mem : Memory → SProp 𝓤) (run : Routine → Fun 𝓤) where
-  next-record-walks : (C : Calls 𝓤 H) (Λ : Loops 𝓤 H) → FmC 𝓤 H (W .laws) C → Triple 𝓤 (C #record-at) (RecordAt 𝓤 H A at-mem run)
+  next-record-walks : (C : Calls 𝓤 H) (Λ : Loops 𝓤 H) → FmC 𝓤 H (W .laws) C → Triple 𝓤 (C #line-taken) (RecordAt 𝓤 H A at-mem run)
       → Walks 𝓤 H A next-record.ended stayed (WpFn 𝓤 H C Λ code.function) (next-record.clauses 𝓤 H A at-mem run)
   next-record-walks C Λ fm known =
       walked 𝓤 H A next-record.ended stayed (next-record.clauses 𝓤 H A at-mem run) (WpFn 𝓤 H C Λ code.function) (λ κs. (ptr-vals, tt)) (λ κs. (mut-tells (named 0) (κs .0) (B (κs .1 .0)), tt))
       (λ κs qs bounds a g are. via 𝓤 _ (fst∗ 𝓤 _ (emp 𝓤)) (walk 𝓤 H A W at-mem run (κs .0) (κs .1 .0) (qs .0) (qs .1 .0) bounds (a .0 .ptr .0) (a .0 .ptr .1) (a .0 .name) (a .0 .now) C Λ fm known))
 
 next-record-meets : {M : Type 1} (𝓤 : URA M) (H : Heap 𝓤) (A : Atoms 𝓤) (W : Given 𝓤 H A) (at-mem : Memory → SProp 𝓤) (run : Routine → Fun 𝓤) (𝓣 : Tables 𝓤 H)
-    → Triple 𝓤 (𝓣 .C #record-at) (RecordAt 𝓤 H A at-mem run)
+    → Triple 𝓤 (𝓣 .C #line-taken) (RecordAt 𝓤 H A at-mem run)
     → Meets 𝓤 H A next-record.signature (WpFn 𝓤 H (𝓣 .C) (𝓣 .Λ) code.function) (next-record.spec 𝓤 H A at-mem run)
 next-record-meets 𝓤 H A W at-mem run 𝓣 known =
     walk-meets 𝓤 H A next-record.ended stayed W (goes-ref 𝓤 H A W 2 0 tt behind, tt) (next-record.clauses 𝓤 H A at-mem run) (WpFn 𝓤 H (𝓣 .C) (𝓣 .Λ) code.function) (WpFn-mono 𝓤 H (W .laws) 𝓣 code.function)
@@ -218,4 +218,4 @@ next-record-spec 𝓤 H 𝓜 𝓖 𝓡 =
     entered 𝓤 H (tripleOf 𝓤 H (𝓖 .A) next-record.signature (next-record.spec 𝓤 H (𝓖 .A) (𝓜 .mem) (𝓡 .run)))
     (tables 𝓤 H 𝓜 𝓡 code.env .C) (tables 𝓤 H 𝓜 𝓡 code.env .Λ) #next-record code.function (code.unfolded 𝓤 H 𝓜 𝓡)
     (next-record-meets 𝓤 H (𝓖 .A) (givenOf 𝓤 H 𝓜 𝓖) (𝓜 .mem) (𝓡 .run) (tablesOf 𝓤 H 𝓜 (tables 𝓤 H 𝓜 𝓡 code.env))
-    (cited 𝓤 H (RecordAt 𝓤 H (𝓖 .A) (𝓜 .mem) (𝓡 .run)) 𝓜 𝓡 code.env #record-at record-at-def.routine code.calls-report·short·record-at (record-at-thm.met 𝓤 H 𝓜 𝓖 𝓡)))
+    (cited 𝓤 H (RecordAt 𝓤 H (𝓖 .A) (𝓜 .mem) (𝓡 .run)) 𝓜 𝓡 code.env #line-taken line-taken-def.routine code.calls-report·short·line-taken (line-taken-thm.met 𝓤 H 𝓜 𝓖 𝓡)))

@@ -3,9 +3,7 @@ use borrow.Author.Needs.{needs}
 use mathlib.Core.Path.{sym, _∙_}
 use Prim.Native.Nat.{_≤_}
 use native.Mathlib.Omega.{arith}
-use lib.ListN.{length}
 use borrow.Author.Tests.{not-false}
-use Rattle.text.specs.Printing.{decimal}
 use Rattle.text.proofs.Digits.{decimal-fits}
 use Rattle.text.proofs.Tasks.{says-task}
 use Rattle.report.proofs.short.task_at.Statement.{statement}

@@ -1,13 +1,13 @@
 -- What is held is written over with itself and as much of the part as there is room for.
 use native.Mathlib.Omega.{arith}
 use lib.ListN.{length-take}
-use Rattle.text.proofs.Held.{counted, holds}
+use Rattle.text.proofs.Held.{length-taken, holds}
 use borrow.Author.Needs.{needs}
 use Rattle.report.proofs.streaming.hold.Statement.{statement}
 use Rattle.report.proofs.streaming.hold.Tie as tie
 
 slice-aggregate-put-bytes : tie.Need-slice-aggregate-put-bytes
-slice-aggregate-put-bytes c = counted _ _ (c .before .before .least .ensures .1)
+slice-aggregate-put-bytes c = length-taken _ _ (c .before .before .least .ensures .1)
 
 put-bytes-requires : tie.Need-put-bytes-requires
 put-bytes-requires c κs =

@@ -4,7 +4,7 @@ use native.Mathlib.Nat.{zero-add}
 use native.Mathlib.Omega.{arith}
 use lib.Dec.{leb}
 use borrow.Author.Tests.{le-leb, lt-leb}
-use Rattle.text.proofs.Held.{counted}
+use Rattle.text.proofs.Held.{length-taken}
 use borrow.Author.Needs.{needs}
 use Rattle.report.proofs.streaming.holds_open.Statement.{statement}
 use Rattle.report.proofs.streaming.holds_open.Tie as tie
@@ -16,7 +16,7 @@ returns-2 : tie.Need-returns-2
 returns-2 c = rw (le-leb _ _ (c .before .if1 .left), lt-leb _ _ (c .if2 .taken))
 
 slice-aggregate-line-end : tie.Need-slice-aggregate-line-end
-slice-aggregate-line-end c = counted _ _ (omega (arith, c .before .if2 .left, c .before .before .if1 .left))
+slice-aggregate-line-end c = length-taken _ _ (omega (arith, c .before .if2 .left, c .before .before .if1 .left))
 
 returns-3 : tie.Need-returns-3
 returns-3 c =

@@ -3,7 +3,7 @@ use native.Mathlib.Omega.{arith}
 use lib.ListN.{take, length-take}
 use mathlib.Core.List.{_++_}
 use Rattle.text.proofs.Wrote.{as-long}
-use Rattle.text.proofs.Held.{counted, held-fits, still-fits, first-without, joined-fits, joined-answered}
+use Rattle.text.proofs.Held.{length-taken, held-fits, still-fits, first-without, joined-fits, joined-answered}
 use borrow.Author.Needs.{needs}
 use Rattle.report.proofs.streaming.put_first.Statement.{statement}
 use Rattle.report.proofs.streaming.put_first.Tie as tie
@@ -11,7 +11,7 @@ use Rattle.report.proofs.streaming.put_first.Tie as tie
 slice-aggregate-put-bytes-2 : tie.Need-slice-aggregate-put-bytes-2
 slice-aggregate-put-bytes-2 c =
     let start = c .before .before .before .before .before in
-    counted _ _ (omega (arith, start .pre .0 .short, start .pre .0 .holds))
+    length-taken _ _ (omega (arith, start .pre .0 .short, start .pre .0 .holds))
 
 put-bytes-requires : tie.Need-put-bytes-requires
 put-bytes-requires c κs =
@@ -21,7 +21,7 @@ put-bytes-requires c κs =
 slice-aggregate-hold-2 : tie.Need-slice-aggregate-hold-2
 slice-aggregate-hold-2 c =
     let start = c .before .before .before .before .before .before .before .before .before in
-    counted _ _ (omega (arith, start .pre .3))
+    length-taken _ _ (omega (arith, start .pre .3))
 
 hold-requires : tie.Need-hold-requires
 hold-requires c κs =
@@ -42,7 +42,7 @@ slice-aggregate-put-lines c =
     let at-hold = c .before .before .before in
     let at-put-bytes = at-hold .before .before .before .before in
     let start = at-put-bytes .before .before .before .before .before .before in
-    counted _ _ (held-fits (at-put-bytes .put-bytes .last .0) (take (at-put-bytes .put-bytes .result) (at-put-bytes .put-bytes .last .0) ++ take (start .args .e) (start .args .piece .now)) (at-hold .hold .ensures .0) (at-hold .hold .ensures .1) (still-fits (at-put-bytes .put-bytes .ensures) (omega arith)))
+    length-taken _ _ (held-fits (at-put-bytes .put-bytes .last .0) (take (at-put-bytes .put-bytes .result) (at-put-bytes .put-bytes .last .0) ++ take (start .args .e) (start .args .piece .now)) (at-hold .hold .ensures .0) (at-hold .hold .ensures .1) (still-fits (at-put-bytes .put-bytes .ensures) (omega arith)))
 
 put-lines-requires : tie.Need-put-lines-requires
 put-lines-requires c κs =

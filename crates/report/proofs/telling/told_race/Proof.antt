@@ -9,11 +9,11 @@ use Rattle.report.proofs.telling.told_race.Tie as tie
 
 returns : tie.Need-returns
 unfolding allBelow
-returns c = rw (c .before .before .if1 .taken) (told-so (bytes "known") (bytes "  ") _ _ _ (c .told .ensures) refl refl)
+returns c = rw (c .before .before .if1 .taken) (told-so (bytes "known") (bytes "  ") _ _ _ (c .told-by-word .ensures) refl refl)
 
 returns-2 : tie.Need-returns-2
 unfolding allBelow
-returns-2 c = rw (c .before .before .if1 .left) (told-so (bytes "race") (bytes "   ") _ _ _ (c .told2 .ensures) refl refl)
+returns-2 c = rw (c .before .before .if1 .left) (told-so (bytes "race") (bytes "   ") _ _ _ (c .told-by-word2 .ensures) refl refl)
 
 pub told-race-spec : {M : Type 1} → statement M
 told-race-spec = tie.close (tie.spec (λ c κs. search needs) returns (λ c κs. search needs) returns-2)

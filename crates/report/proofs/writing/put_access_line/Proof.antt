@@ -2,50 +2,50 @@
 use native.Mathlib.Omega.{arith}
 use borrow.Author.Needs.{needs}
 use Rattle.text.specs.Printing.{lastDigits}
-use Rattle.text.specs.Words.{bytesOf}
+use Rattle.text.specs.Words.{littleBytes}
 use Rattle.text.proofs.Lengths.{length-access-part}
 use Rattle.text.proofs.Words.{line-covered}
 use Rattle.report.proofs.writing.put_access_line.Statement.{statement}
 use Rattle.report.proofs.writing.put_access_line.Tie as tie
 
 put-access-part-requires : tie.Need-put-access-part-requires
-unfolding lastDigits bytesOf
+unfolding lastDigits littleBytes
 put-access-part-requires c κs =
     let start = c .before .before in
     let a = start .args in omega (arith, start .pre .0, length-access-part (a .j .number) (a .r .task) (a .r .on))
 
 put-bytes-requires : tie.Need-put-bytes-requires
-unfolding lastDigits bytesOf
+unfolding lastDigits littleBytes
 put-bytes-requires c κs =
     let start = c .before .before .before .before .before .before .before in
     let a = start .args in omega (arith, start .pre .0, length-access-part (a .j .number) (a .r .task) (a .r .on))
 
 put-eight-requires : tie.Need-put-eight-requires
-unfolding lastDigits bytesOf
+unfolding lastDigits littleBytes
 put-eight-requires c κs =
     let start = c .before .before .before .before .before .before .before .before .before .before .before in
     let a = start .args in omega (arith, start .pre .0, length-access-part (a .j .number) (a .r .task) (a .r .on))
 
 add-put-bytes : tie.Need-add-put-bytes
-unfolding lastDigits bytesOf
+unfolding lastDigits littleBytes
 add-put-bytes c =
     let start = c .before .before .before .before .before .before .before .before .before .before .before .before .before .before .before .before in
     let a = start .args in omega (arith, start .pre .0, length-access-part (a .j .number) (a .r .task) (a .r .on))
 
 put-bytes-requires-2 : tie.Need-put-bytes-requires-2
-unfolding lastDigits bytesOf
+unfolding lastDigits littleBytes
 put-bytes-requires-2 c κs =
     let start = c .before .before .before .before .before .before .before .before .before .before .before .before .before .before .before .before .before in
     let a = start .args in omega (arith, start .pre .0, length-access-part (a .j .number) (a .r .task) (a .r .on))
 
 put-number-requires : tie.Need-put-number-requires
-unfolding lastDigits bytesOf
+unfolding lastDigits littleBytes
 put-number-requires c κs =
     let start = c .before .before .before .before .before .before .before .before .before .before .before .before .before .before .before .before .before .before .before .before .before in
     let a = start .args in omega (arith, start .pre .0, length-access-part (a .j .number) (a .r .task) (a .r .on))
 
 put-bytes-requires-3 : tie.Need-put-bytes-requires-3
-unfolding lastDigits bytesOf
+unfolding lastDigits littleBytes
 put-bytes-requires-3 c κs =
     let at-number = c .before .before .before .before in
     let at-with = at-number .before .before .before .before in

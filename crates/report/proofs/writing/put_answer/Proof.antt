@@ -8,7 +8,7 @@ use borrow.Author.Needs.{needs}
 use Rattle.text.specs.LineForm.{digits}
 use Rattle.text.specs.Printing.{decimal}
 use Rattle.text.proofs.Digits.{decimal-fits}
-use Rattle.text.proofs.Wrote.{wrote-nothing, at-most}
+use Rattle.text.proofs.Wrote.{wrote-nothing, at-most-bytes}
 use Rattle.text.proofs.Lengths.{access-line-fits}
 use Rattle.report.proofs.Judging.{not-case}
 use Rattle.report.proofs.writing.put_answer.Statement.{statement}
@@ -18,7 +18,7 @@ returns : tie.Need-returns
 returns c = rw (c .before .before .before .before .before .a .given .1) (c .before .before .put-refused .ensures)
 
 returns-2 : tie.Need-returns-2
-returns-2 c = rw (c .enum-told .given .1) (at-most wrote-nothing (lit≤ tt))
+returns-2 c = rw (c .enum-told .given .1) (at-most-bytes wrote-nothing (lit≤ tt))
 
 told-answer-requires : tie.Need-told-answer-requires
 told-answer-requires c κs =
@@ -40,7 +40,7 @@ returns-3 c =
     let at-line = c .before .before in
     let start = at-line .before .before .before .before .before .before in
     let s = at-line .before .told-answer .ensures (start .args .line) in
-    rw (s .is) (at-most (at-line .put-access-line .ensures (s .verdict) (s .opens)) (access-line-fits _ _ _ _ _ (start .pre .1) (start .pre .2) (omega (arith, s .opens .long, s .most))))
+    rw (s .is) (at-most-bytes (at-line .put-access-line .ensures (s .verdict) (s .opens)) (access-line-fits _ _ _ _ _ (start .pre .1) (start .pre .2) (omega (arith, s .opens .long, s .most))))
 
 pub put-answer-spec : {M : Type 1} → statement M
 put-answer-spec =

@@ -4,7 +4,7 @@ use mathlib.Core.Path.{_≡_}
 use borrow.Author.Needs.{needs}
 use lib.ListN.{length, take}
 use Rattle.text.specs.Wrote.{Wrote}
-use Rattle.text.proofs.Wrote.{wrote-none, one-more, wrote-all}
+use Rattle.text.proofs.Wrote.{wrote-none, one-more-byte, wrote-all}
 use Rattle.report.proofs.writing.put_bytes.Statement.{statement}
 use Rattle.report.proofs.writing.put_bytes.Tie as tie
 
@@ -18,7 +18,7 @@ loop-holds : tie.Need-loop-holds Inv-loop μ-loop
 loop-holds c = (search needs, search needs, wrote-none (c .args .bytes .now))
 
 loop-again : tie.Need-loop-again Inv-loop μ-loop
-loop-again c = (search needs, search needs, one-more _ (c .before .loop-test .taken) (c .before .before .loop .inv .2))
+loop-again c = (search needs, search needs, one-more-byte _ (c .before .loop-test .taken) (c .before .before .loop .inv .2))
 
 returns : tie.Need-returns Inv-loop μ-loop
 returns c = wrote-all _ (c .loop-test .left) (c .before .loop .inv .2)

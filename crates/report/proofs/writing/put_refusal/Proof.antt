@@ -2,7 +2,7 @@
 use native.Mathlib.Omega.{arith}
 use borrow.Author.Needs.{needs}
 use Rattle.text.specs.ReportLines.{refusedAs}
-use Rattle.text.proofs.Wrote.{_then_, at-most}
+use Rattle.text.proofs.Wrote.{_then_, at-most-bytes}
 use Rattle.text.proofs.Digits.{decimal-fits}
 use Rattle.text.proofs.Lengths.{refused-fits}
 use Rattle.report.proofs.writing.put_refusal.Statement.{statement}
@@ -33,7 +33,7 @@ returns c =
     let a = b .before .before .before .before .before in
     let z = a .before .before .before .before in
     let s = z .before .before .before .before in
-    at-most
+    at-most-bytes
     (z .put-bytes .ensures then a .put-decimal .ensures then b .put-bytes2 .ensures then d .put-decimal2 .ensures
     then e .put-bytes3 .ensures)
     (refused-fits (s .args .name .now) (s .args .line) (s .args .number) (s .pre .1) (omega arith) (omega arith))

@@ -1,5 +1,4 @@
 -- A task's bit, or none.
-use mathlib.Core.Path.{_∙_}
 use borrow.Author.Tests.{lt-ltb, le-ltb}
 use borrow.Author.Needs.{needs}
 use Rattle.settle.proofs.argument.bit_of.Statement.{statement}

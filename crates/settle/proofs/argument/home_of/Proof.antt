@@ -1,5 +1,5 @@
 -- Argument by argument.
-use Prim.Native.Nat.{_≤_, _-_}
+use Prim.Native.Nat.{_-_}
 use borrow.Author.Needs.{needs}
 use Rattle.settle.proofs.argument.home_of.Statement.{statement}
 use Rattle.settle.proofs.argument.home_of.Tie as tie

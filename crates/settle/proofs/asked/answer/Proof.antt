@@ -4,7 +4,7 @@ use Prim.Native.Nat.{_≤_}
 use native.Mathlib.Omega.{arith}
 use lib.ListN.{length}
 use Rattle.text.specs.Stream.{heldMost}
-use Rattle.settle.proofs.Parts.{as-long}
+use Rattle.text.proofs.Held.{length-taken}
 use borrow.Author.Needs.{needs}
 use Rattle.settle.proofs.asked.answer.Statement.{statement}
 use Rattle.settle.proofs.asked.answer.Tie as tie
@@ -30,7 +30,7 @@ array-share-prefix-line c =
 
 -- and is as long as it is asked to be
 slice-aggregate-said : tie.Need-slice-aggregate-said Inv-loop μ-loop
-slice-aggregate-said c = as-long _ _ (array-share-prefix-line (c .before))
+slice-aggregate-said c = length-taken _ _ (array-share-prefix-line (c .before))
 
 loop-again : tie.Need-loop-again Inv-loop μ-loop
 loop-again c =

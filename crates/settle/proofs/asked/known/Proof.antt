@@ -1,6 +1,5 @@
 -- By whether a line has ended.
 use borrow.Author.Tests.{eq-eqb, ne-eqb}
-use borrow.Author.Needs.{needs}
 use Rattle.settle.proofs.asked.known.Statement.{statement}
 use Rattle.settle.proofs.asked.known.Tie as tie
 

@@ -1,15 +1,15 @@
 -- What is written lies in the report's memory.
 use native.Mathlib.Omega.{arith}
 use borrow.Author.Needs.{needs}
-use Rattle.settle.proofs.Parts.{as-long}
+use Rattle.text.proofs.Held.{length-taken}
 use Rattle.settle.proofs.showing.show_line.Statement.{statement}
 use Rattle.settle.proofs.showing.show_line.Tie as tie
 
 slice-aggregate-write-all : tie.Need-slice-aggregate-write-all
-slice-aggregate-write-all c = as-long _ _ (omega (arith, c .before .before .if2 .left))
+slice-aggregate-write-all c = length-taken _ _ (omega (arith, c .before .before .if2 .left))
 
 slice-aggregate-write-all-2 : tie.Need-slice-aggregate-write-all-2
-slice-aggregate-write-all-2 c = as-long _ _ (omega (arith, c .before .before .before .if2 .left))
+slice-aggregate-write-all-2 c = length-taken _ _ (omega (arith, c .before .before .before .if2 .left))
 
 pub show-line-spec : {M : Type 1} → statement M
 show-line-spec =

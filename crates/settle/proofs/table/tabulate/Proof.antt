@@ -4,7 +4,7 @@ use Prim.Native.Nat.{_≤_}
 use native.Mathlib.Omega.{arith}
 use lib.ListN.{length}
 use Rattle.text.specs.Stream.{heldMost}
-use Rattle.settle.proofs.Parts.{as-long}
+use Rattle.text.proofs.Held.{length-taken}
 use borrow.Author.Needs.{needs}
 use Rattle.settle.proofs.table.tabulate.Statement.{statement}
 use Rattle.settle.proofs.table.tabulate.Tie as tie
@@ -23,7 +23,7 @@ array-share-prefix-line c =
     omega (arith, c .without-lf .ensures, at-read .read-on .ensures .1, at-read .read-on .kept .1 .0, at-read .before .before .before .before .before .loop .inv .4)
 
 slice-aggregate-said : tie.Need-slice-aggregate-said Inv-loop μ-loop
-slice-aggregate-said c = as-long _ _ (array-share-prefix-line (c .before))
+slice-aggregate-said c = length-taken _ _ (array-share-prefix-line (c .before))
 
 -- the same with its LF
 array-share-prefix-line-2 : tie.Need-array-share-prefix-line-2 Inv-loop μ-loop
@@ -32,7 +32,7 @@ array-share-prefix-line-2 c =
     omega (arith, at-read .read-on .ensures .1, at-read .read-on .kept .1 .0, at-read .before .before .before .before .before .loop .inv .4)
 
 slice-aggregate-report-piece-2 : tie.Need-slice-aggregate-report-piece-2 Inv-loop μ-loop
-slice-aggregate-report-piece-2 c = as-long _ _ (array-share-prefix-line-2 (c .before))
+slice-aggregate-report-piece-2 c = length-taken _ _ (array-share-prefix-line-2 (c .before))
 
 -- the memory of the report and what is held, before the piece and after it
 slice-aggregate-report-piece : tie.Need-slice-aggregate-report-piece Inv-loop μ-loop

@@ -5,7 +5,7 @@ use native.Mathlib.Omega.{arith}
 use lib.ListN.{length}
 use borrow.Author.Needs.{needs}
 use Rattle.text.proofs.Wrote.{_then_}
-use Rattle.totals.specs.Table.{countWidth, rightAligned, countsOf}
+use Rattle.totals.specs.Table.{countWidth, rightAligned, countColumns}
 use Rattle.totals.proofs.Lines.{length-counts}
 use Rattle.totals.proofs.table.put_counts.Statement.{statement}
 use Rattle.totals.proofs.table.put_counts.Tie as tie
@@ -43,7 +43,7 @@ put-padded-requires c κs =
     )
 
 returns : tie.Need-returns
-unfolding countsOf
+unfolding countColumns
 returns c =
     let e = c .before .before in
     let d = e .before .before .before .before .before in

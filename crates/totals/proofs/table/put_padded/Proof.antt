@@ -5,7 +5,7 @@ use mathlib.Core.Path.{_≡_, sym}
 use borrow.Author.Needs.{needs}
 use lib.ListN.{length, take}
 use Rattle.text.specs.Wrote.{Wrote}
-use Rattle.text.proofs.Wrote.{wrote-none, one-more, wrote-all}
+use Rattle.text.proofs.Wrote.{wrote-none, one-more-byte, wrote-all}
 use Rattle.totals.specs.Table.{padded}
 use Rattle.totals.proofs.Aligned.{length-padded}
 use Rattle.totals.proofs.table.put_padded.Statement.{statement}
@@ -33,7 +33,7 @@ loop-again c =
       search needs,
       l .inv .1,
       search needs,
-      rw (c .padded-byte .ensures) (one-more (padded (a .spaces) (a .bytes .now)) (omega arith) (l .inv .3)),
+      rw (c .padded-byte .ensures) (one-more-byte (padded (a .spaces) (a .bytes .now)) (omega arith) (l .inv .3)),
     )
 
 returns : tie.Need-returns Inv-loop μ-loop

@@ -5,7 +5,7 @@ use lib.ListN.{length}
 use borrow.Author.Needs.{needs}
 use Rattle.text.proofs.Wrote.{_then_, wrote-nothing}
 use Rattle.totals.specs.declared.sums.Sums.{Sums}
-use Rattle.totals.specs.Table.{Small, nothingYet, added, allOf, nameWidth, countsOf}
+use Rattle.totals.specs.Table.{Small, nothingYet, added, allOf, nameWidth, countColumns}
 use Rattle.totals.proofs.Aligned.{aligned-fits}
 use Rattle.totals.proofs.Lines.{one-variable, line-none, line-some, counts-fit}
 use Rattle.totals.proofs.table.put_variable.Statement.{statement}
@@ -63,7 +63,7 @@ returns-2 c =
         p .put-aligned .ensures .place,
         q .put-counts .ensures .place,
         aligned-fits nameWidth (s .args .v) (omega arith) (omega (arith, s .fits .v)),
-        ap (λ (r : Sums). length (countsOf r)) e,
+        ap (λ (r : Sums). length (countColumns r)) e,
         counts-fit (added nothingYet (s .args .t)) (record { clear = omega (arith, g); race = omega (arith, g); doubt = omega (arith, g) }),
       ),
     )

@@ -8,13 +8,13 @@ use Rattle.theory.specs.order.Limits.{variables}
 use Rattle.text.specs.Wrote.{Wrote}
 use Rattle.text.proofs.Wrote.{_then_, wrote-nothing}
 use Rattle.totals.specs.Table.{line, sumsBelow, linesBelow}
-use Rattle.totals.proofs.Lines.{Within, Fits32, small, within-more, next-lines, next-sums}
+use Rattle.totals.proofs.Lines.{WithinSums, Fits32, small, sums-within-more, next-lines, next-sums}
 use Rattle.totals.proofs.table.put_variables.Statement.{statement}
 use Rattle.totals.proofs.table.put_variables.Tie as tie
 
 abbrev Inv-loop : tie.InvT-loop
 Inv-loop out₀ at control to₀ sums₀ v₀ out to sums v =
-    (v ≤ variables) × (length out ≡ length out₀) × (to ≤ at + v * line) × Within (v * 2 ^ 32) sums
+    (v ≤ variables) × (length out ≡ length out₀) × (to ≤ at + v * line) × WithinSums (v * 2 ^ 32) sums
     × Wrote out₀ at (linesBelow control v) out to × (sums ≡ sumsBelow control v)
 
 abbrev μ-loop : tie.MeasureT-loop
@@ -38,7 +38,7 @@ loop-again c =
     let a = t .before .before .before .before .before .args in
     let ok = t .totals-of .ok in
     let fits : Fits32 (t .totals-of .result) = record { clear = omega (arith, ok); race = omega (arith, ok); doubt = omega (arith, ok) } in
-    let m = within-more (l .inv .3) fits (c .added-to .ensures) in (
+    let m = sums-within-more (l .inv .3) fits (c .added-to .ensures) in (
       search needs,
       search needs,
       omega (arith, l .inv .2, p .put-variable .ensures .1),

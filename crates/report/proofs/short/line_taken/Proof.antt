@@ -1,17 +1,17 @@
--- `report::short::record_at`: a short line, or the line that begins there. Assumes nothing.
+-- `report::short::line_taken`: a short line, or the line that begins there. Assumes nothing.
 use mathlib.Core.Path.{_≡_, sym, ap, ap₂, _∙_}
 use Prim.Native.Nat.{ℕ}
 use Rattle.text.specs.declared.parsed.Parsed.{Parsed}
 use Rattle.text.specs.LineForm.{parseOf}
 use Rattle.text.specs.Reading.{lineAt, placeAfter, nextAt}
-use Rattle.report.specs.declared.short.Taken.{Taken}
+use Rattle.report.specs.declared.short.LineTaken.{LineTaken}
 use lib.ListN.{length}
 use mathlib.Core.List.{List}
 use borrow.Author.Needs.{needs}
-use Rattle.report.proofs.short.record_at.Statement.{statement}
-use Rattle.report.proofs.short.record_at.Tie as tie
+use Rattle.report.proofs.short.line_taken.Statement.{statement}
+use Rattle.report.proofs.short.line_taken.Tie as tie
 
-abbrev taken : Parsed → ℕ → Taken
+abbrev taken : Parsed → ℕ → LineTaken
 taken r n = record { parsed = r; next = n }
 
 returns : tie.Need-returns
@@ -34,8 +34,8 @@ returns-3 c =
     let start = at-place-after .before .before .before .before .before .before in
     as-read (start .args .text .now) _ (start .args .at) (sym (c .before .r .given .1) ∙ c .before .before .before .parse-line .ensures) (at-place-after .place-after .ensures) (at-place-after .before .line-at .ensures)
 
-pub record-at-spec : {M : Type 1} → statement M
-record-at-spec =
+pub line-taken-spec : {M : Type 1} → statement M
+line-taken-spec =
     tie.close (tie.spec
     (λ c κs. search needs) returns (λ c κs. search needs) (λ c κs. search needs) (λ c κs. search needs) (λ c. search needs) (λ c. search needs)
     returns-2 returns-3)

@@ -8,8 +8,8 @@ use Rattle.theory.specs.history.History.{askers, asker, kindClashes, slot, unde
 use Rattle.theory.specs.tables.Reckonings.{addSlot, clearSlot}
 use Rattle.theory.proofs.basics.Turns.{Turned, no-turn, one-turn, all-turns}
 use borrow.Author.Needs.{needs}
-use Rattle.checker.proofs.sets.keep_anew.Statement.{statement}
-use Rattle.checker.proofs.sets.keep_anew.Tie as tie
+use Rattle.checker.proofs.sets.keep_in_slots.Statement.{statement}
+use Rattle.checker.proofs.sets.keep_in_slots.Tie as tie
 
 abbrev Inv-loop : tie.InvT-loop
 Inv-loop cells₀ kind task v a₀ cells a =
@@ -28,6 +28,6 @@ returns : tie.Need-returns Inv-loop μ-loop
 unfolding underEach
 returns c = all-turns (length askers) (c .before .loop .inv .1) (omega arith) (omega arith)
 
-pub keep-anew-spec : {M : Type 1} → statement M
-keep-anew-spec =
+pub keep-in-slots-spec : {M : Type 1} → statement M
+keep-in-slots-spec =
     tie.close (tie.spec Inv-loop μ-loop loop-holds (λ c κs. search needs) (λ c. search needs) (λ c. search needs) loop-again returns)

@@ -1,13 +1,13 @@
 -- The calls' equations put together.
-use mathlib.Core.Path.{_≡_, sym, _∙_}
+use mathlib.Core.Path.{sym, _∙_}
 use Prim.Native.Nat.{_%_, _^_}
 use Rattle.theory.specs.order.Limits.{tasks}
 use Rattle.theory.proofs.history.Accesses.{kept-access}
 use Rattle.theory.proofs.tables.Bits.{halved-empty}
 use Rattle.theory.proofs.totals.Counted.{told-verdict}
 use borrow.Author.Needs.{needs}
-use Rattle.checker.proofs.acting.take_in.Statement.{statement}
-use Rattle.checker.proofs.acting.take_in.Tie as tie
+use Rattle.checker.proofs.acting.take_access.Statement.{statement}
+use Rattle.checker.proofs.acting.take_access.Tie as tie
 
 returns : tie.Need-returns
 returns c =
@@ -23,5 +23,5 @@ returns c =
       c .keep .ensures ∙ sym (kept-access (a .kind) (a .task .0) (a .v .0) (a .number .0) (a .last .now) (p .0 .is-access)),
     )
 
-pub take-in-spec : {M : Type 1} → statement M
-take-in-spec = tie.close (tie.spec (λ c κs. search needs) (λ c κs. search needs) (λ c κs. search needs) returns)
+pub take-access-spec : {M : Type 1} → statement M
+take-access-spec = tie.close (tie.spec (λ c κs. search needs) (λ c κs. search needs) (λ c κs. search needs) returns)

@@ -1,10 +1,10 @@
--- `report::parsing::act`: the record is made of what the two fields say. Assumes nothing.
+-- `report::parsing::parse_act`: the record is made of what the two fields say. Assumes nothing.
 use mathlib.Core.Path.{sym, _∙_}
 use lib.Seq.{length-take-le}
 use borrow.Author.Needs.{needs}
 use Rattle.text.proofs.LineForm.{act-no-task, act-no-on, act-whole}
-use Rattle.report.proofs.parsing.act.Statement.{statement}
-use Rattle.report.proofs.parsing.act.Tie as tie
+use Rattle.report.proofs.parsing.parse_act.Statement.{statement}
+use Rattle.report.proofs.parsing.parse_act.Tie as tie
 
 slice-aggregate-field-2 : tie.Need-slice-aggregate-field-2
 slice-aggregate-field-2 c = sym (length-take-le _ _ (c .before .before .place-of .ensures .1))
@@ -36,8 +36,8 @@ returns-3 c =
     sym (act-whole (a .s .now) (w .place-of .result) (n .past .result) (w .place-of .ensures .0) (n .past .ensures .0) (a .kind) _ _
     (sym (f .field .ensures) ∙ t .task .given .1) (sym (c .before .before .before .field2 .ensures) ∙ c .before .on .given .1))
 
-pub act-spec : {M : Type 1} → statement M
-act-spec =
+pub parse-act-spec : {M : Type 1} → statement M
+parse-act-spec =
     tie.close (tie.spec
     (λ c κs. search needs) (λ c. search needs) slice-aggregate-field-2 (λ c κs. search needs) (λ c. search needs)
     (λ c. search needs) returns (λ c κs. search needs) (λ c. search needs) (λ c. search needs) (λ c. search needs)

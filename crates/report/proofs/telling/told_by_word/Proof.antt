@@ -4,12 +4,12 @@ use native.Mathlib.Omega.{arith}
 use lib.Seq.{take-all}
 use Rattle.text.specs.Bytes.{little}
 use borrow.Author.Needs.{needs}
-use Rattle.report.proofs.telling.told.Statement.{statement}
-use Rattle.report.proofs.telling.told.Tie as tie
+use Rattle.report.proofs.telling.told_by_word.Statement.{statement}
+use Rattle.report.proofs.telling.told_by_word.Tie as tie
 
 returns : tie.Need-returns
 returns c = let a = c .before .before .args in λ i. record { number = a .number; word = (c .eight .ensures ∙ ap little (take-all 8 (a .word .now) (omega arith))) i; len = a .len; partner = a .partner }
 
-pub told-spec : {M : Type 1} → statement M
-told-spec = tie.close (tie.spec
+pub told-by-word-spec : {M : Type 1} → statement M
+told-by-word-spec = tie.close (tie.spec
     (λ c κs. search needs) returns)

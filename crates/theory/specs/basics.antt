@@ -1,0 +1,2 @@
+-- What definitions of every subject use
+pub mod Turns
