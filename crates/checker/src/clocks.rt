@@ -44,7 +44,7 @@ ghost use Rattle.theory.specs.tables.Joining.{acquiredBy, afterAcquiring};
 ghost use Rattle.theory.specs.tables.Reckonings.{clockOwn, maskOf, clockMask, masksBy};
 ghost use Rattle.theory.proofs.history.Accesses.{OfAccess};
 ghost use Rattle.theory.proofs.tables.Bits.{twice};
-ghost use Rattle.theory.proofs.tables.HandOver.{ObjectKind};
+ghost use Rattle.theory.proofs.tables.HandOver.{HandOverKind};
 
 // Where the row of what has acted begins.
 pub(crate) const FIRST_ACTED: usize = ACTED * COLUMNS;
@@ -176,7 +176,7 @@ pub(crate) fn pass_on(cells: &mut Clocks, asked: bool, kind: u8, task: Task, on:
 // Order over a take, give, look or set, in both tables: of the task's row and its object's the one is joined with the other, and what is released in the
 // fullest filling comes to the hub as well. Which row is which is picked without a branch; where nothing is released, the hub is joined with itself.
 pub(crate) fn hand_over(clocks: &mut Clocks, fullclocks: &mut Clocks, kind: u8, task: Task, on: u32)
-    requires { ⌜ ObjectKind kind × Fitting kind (task .0) on ⌝ }
+    requires { ⌜ HandOverKind kind × Fitting kind (task .0) on ⌝ }
     ensures { λ _. ⌜ (now (clocks .exit) ≡ onward max tasks false kind (task .0) on (now (clocks .entry)))
         × (now (fullclocks .exit) ≡ onward max tasks true kind (task .0) on (now (fullclocks .entry))) ⌝ }
 {

@@ -23,7 +23,7 @@ ghost use Rattle.theory.specs.order.Recording.{accesses};
 ghost use Rattle.theory.specs.acceptance.Control.{underIn};
 ghost use Rattle.theory.specs.feeding.Step.{stepOf};
 ghost use Rattle.theory.specs.feeding.Lent.{seen, stateOf, tables};
-ghost use Rattle.theory.proofs.tables.HandOver.{ObjectKind};
+ghost use Rattle.theory.proofs.tables.HandOver.{HandOverKind};
 
 // Feeds an access.
 pub(crate) fn step_access(
@@ -61,7 +61,7 @@ pub(crate) fn step_hand_over(
     fullclocks: &mut Clocks,
     r: Record,
 ) -> Answer
-    requires { ⌜ ObjectKind (r .kind) × (underIn (now control) ≡ false) ⌝ }
+    requires { ⌜ HandOverKind (r .kind) × (underIn (now control) ≡ false) ⌝ }
     ensures { λ a. let t = seen control in let c = seen clocks in let f = seen fullclocks in
         ⌜ ((last : List ℕ) → record { state = stateOf (t .exit) last (c .exit) (f .exit); answer = a } ≡ stepOf (stateOf (t .entry) last (c .entry) (f .entry)) r) ⌝ }
 {

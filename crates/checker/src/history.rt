@@ -5,6 +5,7 @@ use crate::bools::either;
 use crate::bools::picked;
 use theory::ASKERS;
 use theory::ASKING;
+use theory::ASKING_WRITE;
 use theory::COLUMNS;
 use theory::FRESH;
 use theory::History;
@@ -12,7 +13,6 @@ use theory::RecordNumber;
 use theory::Task;
 use theory::VARIABLES;
 use theory::Variable;
-use theory::WRITES;
 ghost use mathlib.Core.Path.{_≡_};
 ghost use mathlib.Core.Bool.{cond};
 ghost use Prim.Native.Nat.{_<_};
@@ -49,7 +49,7 @@ pub(crate) fn is_access(kind: u8) -> bool
 fn conflict(one: usize, other: usize) -> bool
     ensures { λ r. ⌜ (one < length askers → other < length askers → r ≡ clashes (asker one) (asker other)) ⌝ }
 {
-    either(one != other, other == WRITES)
+    either(one != other, other == ASKING_WRITE)
 }
 
 // Whether a record of this kind clashes with the kind of access that has number a: only an access does.
@@ -83,7 +83,7 @@ fn kept_under(asks: usize, a: usize) -> usize
     requires { ⌜ (asks < length askers) × (a < length askers) ⌝ }
     ensures { λ r. ⌜ (r ≡ keptUnder asks a) × (r < length askers) ⌝ }
 {
-    picked(conflict(asks, a), a, WRITES)
+    picked(conflict(asks, a), a, ASKING_WRITE)
 }
 
 // The history after an access: it is kept under each kind that it clashes with.

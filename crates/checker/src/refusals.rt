@@ -42,7 +42,7 @@ ghost use Rattle.theory.specs.basics.Turns.{anyBelow};
 ghost use Rattle.theory.specs.acceptance.Table.{firstRow};
 ghost use Rattle.theory.specs.acceptance.Control.{liveIn, unseenIn, countIn, underIn, heldIn, holdsIn, controlStanding, controlRefusal};
 ghost use Rattle.theory.proofs.acceptance.Plain.{commonRows};
-ghost use Rattle.theory.proofs.tables.HandOver.{ObjectKind};
+ghost use Rattle.theory.proofs.tables.HandOver.{HandOverKind};
 
 // The last number of a kind, and the last mask.
 const LAST_KIND: u8 = KINDS - 1;
@@ -95,7 +95,7 @@ fn no_profile(on: u32) -> bool
 
 // There is no such semaphore, or, where a flag is looked at or set, no such flag.
 pub(crate) fn no_object(kind: u8, on: u32) -> bool
-    requires { ⌜ ObjectKind kind ⌝ }
+    requires { ⌜ HandOverKind kind ⌝ }
     ensures { λ r. ⌜ r ≡ leb (seriesSize kind) on ⌝ }
 {
     match kind {
@@ -123,7 +123,7 @@ fn outside(kind: u8, on: u32) -> bool
 }
 
 // Row 5: no further record is taken.
-fn no_room(control: &Control) -> bool
+fn at_the_limit(control: &Control) -> bool
     ensures { λ r. ⌜ r ≡ leb records (countIn (now (control .entry))) ⌝ }
 {
     RECORDS <= control[COUNT]
@@ -225,7 +225,7 @@ fn mark_refusal(control: &Control, r: Record) -> u32
     if no_mask(r.on) {
         return 4;
     }
-    if no_room(control) {
+    if at_the_limit(control) {
         return 5;
     }
     if names_any_dead(control, r.on) {
@@ -247,7 +247,7 @@ pub(crate) fn common_refusal(control: &Control, task: u32, outside: bool) -> u32
     if outside {
         return 3;
     }
-    if no_room(control) {
+    if at_the_limit(control) {
         return 5;
     }
     if !is_live(control, Task(task)) {

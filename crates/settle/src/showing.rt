@@ -14,7 +14,7 @@ ghost use Rattle.io.specs.Counts.{Counts};
 ghost use Rattle.settle.specs.Table.{commaTask, namedBelow};
 
 // Room for the tasks of a mask: a comma and at most two digits each.
-const ROOM: usize = 3 * TASKS as usize;
+const TASKS_ROOM: usize = 3 * TASKS as usize;
 
 // A byte.
 fn put_byte(out: &mut [u8], at: usize, b: u8) -> usize
@@ -68,7 +68,7 @@ fn show_alone(mask: u16) -> bool {
     if mask == 0 {
         return io::write_all(STDOUT_FILENO, b" alone=none\n");
     }
-    let mut out = [0u8; ROOM];
+    let mut out = [0u8; TASKS_ROOM];
     let n = put_tasks(&mut out, mask);
     if n == 0 {
         return false;

@@ -9,7 +9,6 @@ use native.Mathlib.Omega.{arith}
 use lib.ListN.{length, getD, take, drop, drop-of-length-le, length-drop}
 use lib.Seq.{drop-cons, take-all}
 use borrow.Author.Tests.{lt-ltb, le-ltb, ne-eqb}
-use Rattle.theory.specs.declared.record.Record.{Record}
 use Rattle.theory.specs.order.Recording.{lossMark}
 use Rattle.text.specs.declared.number.Number.{Number}
 use Rattle.text.specs.declared.parsed.Parsed.{Parsed}

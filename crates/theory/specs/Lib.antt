@@ -1,4 +1,4 @@
--- Counting, which every subject uses
+-- Counting, which several subjects use
 pub mod basics
 -- What a reader must believe, term by term as document 01 has it
 pub mod order

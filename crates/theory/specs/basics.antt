@@ -1,2 +1,2 @@
--- What definitions of every subject use
+-- What definitions of several subjects use
 pub mod Turns

@@ -32,7 +32,7 @@ pub const ASKERS: usize = 3;
 pub const ASKING: [u8; ASKERS] = [READ, WRITE, BUMP];
 
 // The number of a write among them.
-pub const WRITES: usize = 1;
+pub const ASKING_WRITE: usize = 1;
 
 // How many kinds there are.
 pub const KINDS: u8 = OWNED + 1;

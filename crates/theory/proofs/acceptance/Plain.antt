@@ -19,7 +19,7 @@ use Rattle.theory.proofs.order.Ops.{no-mark}
 use Rattle.theory.proofs.acceptance.Rows.{OfAct, actRows, act-rows}
 use Rattle.theory.proofs.order.Numbered.{each-access-kind, no-access-kind}
 use Rattle.theory.proofs.tables.Ranges.{access-acts}
-use Rattle.theory.proofs.tables.HandOver.{ObjectKind, a-take, a-give, a-look, a-set}
+use Rattle.theory.proofs.tables.HandOver.{HandOverKind, a-take, a-give, a-look, a-set}
 
 -- the rows that every act has
 abbrev pub commonRows : Standing → ℕ → Bool → List Row
@@ -87,7 +87,7 @@ module _ (control : List ℕ) (task on : ℕ) where
         unskipped = rw not-take;
       }
 
-  pub plain-hand-over : {k : ℕ} → ObjectKind k → underIn control ≡ false → Plainly control k task on
+  pub plain-hand-over : {k : ℕ} → HandOverKind k → underIn control ≡ false → Plainly control k task on
   plain-hand-over a-take u = record { refusal = common (kind take) (op-acts take (lit< tt)) (rw u); noted = rw u; unskipped = rw u }
   plain-hand-over a-give u = record { refusal = common (kind give) (op-acts give (lit< tt)) (rw u); noted = rw u; unskipped = refl }
   plain-hand-over a-look u = record { refusal = common (kind look) (op-acts look (lit< tt)) (rw u); noted = refl; unskipped = refl }

@@ -8,7 +8,7 @@ use lib.ListN.{getD}
 use Rattle.theory.specs.declared.record.Record.{Record}
 use Rattle.theory.specs.declared.state.State.{State}
 use Rattle.theory.specs.order.Limits.{variables}
-use Rattle.theory.specs.order.Recording.{kind, lossMark, accesses}
+use Rattle.theory.specs.order.Recording.{lossMark, accesses}
 use Rattle.theory.specs.acceptance.Table.{Proper}
 use Rattle.theory.specs.acceptance.Control.{controlRefusal, controlAfter}
 use Rattle.theory.specs.verdicts.Verdict.{Verdict, Race, Clear, Doubt}

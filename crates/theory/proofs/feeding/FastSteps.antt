@@ -26,7 +26,7 @@ use Rattle.theory.proofs.history.Accesses.{kept-nowhere}
 use Rattle.theory.proofs.tables.Bits.{Halved}
 use Rattle.theory.proofs.tables.Rows.{same-max}
 use Rattle.theory.proofs.tables.Ranges.{access-acts, access-onward}
-use Rattle.theory.proofs.tables.HandOver.{ObjectKind, a-take, a-give, a-look, a-set}
+use Rattle.theory.proofs.tables.HandOver.{HandOverKind, a-take, a-give, a-look, a-set}
 
 -- The answer by two words, each of them 0 only where the mask in its lower half is, and a partner of the mask that decides
 module _ (last : List ℕ) (k v number full arrived : ℕ) (partner : RecordNumber) {m : ℕ} where
@@ -78,7 +78,7 @@ module _ (control last clocks fullclocks : List ℕ) (task on : ℕ) where
       let l = kept-nowhere (λ s l. set l s (nextNumber control)) k on task last e in
       rw (z, p .unskipped, p .noted, e, m, n, l, ← c, ← f)
 
-  pub handed-step : {k : ℕ} → ObjectKind k → underIn control ≡ false → controlRefusal control (recordOf k task on) ≡ 0 →
+  pub handed-step : {k : ℕ} → HandOverKind k → underIn control ≡ false → controlRefusal control (recordOf k task on) ≡ 0 →
       {c f : List ℕ} → c ≡ onward max tasks false k task on (clockOwn task (nextNumber control) clocks) → f ≡ onward max tasks true k task on (clockOwn task (nextNumber control) fullclocks) →
       record { state = stateOf (counted control) last c f; answer = Accepted (recordNumber (nextNumber control)) } ≡ stepOf (stateOf control last clocks fullclocks) (recordOf k task on)
   handed-step a-take u = by-kind (kind take) refl refl refl (plain-hand-over control task on a-take u)

@@ -1,7 +1,7 @@
 -- F-12 and F-14: each accepted record keeps the profile of owned semaphores, and where the first record is `owned` no verdict is Doubt. Of whatever
 -- accepts by the table, and gives the verdicts of demand 2. Assumes nothing.
 use mathlib.Core.Path.{_≡_, refl, sym, _∙_, ap, subst}
-use mathlib.Core.Bool.{Bool, true, false, _||_, true≢false}
+use mathlib.Core.Bool.{Bool, true, _||_, true≢false}
 use mathlib.Core.Logic.{_↔_, _≢_}
 use mathlib.Core.List.{List, [], _∷_, _++_, append-assoc, append-nil}
 use Prim.Native.Nat.{ℕ, zero, suc}

@@ -36,7 +36,7 @@ use Rattle.theory.proofs.lazy.Longer.{pair-final, final-one, counted-ol
 use Rattle.theory.proofs.lazy.Tracks.{StandsFor, Tracks, path-own}
 use Rattle.theory.proofs.lazy.Passed.{access-plain}
 use Rattle.theory.proofs.lazy.Steps.{asked-for, Lazily}
-use Rattle.theory.proofs.lazy.Followed.{Holds, lazy-keeps, fresh-holds}
+use Rattle.theory.proofs.lazy.Followed.{HoldsLazily, lazy-keeps, fresh-holds}
 
 -- What is told of an access at the end
 
@@ -221,7 +221,7 @@ asks-of q = decided (accesses (q .kind)) refl (at-most (suc (q .task)) tasks) (a
 
 -- what is kept for a record that may end the list is right
 HoldsFor : Record → List Event → List ℕ → Lazy → Type 0
-HoldsFor q = let a = asks-of q in Holds (a .p) (a .t) (a .v) (a .isa) (a .ht)
+HoldsFor q = let a = asks-of q in HoldsLazily (a .p) (a .t) (a .v) (a .isa) (a .ht)
 
 right-before : RightBefore lazyFollower HoldsFor
 unfolding HoldsFor
@@ -252,10 +252,10 @@ access-told rs (an-act o t n a) e h z = rw (event-act o t n) (told-of rs o t n i
     hn : n < variables
     hn = access-on o isa (on-series o (a .fits))
 
-    keeps : Keeps (lazyAfter (question r)) (Holds o t n isa ht)
-    keeps = subst (λ (y : Record). Keeps (lazyAfter y) (Holds o t n isa ht)) (sym (asked-itself o t n isa ht hn)) (lazy-keeps o t n isa ht)
+    keeps : Keeps (lazyAfter (question r)) (HoldsLazily o t n isa ht)
+    keeps = subst (λ (y : Record). Keeps (lazyAfter y) (HoldsLazily o t n isa ht)) (sym (asked-itself o t n isa ht hn)) (lazy-keeps o t n isa ht)
 
-    x : Over (Holds o t n isa ht) [] rs (before lazyFollower rs r)
+    x : Over (HoldsLazily o t n isa ht) [] rs (before lazyFollower rs r)
     x = follows-list keeps rs [] freshControl freshLazy (fresh-holds o t n isa ht)
 
     apart : (u : ℕ) → u < tasks → T (bit ((setReckoning .masks (leftBy setReckoning rs) r) .arrived) u) ↔ RetainedApart HappensBefore (recording rs) (act o t n) o n u

@@ -6,7 +6,7 @@ use lib.Dec.{T}
 use lib.ListN.{replicate, length-replicate}
 use Rattle.theory.specs.declared.record.Record.{Record}
 use Rattle.theory.specs.order.Limits.{tasks}
-use Rattle.theory.specs.order.Recording.{Op, Event, kind, eventOf, isAccess}
+use Rattle.theory.specs.order.Recording.{Op, Event, eventOf, isAccess}
 use Rattle.theory.specs.acceptance.Table.{refusal}
 use Rattle.theory.specs.acceptance.Control.{controlAfter}
 use Rattle.theory.specs.history.History.{slots}
@@ -25,24 +25,24 @@ use Rattle.theory.proofs.lazy.Steps.{asked-for, asking, Lazily, lazily-
 
 module _ (p : Op) (t v : ℕ) (isa : T (isAccess p)) (ht : t < tasks) where
   -- what is kept, and the control table, are right of a recording
-  pub record Holds (es : List Event) (control : List ℕ) (s : Lazy) : Type 0 where
+  pub record HoldsLazily (es : List Event) (control : List ℕ) (s : Lazy) : Type 0 where
     pub last : List ℕ
     pub base : Base es control last
     pub lazily : Lazily p t v isa ht es s
 
-  holds-next : {es : List Event} {control : List ℕ} {s : Lazy} → Holds es control s → (r : Record) → refusal es r ≡ 0 →
-      Holds (es ++ (eventOf r ∷ [])) (controlAfter (r .kind) (r .task) (r .on) control) (recorded (asked-for p t v isa ht) r s)
+  holds-next : {es : List Event} {control : List ℕ} {s : Lazy} → HoldsLazily es control s → (r : Record) → refusal es r ≡ 0 →
+      HoldsLazily (es ++ (eventOf r ∷ [])) (controlAfter (r .kind) (r .task) (r .on) control) (recorded (asked-for p t v isa ht) r s)
   holds-next {es} {control} {s} x r e = let h = shape-of es r e in record { last = _; base = base-next (x .base) h; lazily = of h }
     where
       of : {r : Record} → Shape es r → Lazily p t v isa ht (es ++ (eventOf r ∷ [])) (recorded (asked-for p t v isa ht) r s)
       of (an-act o k n a) = rw (event-act o k n, no-mark o) (lazily-act p t v isa ht es s (x .lazily) o k n (on-series o (a .fits)) (x .base .seen) (x .base .ranged) a)
       of (a-mark k mask m) = lazily-mark p t v isa ht es s (x .lazily) mask
 
-  pub lazy-keeps : Keeps (lazyAfter (asked-for p t v isa ht)) Holds
+  pub lazy-keeps : Keeps (lazyAfter (asked-for p t v isa ht)) HoldsLazily
   lazy-keeps = record { exact = λ h. h .base .control-exact; step = λ h. holds-next h }
 
   -- nothing is kept of the empty recording
-  pub fresh-holds : Holds [] freshControl freshLazy
+  pub fresh-holds : HoldsLazily [] freshControl freshLazy
   unfolding freshLazy
   fresh-holds =
       record {

@@ -114,7 +114,7 @@ other-tests o n = access-kind o ∙ decided (by-test (isAccess o))
     decided (right a) = absurd (n a)
     decided (wrong f) = refl
 
--- the number of an access is a variable: tried out
+-- the series is that of the variables
 abbrev pub isVariable : Series → Bool
 isVariable task = false
 isVariable semaphore = false
@@ -122,6 +122,7 @@ isVariable flag = false
 isVariable variable = true
 isVariable profile = false
 
+-- the number of an access is a variable: tried out
 abbrev on-variable : Kind → Bool
 on-variable (of-op o) = not (isAccess o) || isVariable (series o)
 on-variable of-mark = true

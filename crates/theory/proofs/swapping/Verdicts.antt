@@ -3,7 +3,7 @@ use mathlib.Core.Path.{_≡_, refl, sym, _∙_, ap, subst}
 use mathlib.Core.Bool.{Bool, true, false, cond, true≢false}
 use mathlib.Core.List.{List, [], _∷_, _++_, map, append-assoc, nil≢cons, head-eq-of-cons-eq, tail-eq-of-cons-eq}
 use mathlib.Core.Option.{Option, some}
-use Prim.Native.Nat.{ℕ, zero, suc, _+_}
+use Prim.Native.Nat.{ℕ, zero, suc}
 use native.Mathlib.Omega.{arith}
 use lib.Dec.{T, eqb}
 use lib.ListN.{length, getElem?}
@@ -12,7 +12,7 @@ use Rattle.theory.specs.declared.answer.Answer.{Answer}
 use Rattle.theory.specs.order.Recording.{Op, Event, act, lost, lossMark, opOf, eventOf, ActsIn, acts}
 use Rattle.theory.specs.fillings.Completion.{nothing, rounds}
 use Rattle.theory.specs.acceptance.Table.{refusal, appendUnless}
-use Rattle.theory.specs.verdicts.Search.{Found, partner, judgement, judge, isAccessEvent}
+use Rattle.theory.specs.verdicts.Search.{Found, judgement, judge, isAccessEvent}
 use Rattle.theory.specs.feeding.Meaning.{judges, takes, meaning}
 use Rattle.theory.specs.feeding.Feeding.{acceptedAnswer, answerUnless, answersFrom, AnswersByTable, fed, setFed}
 use Rattle.theory.specs.swapping.Unrelated.{UnrelatedRecords, MissedRecords}

@@ -18,38 +18,38 @@ use Rattle.theory.proofs.tables.Rows.{Same, join-self}
 abbrev pub handsOver : ℕ → Bool
 handsOver k = eqb k (kind take) || (eqb k (kind give) || (eqb k (kind look) || eqb k (kind set)))
 
-pub data ObjectKind : ℕ → Type 0 where
-  a-take : ObjectKind (kind take)
-  a-give : ObjectKind (kind give)
-  a-look : ObjectKind (kind look)
-  a-set : ObjectKind (kind set)
+pub data HandOverKind : ℕ → Type 0 where
+  a-take : HandOverKind (kind take)
+  a-give : HandOverKind (kind give)
+  a-look : HandOverKind (kind look)
+  a-set : HandOverKind (kind set)
 
-pub hands-over : (k : ℕ) → handsOver k ≡ true → ObjectKind k
+pub hands-over : (k : ℕ) → handsOver k ≡ true → HandOverKind k
 hands-over k e = decided (equal k (kind take)) (equal k (kind give)) (equal k (kind look)) (equal k (kind set)) e
   where
     decided : {a b c d : Bool} → Reflects (k ≡ kind take) a → Reflects (k ≡ kind give) b → Reflects (k ≡ kind look) c → Reflects (k ≡ kind set) d →
-        (a || (b || (c || d))) ≡ true → ObjectKind k
-    decided (right q) _ _ _ _ = subst ObjectKind (sym q) a-take
-    decided (wrong _) (right q) _ _ _ = subst ObjectKind (sym q) a-give
-    decided (wrong _) (wrong _) (right q) _ _ = subst ObjectKind (sym q) a-look
-    decided (wrong _) (wrong _) (wrong _) (right q) _ = subst ObjectKind (sym q) a-set
+        (a || (b || (c || d))) ≡ true → HandOverKind k
+    decided (right q) _ _ _ _ = subst HandOverKind (sym q) a-take
+    decided (wrong _) (right q) _ _ _ = subst HandOverKind (sym q) a-give
+    decided (wrong _) (wrong _) (right q) _ _ = subst HandOverKind (sym q) a-look
+    decided (wrong _) (wrong _) (wrong _) (right q) _ = subst HandOverKind (sym q) a-set
     decided (wrong _) (wrong _) (wrong _) (wrong _) e = absurd (true≢false (sym e))
 
 -- such a record is no mark and no access
-pub hand-acts : {k : ℕ} → ObjectKind k → k ≢ lossMark
+pub hand-acts : {k : ℕ} → HandOverKind k → k ≢ lossMark
 hand-acts a-take q = omega arith
 hand-acts a-give q = omega arith
 hand-acts a-look q = omega arith
 hand-acts a-set q = omega arith
 
-pub hand-no-access : {k : ℕ} → ObjectKind k → accesses k ≡ false
+pub hand-no-access : {k : ℕ} → HandOverKind k → accesses k ≡ false
 hand-no-access a-take = refl
 hand-no-access a-give = refl
 hand-no-access a-look = refl
 hand-no-access a-set = refl
 
 -- it is over the flags or over the semaphores
-pub over-semaphores : {k : ℕ} → ObjectKind k → k ≢ kind look → k ≢ kind set → seriesSize k ≡ semaphores
+pub over-semaphores : {k : ℕ} → HandOverKind k → k ≢ kind look → k ≢ kind set → seriesSize k ≡ semaphores
 over-semaphores a-take l s = refl
 over-semaphores a-give l s = refl
 over-semaphores a-look l s = absurd (l refl)
@@ -63,7 +63,7 @@ releases k = eqb k (kind give) || eqb k (kind set)
 abbrev pub objectRow : ℕ → ℕ → ℕ
 objectRow k n = cond (eqb k (kind look) || eqb k (kind set)) (flagRow n) (semaphoreRow n)
 
-pub object-fits : {k t n : ℕ} → ObjectKind k → Fitting k t n → objectRow k n < hub
+pub object-fits : {k t n : ℕ} → HandOverKind k → Fitting k t n → objectRow k n < hub
 object-fits a-take f = let h = f .on-fits in omega arith
 object-fits a-give f = let h = f .on-fits in omega arith
 object-fits a-look f = let h = f .on-fits in omega arith
@@ -93,14 +93,14 @@ module _ {j : ℕ → ℕ → ℕ} (same : Same j) (w t : ℕ) (h : t < tasks) w
   released-alone to b l = rw (le-ltb to tasks l, ← join-self same w t b) (join-self same w t (joinRow j w to t b))
 
   -- the rows by the kind, as they arrived
-  pub handed : {k : ℕ} → ObjectKind k → (n : ℕ) (b : List ℕ) → joinRow j w (cond (releases k) (objectRow k n) t) (cond (releases k) t (objectRow k n)) b ≡ onward j w false k t n b
+  pub handed : {k : ℕ} → HandOverKind k → (n : ℕ) (b : List ℕ) → joinRow j w (cond (releases k) (objectRow k n) t) (cond (releases k) t (objectRow k n)) b ≡ onward j w false k t n b
   handed a-take n b = acquired-alone false (semaphoreRow n) b
   handed a-give n b = released-alone (semaphoreRow n) b (omega arith)
   handed a-look n b = acquired-alone false (flagRow n) b
   handed a-set n b = released-alone (flagRow n) b (omega arith)
 
   -- and in the fullest filling, where what is released goes to the hub as well
-  pub handed-asked : {k : ℕ} → ObjectKind k → (n : ℕ) (b : List ℕ) →
+  pub handed-asked : {k : ℕ} → HandOverKind k → (n : ℕ) (b : List ℕ) →
       joinRow j w hub (cond (releases k) t hub) (joinRow j w (cond (releases k) (objectRow k n) t) (cond (releases k) t (objectRow k n)) b) ≡ onward j w true k t n b
   handed-asked a-take n b = sym (join-self same w hub (joinRow j w t (semaphoreRow n) b)) ∙ acquired-alone true (semaphoreRow n) b
   handed-asked a-give n b = released-asked (semaphoreRow n) b (omega arith)

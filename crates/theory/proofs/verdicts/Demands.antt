@@ -13,7 +13,7 @@ use Rattle.theory.specs.order.Path.{Conflict, conflict}
 use Rattle.theory.specs.fillings.Completion.{Filled, done, keep, Completion, place, nothing, rounds, fullest}
 use Rattle.theory.specs.verdicts.Verdict.{Verdict, Race, Clear, Doubt, AccessAt, Earlier, Latest, Racy, Unordered, Partner, ApartInAll, ApartAsArrived, With, clear, race, doubt}
 use Rattle.theory.specs.verdicts.Demands.{Always, Never, Firm, Demand2, Demand3}
-use Rattle.theory.specs.verdicts.Search.{Found, partner, judgement, judge, judgeAt, verdictAt}
+use Rattle.theory.specs.verdicts.Search.{Found, judgement, judge, judgeAt, verdictAt}
 use Rattle.theory.proofs.order.Places.{Ends, ends, onward, at-ends}
 use Rattle.theory.proofs.fillings.Bounds.{arrived-completes, fullest-completes, path-survives, path-most, path-arrived, apart-as-arrived, apart-in-all}
 use Rattle.theory.proofs.verdicts.Latest.{latest-as-arrived, latest-in-completion}

@@ -22,7 +22,7 @@ past-1 : (c : tie.Else1) → Past 1 (c .before .before)
 past-1 c = entered (c .before .before) ∙ rw (sym (c .before .no-mask .ensures) ∙ c .if1 .left)
 
 past-2 : (c : tie.Else2) → Past 2 (c .before .before .before .before)
-past-2 c = past-1 (c .before .before) ∙ rw (sym (c .before .no-room .ensures) ∙ c .if2 .left)
+past-2 c = past-1 (c .before .before) ∙ rw (sym (c .before .at-the-limit .ensures) ∙ c .if2 .left)
 
 past-3 : (c : tie.Else3) → Past 6 (c .before .before .before .before .before .before)
 past-3 c = past-2 (c .before .before) ∙ rw (sym (c .before .names-any-dead .ensures) ∙ c .if3 .left)
@@ -31,7 +31,7 @@ returns : tie.Need-returns
 returns c = sym (entered (c .before .before) ∙ rw (sym (c .before .no-mask .ensures) ∙ c .if1 .taken))
 
 returns-2 : tie.Need-returns-2
-returns-2 c = sym (past-1 (c .before .before) ∙ rw (sym (c .before .no-room .ensures) ∙ c .if2 .taken))
+returns-2 c = sym (past-1 (c .before .before) ∙ rw (sym (c .before .at-the-limit .ensures) ∙ c .if2 .taken))
 
 returns-3 : tie.Need-returns-3
 returns-3 c = sym (past-2 (c .before .before) ∙ rw (sym (c .before .names-any-dead .ensures) ∙ c .if3 .taken))
