@@ -1,8 +1,8 @@
 // What is printed of an answer: a line each.
+use requests::Excuse;
+use requests::Pairs;
 use theory::Answer;
-use theory::Excuse;
 use theory::Masks;
-use theory::Pairs;
 
 pub(crate) fn line(text: &[u8]) {
     io::write_all(1, text);

@@ -16,7 +16,7 @@ fn lent(kind: u8, task: u32, on: u32) -> [u32; 3] {
 
 fn walk(name: &[u8], list: &[[u32; 3]]) {
     line(name);
-    tell_pairs(checker::lazily(list));
+    tell_pairs(lazy_sets::lazily(list));
 }
 
 // A join of a task that has acted, and of one that has not.

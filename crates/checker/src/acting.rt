@@ -2,7 +2,6 @@
 // number of an access is a variable; that of any other act goes on with its kind, which says in clocks.rt, sets.rt and rows.rt what it is.
 use crate::clocks;
 use crate::clocks::clock_words;
-use crate::history::is_access;
 use crate::history::keep;
 use crate::history::renew;
 use crate::masks::Words;
@@ -12,6 +11,7 @@ use crate::sets;
 use crate::sets::note_acted;
 use crate::sets::set_masks;
 use crate::totals::total;
+use basics::is_access;
 use theory::Answer;
 use theory::Clocks;
 use theory::Control;

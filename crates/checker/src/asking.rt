@@ -1,10 +1,10 @@
 // Which tasks' latest conflicting access has no path to an access, asked without feeding it: a mask for the fullest filling and one for
 // the recording as it arrived. Empty for a record that is no access or would be refused.
 use crate::clocks::clock_masks;
-use crate::history::is_access;
 use crate::masks::empty_masks;
-use crate::refusals::refusal;
 use crate::sets::set_masks;
+use acceptance::refusal;
+use basics::is_access;
 use theory::Clocks;
 use theory::Control;
 use theory::History;

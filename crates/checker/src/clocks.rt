@@ -1,20 +1,21 @@
 // Clocks: a table with a row for each node and a column for each task, and one row more that says which tasks have acted. A cell has the
 // number of the task's last record from which order has come to the row's node. One table is for the recording as it arrived, one for the
 // fullest filling.
-use crate::bools::both;
-use crate::bools::either;
-use crate::bools::picked;
-use crate::history::ask_at;
 use crate::history::slot;
 use crate::masks::Words;
 use crate::masks::added_weight;
-use crate::masks::lower_half;
-use crate::rows::acquired_row;
-use crate::rows::is_release;
-use crate::rows::object_row;
-use crate::rows::released_row;
-use crate::rows::semaphore_row;
-use crate::rows::task_row;
+use basics::acquired_row;
+use basics::ask_at;
+use basics::both;
+use basics::either;
+use basics::greater;
+use basics::is_release;
+use basics::lower_half;
+use basics::object_row;
+use basics::picked;
+use basics::released_row;
+use basics::semaphore_row;
+use basics::task_row;
 use theory::ACTED;
 use theory::Acquired;
 use theory::COLUMNS;
@@ -48,12 +49,6 @@ ghost use Rattle.theory.proofs.tables.HandOver.{HandOverKind};
 
 // Where the row of what has acted begins.
 pub(crate) const FIRST_ACTED: usize = ACTED * COLUMNS;
-
-pub(crate) fn greater(a: u32, b: u32) -> u32
-    ensures { λ r. ⌜ r ≡ max a b ⌝ }
-{
-    if a < b { b } else { a }
-}
 
 // What row `from` knows is known to row `to` as well, in one pass: each newer entry is copied, and the answer is whether any was newer.
 fn join_newer(cells: &mut Clocks, to: usize, from: usize) -> bool

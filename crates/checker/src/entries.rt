@@ -1,18 +1,18 @@
 // The faults that a planner has accepted, in the control table: taken in before a recording is fed, and looked at beside each Race.
-use crate::bools::both;
 use crate::clocks::clock_mask;
-use crate::history::is_access;
 use crate::history::latest_number;
-use crate::masks::all_but;
-use crate::masks::lower_half;
-use crate::masks::lowest;
-use crate::masks::weight;
+use basics::all_but;
+use basics::both;
+use basics::is_access;
+use basics::lower_half;
+use basics::lowest;
+use basics::weight;
+use requests::Excuse;
 use theory::COLUMNS;
 use theory::Clocks;
 use theory::Control;
 use theory::ENTRIES;
 use theory::ENTRIES_MOST;
-use theory::Excuse;
 use theory::History;
 use theory::PAIRED;
 use theory::Record;
@@ -28,7 +28,7 @@ ghost use lib.Bits.{bitAnd};
 ghost use Rattle.theory.specs.order.Limits.{tasks, variables, entries};
 ghost use Rattle.theory.specs.order.Recording.{accesses};
 ghost use Rattle.theory.specs.totals.Totals.{controlCells};
-ghost use Rattle.theory.specs.entries.Table.{pairedAt, entryCount, marked, pairs, entriesFull, entered, pairInRange, enters, afterEntry, accessInRange, openTasks, excuseOpen, tablesExcuse};
+ghost use Rattle.requests.specs.entries.Table.{pairedAt, entryCount, marked, pairs, entriesFull, entered, pairInRange, enters, afterEntry, accessInRange, openTasks, excuseOpen, tablesExcuse};
 ghost use Rattle.theory.proofs.history.Accesses.{OfAccess};
 
 // Whether as many entries were taken in as there is room for.

@@ -2,24 +2,25 @@
 // each sort is told apart once, and from there on nothing branches on a kind, a verdict or a direction.
 use crate::acting::access_by_clocks;
 use crate::clocks;
-use crate::control::count;
-use crate::refusals::common_refusal;
-use crate::refusals::no_object;
-use crate::refusals::no_variable;
+use acceptance::admit_plain;
+use acceptance::no_flag;
+use acceptance::no_semaphore;
+use acceptance::no_variable;
 use theory::Answer;
-use theory::COUNT;
 use theory::Clocks;
 use theory::Control;
 use theory::History;
+use theory::LOOK;
 use theory::Record;
-use theory::RecordNumber;
+use theory::SET;
 use theory::Task;
 use theory::Variable;
 ghost use mathlib.Core.Path.{_≡_};
 ghost use mathlib.Core.Bool.{true, false};
 ghost use mathlib.Core.List.{List};
 ghost use Prim.Native.Nat.{ℕ};
-ghost use Rattle.theory.specs.order.Recording.{accesses};
+ghost use lib.Dec.{leb};
+ghost use Rattle.theory.specs.order.Recording.{accesses, seriesSize};
 ghost use Rattle.theory.specs.acceptance.Control.{underIn};
 ghost use Rattle.theory.specs.feeding.Step.{stepOf};
 ghost use Rattle.theory.specs.feeding.Lent.{seen, stateOf, tables};
@@ -36,12 +37,11 @@ pub(crate) fn step_access(
     requires { ⌜ accesses (r .kind) ≡ true ⌝ }
     ensures { λ a. let state = tables control last clocks fullclocks in ⌜ record { state = state .exit; answer = a } ≡ stepOf (state .entry) r ⌝ }
 {
-    let refused = common_refusal(control, r.task, no_variable(r.on));
-    if refused != 0 {
-        return Answer::Refused(refused);
+    let admitted = admit_plain(control, r, no_variable(r.on));
+    if admitted.refused != 0 {
+        return Answer::Refused(admitted.refused);
     }
-    let number = RecordNumber(control[COUNT] + 1);
-    count(control);
+    let number = admitted.number;
     access_by_clocks(
         control,
         last,
@@ -52,6 +52,18 @@ pub(crate) fn step_access(
         Variable(r.on),
         number,
     )
+}
+
+// There is no such semaphore, or, where a flag is looked at or set, no such flag.
+fn no_object(kind: u8, on: u32) -> bool
+    requires { ⌜ HandOverKind kind ⌝ }
+    ensures { λ r. ⌜ r ≡ leb (seriesSize kind) on ⌝ }
+{
+    match kind {
+        LOOK => no_flag(on),
+        SET => no_flag(on),
+        _ => no_semaphore(on),
+    }
 }
 
 // Feeds a take, give, look or set outside the profile. The history is as it was.
@@ -65,12 +77,11 @@ pub(crate) fn step_hand_over(
     ensures { λ a. let t = seen control in let c = seen clocks in let f = seen fullclocks in
         ⌜ ((last : List ℕ) → record { state = stateOf (t .exit) last (c .exit) (f .exit); answer = a } ≡ stepOf (stateOf (t .entry) last (c .entry) (f .entry)) r) ⌝ }
 {
-    let refused = common_refusal(control, r.task, no_object(r.kind, r.on));
-    if refused != 0 {
-        return Answer::Refused(refused);
+    let admitted = admit_plain(control, r, no_object(r.kind, r.on));
+    if admitted.refused != 0 {
+        return Answer::Refused(admitted.refused);
     }
-    let number = RecordNumber(control[COUNT] + 1);
-    count(control);
+    let number = admitted.number;
     let task = Task(r.task);
     clocks::own(clocks, task, number);
     clocks::own(fullclocks, task, number);

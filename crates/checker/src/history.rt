@@ -1,10 +1,10 @@
 // The kept accesses, by the kind that asks: for each kind of access, variable and task the task's latest access to the variable that clashes
 // with one of that kind, by its record number.
-use crate::bools::both;
-use crate::bools::either;
-use crate::bools::picked;
+use basics::ask_at;
+use basics::conflict;
+use basics::is_access;
+use basics::picked;
 use theory::ASKERS;
-use theory::ASKING;
 use theory::ASKING_WRITE;
 use theory::COLUMNS;
 use theory::FRESH;
@@ -16,50 +16,13 @@ use theory::Variable;
 ghost use mathlib.Core.Path.{_≡_};
 ghost use mathlib.Core.Bool.{cond};
 ghost use Prim.Native.Nat.{_<_};
-ghost use lib.Dec.{ltb, eqb};
+ghost use lib.Dec.{eqb};
 ghost use lib.ListN.{length};
 ghost use Rattle.theory.specs.order.Limits.{tasks, variables};
-ghost use Rattle.theory.specs.order.Recording.{Op, kind as number, accesses, numberedKind};
-ghost use Rattle.theory.specs.order.Path.{clashes};
+ghost use Rattle.theory.specs.order.Recording.{Op, kind as number};
 ghost use Rattle.theory.specs.acceptance.Table.{Proper};
-ghost use Rattle.theory.specs.history.History.{askers, asker, askAt, kindClashes, slot, slots, latestNumber, withAccess, emptiedUnder, emptied, lastAfter};
+ghost use Rattle.theory.specs.history.History.{askers, slot, slots, latestNumber, withAccess, emptiedUnder, emptied, lastAfter};
 ghost use Rattle.theory.proofs.history.Accesses.{OfAccess, keptUnder};
-
-// The number of a kind of access among those that ask, and ASKERS for any other kind. Picked and not returned, so that nothing branches on which it is.
-pub(crate) fn ask_at(kind: u8) -> usize
-    ensures { λ r. ⌜ (r ≡ cond (accesses kind) (askAt kind) (length askers)) × (ltb r (length askers) ≡ accesses kind) ⌝ }
-{
-    let asking = ASKING;
-    let mut asks = ASKERS;
-    let mut a = 0;
-    while a < ASKERS {
-        asks = picked(kind == asking[a], a, asks);
-        a += 1;
-    }
-    asks
-}
-
-pub(crate) fn is_access(kind: u8) -> bool
-    ensures { λ r. ⌜ r ≡ accesses kind ⌝ }
-{
-    ask_at(kind) < ASKERS
-}
-
-// The rule of conflict, of two kinds of access by their numbers: they clash, unless they are one kind and no writes.
-fn conflict(one: usize, other: usize) -> bool
-    ensures { λ r. ⌜ (one < length askers → other < length askers → r ≡ clashes (asker one) (asker other)) ⌝ }
-{
-    either(one != other, other == ASKING_WRITE)
-}
-
-// Whether a record of this kind clashes with the kind of access that has number a: only an access does.
-pub(crate) fn clashes(kind: u8, a: usize) -> bool
-    requires { ⌜ a < length askers ⌝ }
-    ensures { λ r. ⌜ r ≡ kindClashes (numberedKind kind) (asker a) ⌝ }
-{
-    let own = ask_at(kind);
-    both(own < ASKERS, conflict(own, a))
-}
 
 // Where it is kept what the kind of access with number a asks of task u, for variable v.
 pub(crate) fn slot(a: usize, v: Variable, u: Task) -> usize

@@ -1,38 +1,25 @@
-// The order checker below the text layer: the code, each function proved against the definitions of crates/theory.
+// The order checker below the text layer, over basics and acceptance: each function proved against a definition of crates/theory or crates/requests.
 mod acting;
 mod asking;
-mod bools;
 mod clocks;
-mod columns;
-mod control;
-mod counters;
 mod entries;
 mod fast_steps;
-mod following;
 mod history;
-mod lazy;
 mod marks;
 mod masks;
-mod refusals;
-mod rows;
 mod running;
 mod sets;
 mod settling;
 mod state;
 mod stepping;
 mod totals;
-mod walking;
 
 pub use asking::apart_by_clocks;
 pub use asking::apart_by_sets;
 pub use clocks::acquire;
-pub use control::is_under;
-pub use control::skipped;
 pub use entries::enter;
 pub use entries::entries_full;
 pub use entries::excuse;
-pub use lazy::lazily;
-pub use refusals::refusal;
 pub use running::feed;
 pub use settling::alone;
 pub use settling::feed_home;

@@ -1,19 +1,18 @@
 // Loss marks in a table of clocks: what the lost records of the tasks that a mark names can acquire and release.
 use crate::clocks::FIRST_ACTED;
-use crate::clocks::greater;
 use crate::clocks::join_with;
 use crate::clocks::put_row;
 use crate::clocks::row_of;
-use crate::masks::lower_half;
-use crate::masks::lowest;
-use crate::rows::acted_after;
-use crate::rows::has_bit;
-use crate::rows::task_row;
+use basics::acted_after;
+use basics::greater;
+use basics::has_bit;
+use basics::lower_half;
+use basics::lowest;
+use basics::task_row;
 use theory::COLUMNS;
 use theory::Clocks;
 use theory::FIRST_SEMAPHORE;
 use theory::HUB;
-use theory::Task;
 ghost use mathlib.Core.Path.{_≡_};
 ghost use Prim.Native.Nat.{_<_, _≤_, _-_, max};
 ghost use lib.Bits.{bitAnd};
@@ -81,7 +80,7 @@ fn note_named(cells: &mut Clocks, mask: u32)
 {
     let mut c = 0;
     while c < COLUMNS {
-        cells[FIRST_ACTED + c] = acted_after(has_bit(mask, Task(c as u32)), cells[FIRST_ACTED + c]);
+        cells[FIRST_ACTED + c] = acted_after(has_bit(mask, c as u32), cells[FIRST_ACTED + c]);
         c += 1;
     }
 }

@@ -1,60 +1,37 @@
 // The tasks that are apart from an access, as masks, and the verdict that they make.
-use crate::bools::either;
 use crate::history::latest_number;
+use basics::MASKS;
+use basics::either;
+use basics::lower_half;
+use basics::lowest;
+use basics::weight;
 use theory::Answer;
 use theory::History;
 use theory::Masks;
 use theory::RecordNumber;
-use theory::TASKS;
 use theory::Task;
 use theory::Variable;
 ghost use mathlib.Core.Path.{_≡_};
 ghost use mathlib.Core.Bool.{true, cond, _||_};
-ghost use Prim.Native.Nat.{_<_, _+_, _*_, _-_, _%_, _^_};
+ghost use Prim.Native.Nat.{_<_, _+_, _*_, _%_, _^_};
 ghost use Rattle.theory.specs.order.Limits.{tasks, variables};
 ghost use Rattle.theory.specs.order.Recording.{accesses};
 ghost use Rattle.theory.specs.basics.Turns.{indicator};
-ghost use Rattle.theory.specs.tables.Reckonings.{wordBits, lowestTask, masksBy};
+ghost use Rattle.theory.specs.tables.Reckonings.{masksBy};
 ghost use Rattle.theory.specs.feeding.Step.{answerByMasks};
 ghost use Rattle.theory.proofs.tables.Bits.{Halved};
-
-// Every mask is below this: it has a bit for each task.
-pub(crate) const MASKS: u32 = 1 << TASKS;
 
 // The lowest bit of a word and that of its upper half.
 const TWICE: u32 = MASKS + 1;
 
-// The bit of weight 2 to the power k.
-pub(crate) fn weight(k: u32) -> u32
-    requires { ⌜ k < wordBits ⌝ }
-    ensures { λ r. ⌜ (r ≡ 2 ^ k) × (r < 2 ^ wordBits) ⌝ }
-{
-    1 << k
-}
-
-// All bits of a word but that of weight 2 to the power k.
-pub(crate) fn all_but(k: u32) -> u32
-    requires { ⌜ k < wordBits ⌝ }
-    ensures { λ r. ⌜ r ≡ 2 ^ wordBits - 1 - 2 ^ k ⌝ }
-{
-    !weight(k)
-}
-
 // What task u adds to a mask that it is in or not: its bit, and again in the upper half of the word. A loop that gathers such weights by `|` is
-// made vector code of; one of single bits, or of sums, is not.
+// made vector code of; one of single bits, or of sums, is not. The lower half, each task's bit once, is taken outside that loop, whose function is called
+// twice and so stays a function: else the compiler drops the upper half from the weights, and makes no vector code.
 pub(crate) fn added_weight(b: bool, u: Task) -> u32
     requires { ⌜ u .0 < tasks ⌝ }
     ensures { λ r. ⌜ r ≡ indicator b * (2 ^ u .0 * 2 ^ tasks + 2 ^ u .0) ⌝ }
 {
     if b { weight(u.0) * TWICE } else { 0 }
-}
-
-// The lower half of the word: each task's bit once. It is taken outside the loop that gathers the weights, whose function is called twice and
-// so stays a function: else the compiler drops the upper half from the weights, and makes no vector code.
-pub(crate) fn lower_half(x: u32) -> u16
-    ensures { λ r. ⌜ r ≡ x % 2 ^ tasks ⌝ }
-{
-    (x % MASKS) as u16
 }
 
 // The masks of a record that is no access.
@@ -65,14 +42,6 @@ pub(crate) fn empty_masks() -> Masks
         full: 0,
         arrived: 0,
     }
-}
-
-// The lowest-numbered task of a mask that is not empty.
-pub(crate) fn lowest(mask: u16) -> Task
-    requires { ⌜ (mask ≡ 0 → ⊥) ⌝ }
-    ensures { λ r. ⌜ (r .0 ≡ lowestTask mask) × (r .0 < tasks) ⌝ }
-{
-    Task(u16::trailing_zeros(mask))
 }
 
 // The masks of an access as words: the lower half of each is the mask, and the word is 0 only where that is.
@@ -94,13 +63,6 @@ fn either_mask(first: bool, one: u16, other: u16) -> u16
     ensures { λ r. ⌜ r ≡ cond first one other ⌝ }
 {
     if first { one } else { other }
-}
-
-// The lowest-numbered task of a mask, and 0 for an empty one.
-fn lowest_or_0(mask: u16) -> Task
-    ensures { λ r. ⌜ ((mask ≡ 0 → ⊥) → r .0 ≡ lowestTask mask) × (r .0 < tasks) ⌝ }
-{
-    Task(u16::trailing_zeros(mask) % TASKS)
 }
 
 fn race_or_doubt(race: bool, number: RecordNumber, partner: RecordNumber) -> Answer
@@ -135,6 +97,6 @@ pub(crate) fn judged(
 {
     let race = words.full != 0;
     let mask = either_mask(race, lower_half(words.full), lower_half(words.arrived));
-    let partner = latest_number(last, kind, v, lowest_or_0(mask));
+    let partner = latest_number(last, kind, v, lowest(mask));
     answer_by(race, words.arrived != 0, number, partner)
 }

@@ -1,23 +1,21 @@
 // Sets: a table with a row for each node and a bit for each kept access, and one row more that says which tasks have acted. A bit is 1
 // where order from the access has come to the row's node, so that a slot's bits are the set of tasks and objects that document 004 grows.
 // One table is for the recording as it arrived, one for the fullest filling. All sets grow together, a row at a time.
-use crate::bools::both;
-use crate::bools::either;
-use crate::history::ask_at;
-use crate::history::clashes;
 use crate::history::latest_number;
 use crate::history::slot;
 use crate::masks::added_weight;
-use crate::masks::all_but;
-use crate::masks::lower_half;
-use crate::masks::weight;
-use crate::rows::acquired_row;
-use crate::rows::acted_after;
-use crate::rows::has_bit;
-use crate::rows::named_row;
-use crate::rows::released_by;
-use crate::rows::released_row;
-use crate::rows::task_row;
+use basics::acquired_row;
+use basics::acted_after;
+use basics::all_but;
+use basics::ask_at;
+use basics::both;
+use basics::clashes;
+use basics::either;
+use basics::has_bit;
+use basics::lower_half;
+use basics::released_row;
+use basics::task_row;
+use basics::weight;
 use theory::ACTED;
 use theory::ASKERS;
 use theory::COLUMNS;
@@ -42,7 +40,8 @@ ghost use Rattle.theory.specs.order.Limits.{tasks, variables};
 ghost use Rattle.theory.specs.order.Recording.{Op, kind as number, numberedKind};
 ghost use Rattle.theory.specs.acceptance.Table.{Fitting};
 ghost use Rattle.theory.specs.history.History.{askers, asker, kindClashes, slot as slotOf, slots, underEach};
-ghost use Rattle.theory.specs.tables.Rows.{actedRow, cell, joinRow, rowOf, joinWith, putRow, flow, noteActed, joinsActed, onward, gather, spread, noteNamed, mix};
+ghost use Rattle.theory.specs.fillings.Completion.{bit};
+ghost use Rattle.theory.specs.tables.Rows.{taskRow, hub, rowCount, actedRow, isReleased, rowOrHub, cell, joinRow, rowOf, joinWith, putRow, flow, noteActed, joinsActed, onward, gather, spread, noteNamed, mix};
 ghost use Rattle.theory.specs.tables.Reckonings.{slotWords, knownSlots, clearSlot, addSlot, setOwn, setMask, masksBy};
 ghost use Rattle.theory.proofs.tables.Reckoned.{apartBy};
 ghost use Rattle.theory.proofs.history.Accesses.{OfAccess};
@@ -130,6 +129,26 @@ fn flow(cells: &mut Sets, asked: bool, acquired: usize, released: usize, task: T
     join_row(cells, HUB, own);
 }
 
+// The row of task t's next act where the mask names it, and the hub where not.
+fn named_row(mask: u32, t: Task) -> usize
+    requires { ⌜ t .0 < tasks ⌝ }
+    ensures { λ q. ⌜ (q ≡ rowOrHub (bit mask (t .0)) (taskRow (t .0))) × (q < rowCount) ⌝ }
+{
+    if has_bit(mask, t.0) { task_row(t) } else { HUB }
+}
+
+// Row r where a mark's lost records can release to it, and the hub where not. The rows before the semaphores' are the tasks', by their numbers.
+fn released_by(mask: u32, r: usize) -> usize
+    requires { ⌜ r < hub ⌝ }
+    ensures { λ q. ⌜ (q ≡ rowOrHub (isReleased mask r) r) × (q < rowCount) ⌝ }
+{
+    if r < FIRST_SEMAPHORE {
+        named_row(mask, Task(r as u32))
+    } else {
+        r
+    }
+}
+
 // What a mark's lost records can acquire comes to the hub.
 fn gather(cells: &mut Sets, mask: u32)
     ensures { λ _. ⌜ now (cells .exit) ≡ gather bitOr slotWords mask (now (cells .entry)) ⌝ }
@@ -159,7 +178,7 @@ fn note_named(cells: &mut Sets, mask: u32)
 {
     let mut c = 0;
     while c < COLUMNS {
-        cells[FIRST_ACTED + c] = acted_after(has_bit(mask, Task(c as u32)), cells[FIRST_ACTED + c]);
+        cells[FIRST_ACTED + c] = acted_after(has_bit(mask, c as u32), cells[FIRST_ACTED + c]);
         c += 1;
     }
 }

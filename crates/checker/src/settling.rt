@@ -2,17 +2,21 @@
 // tasks that it names. And for each task by itself, beside a running state.
 use crate::clocks;
 use crate::clocks::clock_mask;
-use crate::control::note;
-use crate::following::record_at;
-use crate::history::is_access;
 use crate::history::keep_record;
 use crate::marks;
-use crate::masks::MASKS;
 use crate::masks::added_weight;
-use crate::masks::lower_half;
-use crate::masks::weight;
-use crate::refusals::refusal;
-use crate::state::fresh_control;
+use acceptance::admit;
+use acceptance::fresh_control;
+use acceptance::refusal;
+use basics::MASKS;
+use basics::is_access;
+use basics::lower_half;
+use basics::record_at;
+use basics::weight;
+use requests::NEITHER;
+use requests::NO;
+use requests::Settled;
+use requests::YES;
 use theory::CLOCK_CELLS;
 use theory::COUNT;
 use theory::Clocks;
@@ -21,27 +25,24 @@ use theory::HISTORY_CELLS;
 use theory::History;
 use theory::Homes;
 use theory::LOST;
-use theory::NEITHER;
-use theory::NO;
 use theory::Record;
 use theory::RecordNumber;
-use theory::Settled;
 use theory::TASKS;
 use theory::Task;
 use theory::Variable;
-use theory::YES;
 ghost use mathlib.Core.Path.{_≡_};
-ghost use mathlib.Core.List.{[], _∷_, map};
-ghost use Prim.Native.Nat.{_<_, _≤_};
+ghost use mathlib.Core.Bool.{cond};
+ghost use mathlib.Core.List.{List, [], _∷_, map};
+ghost use Prim.Native.Nat.{ℕ, _≤_};
 ghost use lib.ListN.{length, take};
-ghost use Rattle.theory.specs.order.Limits.{records};
+ghost use Rattle.theory.specs.order.Recording.{accesses};
 ghost use Rattle.theory.specs.fillings.Completion.{fills};
 ghost use Rattle.theory.specs.acceptance.Table.{Proper};
-ghost use Rattle.theory.specs.acceptance.Control.{countIn, controlAfter};
 ghost use Rattle.theory.specs.tables.Reckonings.{nextClocks};
+ghost use Rattle.theory.specs.feeding.Step.{nextNumber};
 ghost use Rattle.theory.specs.feeding.Lent.{seen};
-ghost use Rattle.theory.specs.feeding.Following.{recordIn, runOf, followed, ending};
-ghost use Rattle.theory.specs.settling.Fold.{homeOnly, sideOf, sideAfter, neither, settledOf, forcedAt, homeFollower, settles, aloneMask, homesAfter, aloneBefore, homesFed};
+ghost use Rattle.requests.specs.following.Following.{recordIn, runOf, followed, ending};
+ghost use Rattle.requests.specs.settling.Fold.{homeOnly, sideOf, sideAfter, neither, settledOf, forcedAt, homeFollower, settles, aloneMask, homesAfter, aloneBefore, homesFed};
 ghost use Rattle.theory.proofs.history.Accesses.{OfAccess};
 
 // Home has a task at all.
@@ -64,15 +65,12 @@ fn fill_by(cells: &mut Clocks, home: u32, r: Record, number: RecordNumber)
     clocks::pass_on(cells, has_task(home), r.kind, Task(r.task), r.on);
 }
 
-// An accepted record: it is counted, kept and passed on.
-fn take_in(control: &mut Control, last: &mut History, cells: &mut Clocks, home: u32, r: Record)
-    requires { ⌜ Proper (r .kind) (r .task) (r .on) × (countIn (now control) < records) ⌝ }
-    ensures { λ _. let c = seen control in let l = seen last in let s = seen cells in
-        ⌜ (c .exit ≡ controlAfter (r .kind) (r .task) (r .on) (c .entry))
-        × (sideOf (l .exit) (s .exit) ≡ sideAfter home (c .entry) r (sideOf (l .entry) (s .entry))) ⌝ }
+// An accepted record: it is kept and passed on.
+fn take_in(last: &mut History, cells: &mut Clocks, home: u32, r: Record, number: RecordNumber)
+    requires { ⌜ Proper (r .kind) (r .task) (r .on) ⌝ }
+    ensures { λ _. let l = seen last in let s = seen cells in
+        ⌜ ((control : List ℕ) → number .0 ≡ nextNumber control → sideOf (l .exit) (s .exit) ≡ sideAfter home control r (sideOf (l .entry) (s .entry))) ⌝ }
 {
-    let number = RecordNumber(control[COUNT] + 1);
-    note(control, r.kind, r.task, r.on);
     keep_record(last, r.kind, Task(r.task), r.on, number);
     fill_by(cells, home, r, number);
 }
@@ -94,11 +92,11 @@ fn follow_home(
     let mut i = 0;
     while i < upto {
         let r = record_at(list, i);
-        let refused = refusal(control, r);
-        if refused != 0 {
-            return refused;
+        let admitted = admit(control, r);
+        if admitted.refused != 0 {
+            return admitted.refused;
         }
-        take_in(control, last, cells, home, r);
+        take_in(last, cells, home, r, admitted.number);
         i += 1;
     }
     0
@@ -126,6 +124,17 @@ fn is_ordered(last: &History, cells: &Clocks, q: Record) -> Settled
     }
 }
 
+// The answer for an accepted record.
+fn settled_at(last: &History, cells: &Clocks, q: Record) -> Settled
+    requires { ⌜ Proper (q .kind) (q .task) (q .on) ⌝ }
+    ensures { λ r. ⌜ r ≡ cond (accesses (q .kind)) (forcedAt q (sideOf (now (last .entry)) (now (cells .entry)))) (settledOf 0 neither) ⌝ }
+{
+    if is_access(q.kind) {
+        return is_ordered(last, cells, q);
+    }
+    no_answer(0)
+}
+
 // The answer for the last record, by what the records before it came to.
 fn settled_end(
     control: &Control,
@@ -144,10 +153,7 @@ fn settled_end(
     if refused != 0 {
         return no_answer(refused);
     }
-    if is_access(q.kind) {
-        return is_ordered(last, cells, q);
-    }
-    no_answer(0)
+    settled_at(last, cells, q)
 }
 
 // Feeds one record more: the answer is that for the records so far with this one at their end. A refused record leaves every table as it was.
@@ -162,12 +168,12 @@ pub fn feed_home(
         ⌜ (a ≡ ending (homeFollower home) r (runOf 0 (c .entry) (sideOf (l .entry) (s .entry))))
         × (runOf (a .refused) (c .exit) (sideOf (l .exit) (s .exit)) ≡ followed (sideAfter home) (c .entry) (sideOf (l .entry) (s .entry)) (r ∷ [])) ⌝ }
 {
-    let home = home as u32;
-    let answer = settled_end(control, last, cells, home, 0, r);
-    if answer.refused != 0 {
-        return answer;
+    let admitted = admit(control, r);
+    if admitted.refused != 0 {
+        return no_answer(admitted.refused);
     }
-    take_in(control, last, cells, home, r);
+    let answer = settled_at(last, cells, r);
+    take_in(last, cells, home as u32, r, admitted.number);
     answer
 }
 

@@ -1,7 +1,6 @@
 // The states before any record.
-use crate::control::LIVE;
+use acceptance::fresh_control;
 use theory::CLOCK_CELLS;
-use theory::CONTROL_CELLS;
 use theory::Clocks;
 use theory::Control;
 use theory::HISTORY_CELLS;
@@ -11,17 +10,8 @@ use theory::SetState;
 use theory::Sets;
 use theory::State;
 ghost use mathlib.Core.Path.{_≡_};
-ghost use Rattle.theory.specs.feeding.Step.{freshControl, freshState, freshSets};
+ghost use Rattle.theory.specs.feeding.Step.{freshState, freshSets};
 ghost use Rattle.theory.specs.feeding.Lent.{tables, setTables};
-
-// Task 0 is live, the others are unseen, and no record is accepted yet.
-pub(crate) fn fresh_control() -> Control
-    ensures { λ r. ⌜ r ≡ freshControl ⌝ }
-{
-    let mut control = [0u32; CONTROL_CELLS];
-    control[0] = LIVE;
-    control
-}
 
 pub fn fresh() -> State
     ensures { λ r. ⌜ r ≡ freshState ⌝ }

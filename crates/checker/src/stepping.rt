@@ -1,25 +1,21 @@
 // The step over all kinds of records, by the clocks, and the same by the sets. In place, on tables that the caller lends, and by value.
 use crate::acting::act_by_clocks;
 use crate::acting::act_by_sets;
-use crate::bools::both;
-use crate::control::clock_kind;
-use crate::control::is_under;
-use crate::control::note;
 use crate::fast_steps::step_access;
 use crate::fast_steps::step_hand_over;
-use crate::history::is_access;
 use crate::marks;
-use crate::refusals::refusal;
-use crate::rows::hands_over;
 use crate::sets;
+use acceptance::admit;
+use acceptance::is_under;
+use basics::both;
+use basics::hands_over;
+use basics::is_access;
 use theory::Answer;
-use theory::COUNT;
 use theory::Clocks;
 use theory::Control;
 use theory::History;
 use theory::LOST;
 use theory::Record;
-use theory::RecordNumber;
 use theory::SetState;
 use theory::SetStepped;
 use theory::Sets;
@@ -43,21 +39,27 @@ fn step_other(
     requires { ⌜ accesses (r .kind) ≡ false ⌝ }
     ensures { λ a. let state = tables control last clocks fullclocks in ⌜ record { state = state .exit; answer = a } ≡ stepOf (state .entry) r ⌝ }
 {
-    let refused = refusal(control, r);
-    if refused != 0 {
-        return Answer::Refused(refused);
+    let admitted = admit(control, r);
+    if admitted.refused != 0 {
+        return Answer::Refused(admitted.refused);
     }
     let kind = r.kind;
-    let number = RecordNumber(control[COUNT] + 1);
-    let moved = clock_kind(control, kind, r.task, r.on);
-    note(control, kind, r.task, r.on);
+    let number = admitted.number;
     match kind {
         LOST => {
             marks::mix(fullclocks, r.on);
             Answer::Accepted(number)
         }
         _ => {
-            act_by_clocks(last, clocks, fullclocks, moved, Task(r.task), r.on, number);
+            act_by_clocks(
+                last,
+                clocks,
+                fullclocks,
+                admitted.moves,
+                Task(r.task),
+                r.on,
+                number,
+            );
             Answer::Accepted(number)
         }
     }
@@ -95,13 +97,12 @@ pub fn set_step_in_place(
 ) -> Answer
     ensures { λ a. let state = setTables control last sets fullsets in ⌜ record { state = state .exit; answer = a } ≡ setStepOf (state .entry) r ⌝ }
 {
-    let refused = refusal(control, r);
-    if refused != 0 {
-        return Answer::Refused(refused);
+    let admitted = admit(control, r);
+    if admitted.refused != 0 {
+        return Answer::Refused(admitted.refused);
     }
     let kind = r.kind;
-    let number = RecordNumber(control[COUNT] + 1);
-    note(control, kind, r.task, r.on);
+    let number = admitted.number;
     match kind {
         LOST => {
             sets::mix(fullsets, r.on);

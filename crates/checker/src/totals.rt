@@ -1,7 +1,7 @@
 // Totals of verdicts, in the control table: read at any moment, and raised by the step.
-use crate::bools::picked;
-use crate::counters::one_more;
-use crate::counters::raise;
+use basics::one_more;
+use basics::picked;
+use basics::raise;
 use theory::CLEAR_TOTALS;
 use theory::Control;
 use theory::DOUBT_TOTALS;

@@ -1,9 +1,9 @@
 // The lazy reckoning for a host program in C. It keeps nothing between calls. include/order.h has the same function for C.
-use checker::lazily;
+use lazy_sets::lazily;
 ghost use mathlib.Core.Path.{_≡_};
 ghost use mathlib.Core.List.{[], _∷_, map};
-ghost use Rattle.theory.specs.feeding.Following.{recordIn};
-ghost use Rattle.theory.specs.lazy.Fold.{lazily};
+ghost use Rattle.requests.specs.following.Following.{recordIn};
+ghost use Rattle.requests.specs.lazy.Fold.{lazily};
 
 // Writes the answer for a list of records, each its kind, its task and its number: the refusal of its first refused record or 0, the tasks
 // that have a pair with the access that ends it, those from whose access a path leads here, and the records walked.

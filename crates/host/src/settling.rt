@@ -2,8 +2,8 @@
 use checker::settle;
 ghost use mathlib.Core.Path.{_≡_};
 ghost use mathlib.Core.List.{[], _∷_, map};
-ghost use Rattle.theory.specs.feeding.Following.{recordIn};
-ghost use Rattle.theory.specs.settling.Fold.{settles};
+ghost use Rattle.requests.specs.following.Following.{recordIn};
+ghost use Rattle.requests.specs.settling.Fold.{settles};
 
 // Writes the answer for a list of records, each its kind, its task and its number, and a home set: the refusal of the first refused record or 0,
 // and 0 for neither yes nor no, 1 for no, 2 for yes.

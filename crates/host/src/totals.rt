@@ -1,6 +1,6 @@
 // The totals of verdicts and the count of skipped takes, for a host program in C. They lie in the control table of a running state, that of the clocks or that of the sets.
+use acceptance::skipped;
 use checker::any_race;
-use checker::skipped;
 use checker::totals_of;
 use theory::Control;
 ghost use mathlib.Core.Path.{_≡_};

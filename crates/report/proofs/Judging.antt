@@ -11,9 +11,9 @@ use mir.Val.{hasKey}
 use types.Run.{OneOf, miss}
 use Rattle.theory.specs.declared.answer.Answer.{Answer}
 use Rattle.theory.specs.declared.answer.Answer.the-variants.{Refused, Accepted, Clear, Race, Doubt}
-use Rattle.theory.specs.declared.excuse.Excuse.{Excuse}
+use Rattle.requests.specs.declared.excuse.Excuse.{Excuse}
 use Rattle.theory.specs.declared.record.Record.{Record}
-use Rattle.theory.specs.entries.Table.{entryCount, excuseOf, tablesExcuse}
+use Rattle.requests.specs.entries.Table.{entryCount, excuseOf, tablesExcuse}
 use Rattle.theory.specs.feeding.Meaning.{meaning}
 use Rattle.theory.specs.feeding.Step.{answerNumbers}
 use Rattle.theory.proofs.answer.Answer.{the-type}

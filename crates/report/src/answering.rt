@@ -1,8 +1,8 @@
 // Lines answered: each is fed, and what the report has for it is written.
-use crate::reader::read_record;
 use crate::writing::put_answer;
 use crate::writing::put_refused;
 use checker::step_in_place;
+use reading::read_record;
 use text::Parsed;
 use theory::Clocks;
 use theory::Control;

@@ -1,7 +1,5 @@
 // The file of accepted faults, a text that comes in pieces: each line is an entry that is taken into the control table, or is refused. It is
 // short and read once, so that it is read byte by byte.
-use crate::entry_form::parse_entry;
-use crate::scan::LF;
 use crate::sizes::HELD_MOST;
 use crate::streaming::REFUSED;
 use crate::streaming::has_room;
@@ -10,6 +8,8 @@ use crate::writing::put_bytes;
 use crate::writing::put_refusal;
 use checker::enter;
 use checker::entries_full;
+use reading::LF;
+use reading::parse_entry;
 use text::EntryLine;
 use text::Progress;
 use theory::Control;

@@ -1,8 +1,8 @@
 // The C entry: a text and report memory in, the count of bytes written out.
 use crate::answering::put_lines;
-use crate::scan::line_count;
 use crate::sizes::LINE_ROOM;
 use checker::begin;
+use reading::line_count;
 use theory::CLOCK_CELLS;
 use theory::CONTROL_CELLS;
 use theory::HISTORY_CELLS;

@@ -1,6 +1,6 @@
 // Words of eight bytes, which the compiler stores whole: record numbers are most of what a report has, and their digits come about all at once.
-use crate::words::eight;
 use crate::writing::put_plain_number;
+use reading::little_endian;
 ghost use Prim.Native.Nat.{_+_, _^_, _≤_, _<_};
 ghost use mathlib.Core.Path.{_≡_};
 ghost use mathlib.Core.List.{_++_};
@@ -51,7 +51,7 @@ fn number_word(n: u64) -> u64
         + q / 65_536 % 16 * 65_536
         + q / 4_294_967_296 % 16 * 4_294_967_296
         + q / 281_474_976_710_656 % 16 * 281_474_976_710_656;
-    pairs * 256 + eight(b"=0000000", 0) - tens * 2559
+    pairs * 256 + little_endian(b"=0000000") - tens * 2559
 }
 
 // A record number after its `=`, leading zeros included.

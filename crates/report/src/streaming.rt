@@ -1,11 +1,11 @@
 // A text that comes in pieces: each is answered as far as its lines have ended, and what is left of a line is held for the next.
 use crate::answering::Reached;
 use crate::answering::put_lines;
-use crate::scan::line_end;
-use crate::scan::rest_start;
 use crate::sizes::HELD_MOST;
 use crate::sizes::LINE_ROOM;
 use crate::writing::put_bytes;
+use reading::LF;
+use reading::line_end;
 use text::Progress;
 use theory::Clocks;
 use theory::Control;
@@ -14,7 +14,7 @@ ghost use mathlib.Core.Path.{_≡_};
 ghost use mathlib.Core.Bool.{cond};
 ghost use mathlib.Core.List.{_++_};
 ghost use Prim.Native.Nat.{_<_, _≤_, _+_, min};
-ghost use lib.ListN.{length, take, drop};
+ghost use lib.ListN.{length, take};
 ghost use lib.Seq.{sets as written};
 ghost use Rattle.theory.specs.feeding.Lent.{seen, tables};
 ghost use Rattle.text.specs.Lines.{lineEnd};
@@ -51,7 +51,7 @@ fn put_first(
     clocks: &mut Clocks,
     fullclocks: &mut Clocks,
 ) -> usize
-    requires { ⌜ PieceFits (now out) (now piece) (now held) begun × (0 < begun .held) × (e ≡ 0 + lineEnd (drop 0 (now piece))) × (e < length (now piece)) ⌝ }
+    requires { ⌜ PieceFits (now out) (now piece) (now held) begun × (0 < begun .held) × (e ≡ lineEnd (now piece)) × (e < length (now piece)) ⌝ }
     ensures { λ to. ⌜ LineAnswered (seen out) (begun .at) (begun .lines + 1) (tables control last clocks fullclocks)
         (parseOf (take (begun .held) (now (held .entry)) ++ take e (now (piece .entry)))) to ⌝ }
 {
@@ -105,7 +105,7 @@ fn put_ended(
             fullclocks,
         );
     }
-    let e = line_end(piece, 0);
+    let e = line_end(piece);
     let at = put_first(
         out,
         piece,
@@ -129,6 +129,20 @@ fn put_ended(
         clocks,
         fullclocks,
     )
+}
+
+// Where what follows the last LF of a text begins; 0 where it has none.
+fn rest_start(text: &[u8]) -> usize
+    ensures { λ r. ⌜ LastLf (now (text .entry)) r ⌝ }
+{
+    let mut i = text.len();
+    while i > 0 {
+        if text[i - 1] == LF {
+            return i;
+        }
+        i -= 1;
+    }
+    i
 }
 
 // Answers the lines that end in a piece, and holds what is left.
@@ -186,7 +200,7 @@ fn holds_open(held: &[u8], n: usize) -> bool
     if HELD_MOST < n {
         return false;
     }
-    n <= line_end(&held[..n], 0)
+    n <= line_end(&held[..n])
 }
 
 // A piece of so many bytes can be answered into report memory of this size.

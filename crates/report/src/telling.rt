@@ -1,11 +1,11 @@
 // What the report says of an access's verdict: its word, and its partner.
-use crate::words::eight;
 use checker::excuse;
+use reading::little_endian;
+use requests::Excuse;
 use theory::Answer;
 use theory::Clocks;
 use theory::Control;
 use theory::ENTRIES;
-use theory::Excuse;
 use theory::History;
 use theory::Record;
 ghost use Prim.Native.Nat.{ℕ, _≤_};
@@ -17,7 +17,7 @@ ghost use Rattle.text.specs.Printing.{bytes};
 ghost use Rattle.theory.specs.declared.record.Record.{Record};
 ghost use Rattle.theory.specs.feeding.Meaning.{meaning};
 ghost use Rattle.theory.specs.feeding.Step.{answerNumbers};
-ghost use Rattle.theory.specs.entries.Table.{tablesExcuse};
+ghost use Rattle.requests.specs.entries.Table.{tablesExcuse};
 ghost use Rattle.text.specs.ReportLines.{reportLine, raceWord, excusedFor, partnerIn};
 ghost use Rattle.text.specs.Bytes.{little};
 ghost use Rattle.text.specs.Words.{Opens};
@@ -88,7 +88,7 @@ fn told_by_word(number: u32, word: &[u8; 8], len: usize, partner: u32) -> Verdic
 {
     VerdictTold {
         number,
-        word: eight(word, 0),
+        word: little_endian(word),
         len,
         partner,
     }
@@ -114,8 +114,12 @@ fn told_plain(a: Answer) -> VerdictTold
         number: number_of(a),
         word: pick(
             case == RACE,
-            eight(b"=race   ", 0),
-            pick(case == DOUBT, eight(b"=doubt  ", 0), eight(b"=clear  ", 0)),
+            little_endian(b"=race   "),
+            pick(
+                case == DOUBT,
+                little_endian(b"=doubt  "),
+                little_endian(b"=clear  "),
+            ),
         ),
         len: pick(case == RACE, 5, 6) as usize,
         partner: partner_of(a),

@@ -18,7 +18,7 @@ ghost use Rattle.text.specs.LineForm.{digits};
 ghost use Rattle.text.specs.Lines.{lineRoom};
 ghost use Rattle.text.specs.Printing.{bytes, lastDigit, decimal, recordDigits, recordText};
 ghost use Rattle.theory.specs.feeding.Meaning.{meaning};
-ghost use Rattle.theory.specs.entries.Table.{tablesExcuse};
+ghost use Rattle.requests.specs.entries.Table.{tablesExcuse};
 ghost use Rattle.text.specs.ReportLines.{accessPart, accessLine, refusedAs, refusedLine, excusedFor, partnerIn};
 ghost use Rattle.text.specs.Words.{Opens};
 ghost use Rattle.text.specs.Wrote.{Wrote};

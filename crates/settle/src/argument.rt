@@ -1,6 +1,6 @@
 // The home set that the arguments name.
-use report::DIGITS;
-use report::read_decimal;
+use reading::DIGITS;
+use reading::read_decimal;
 use text::Number;
 use theory::TASKS;
 ghost use mathlib.Core.Path.{_≡_};

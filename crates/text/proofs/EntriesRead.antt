@@ -9,7 +9,7 @@ use lib.ListN.{length, take, getD, length-append, length-take}
 use lib.Seq.{sets, length-sets, take-suc, take-all}
 use borrow.Author.Tests.{eq-eqb, ne-eqb}
 use Rattle.theory.specs.feeding.Lent.{Twice}
-use Rattle.theory.specs.entries.Table.{entriesFull, entered, pairInRange}
+use Rattle.requests.specs.entries.Table.{entriesFull, entered, pairInRange}
 use Rattle.text.specs.declared.entry.Entry.{Entry}
 use Rattle.text.specs.declared.entry.EntryLine.{EntryLine}
 use Rattle.text.specs.declared.progress.Progress.{Progress}

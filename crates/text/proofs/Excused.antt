@@ -9,9 +9,9 @@ use Rattle.theory.specs.verdicts.Verdict.{Race, Clear, Doubt}
 use Rattle.theory.specs.feeding.Meaning.{Meaning, refuses, takes, judges}
 use Rattle.theory.specs.feeding.Step.{freshState}
 use Rattle.theory.specs.totals.Totals.{entriesAt}
-use Rattle.theory.specs.entries.Table.{entryCount, excuseOf}
+use Rattle.requests.specs.entries.Table.{entryCount, excuseOf}
 use Rattle.theory.proofs.totals.Kept.{fresh-control-cell}
-use Rattle.theory.proofs.entries.Kept.{taken-kept, no-excuse}
+use Rattle.requests.proofs.entries.Kept.{taken-kept, no-excuse}
 use Rattle.text.specs.declared.parsed.Parsed.{Parsed}
 use Rattle.text.specs.ReportLines.{lineFor, excusedFor, partnerIn}
 use Rattle.text.specs.Report.{saidBeside, stateAfter}

@@ -218,12 +218,12 @@ module _ (piece : List ℕ) (rest : ℕ) (x : LastLf piece rest) where
 whole-first : (piece : List ℕ) (e : ℕ) → take (e - 0) piece ≡ take e piece
 whole-first piece e = let z : e - 0 ≡ e = omega arith in ap (λ (k : ℕ). take k piece) z
 
-pub first-without : (piece : List ℕ) (e : ℕ) → e ≡ 0 + lineEnd (drop 0 piece) → Without lf (take e piece)
-first-without piece e q = subst (Without lf) (whole-first piece e) (line-without piece 0 e q)
+pub first-without : (piece : List ℕ) (e : ℕ) → e ≡ lineEnd piece → Without lf (take e piece)
+first-without piece e q = subst (Without lf) (whole-first piece e) (line-without piece 0 e (q ∙ sym (zero-add _)))
 
-module _ (piece : List ℕ) (e : ℕ) (q : e ≡ 0 + lineEnd (drop 0 piece)) (ends : e < length piece) where
+module _ (piece : List ℕ) (e : ℕ) (q : e ≡ lineEnd piece) (ends : e < length piece) where
   first-line : piece ≡ take e piece ++ (lf ∷ drop (e + 1) piece)
-  first-line = from-place piece 0 e q ends ∙ ap (λ (l : List ℕ). l ++ (lf ∷ drop (e + 1) piece)) (whole-first piece e)
+  first-line = from-place piece 0 e (q ∙ sym (zero-add _)) ends ∙ ap (λ (l : List ℕ). l ++ (lf ∷ drop (e + 1) piece)) (whole-first piece e)
 
   -- that LF is not after the last one
   pub first-before : {rest : ℕ} → LastLf piece rest → e + 1 ≤ rest
@@ -238,7 +238,7 @@ module _ (piece : List ℕ) (e : ℕ) (q : e ≡ 0 + lineEnd (drop 0 piece)) (en
           absurd (without-head lf lf (drop (e + 1) piece) (subst (Without lf) there w) .0 refl)
 
 -- where there is a last LF, there is a first
-pub some-lf : (piece : List ℕ) {e rest : ℕ} → e ≡ 0 + lineEnd (drop 0 piece) → LastLf piece rest → 0 < rest → e < length piece
+pub some-lf : (piece : List ℕ) {e rest : ℕ} → e ≡ lineEnd piece → LastLf piece rest → 0 < rest → e < length piece
 some-lf piece {rest = rest} q x h = omega (arith, index-bound lf piece (rest - 1) (omega (arith, x .within)) (x .after-lf h), x .within)
 
 -- the lines before what follows it fit where there is room for a line for each byte
@@ -249,7 +249,7 @@ lines-before piece {rest = rest} from x h r k =
     record { begins = h; uncut = record { within = x .within; after-lf = λ i _. x .after-lf i }; room = omega (arith, l); counted = omega (arith, l) }
 
 -- the line that has begun with h ends in the piece
-module _ (s : State) (n : ℕ) (h piece : List ℕ) (e : ℕ) (short : length h ≤ heldMost) (q : e ≡ 0 + lineEnd (drop 0 piece)) (ends : e < length piece) where
+module _ (s : State) (n : ℕ) (h piece : List ℕ) (e : ℕ) (short : length h ≤ heldMost) (q : e ≡ lineEnd piece) (ends : e < length piece) where
   -- the state after that line
   abbrev next : State
   next = stateAfter s (parseOf (h ++ take e piece))

@@ -17,12 +17,12 @@ use Rattle.theory.specs.feeding.Meaning.{Meaning, refuses, takes, judges, meani
 use Rattle.theory.specs.feeding.Step.{freshState, freshControl}
 use Rattle.theory.specs.feeding.Feeding.{byClocks}
 use Rattle.theory.specs.totals.Totals.{entriesAt, controlCells}
-use Rattle.theory.specs.entries.Table.{entryCount, entriesFull, entered, afterEntry, excuse}
-use Rattle.theory.specs.entries.Known.{Fault, Fits, AllFit, none-left, and-fits, enteredAll, startWith}
+use Rattle.requests.specs.entries.Table.{entryCount, entriesFull, entered, afterEntry, excuse}
+use Rattle.requests.specs.entries.Known.{Fault, Fits, AllFit, none-left, and-fits, enteredAll, startWith}
 use Rattle.theory.proofs.totals.Kept.{fresh-control-cell}
 use Rattle.theory.proofs.acceptance.ControlTable.{fresh-control}
 use Rattle.theory.proofs.feeding.Simulation.{Represents, base-control, fresh-base, clocks-simulate}
-use Rattle.theory.proofs.entries.Taken.{taken-all, entered-taken, entered-size, is-entered}
+use Rattle.requests.proofs.entries.Taken.{taken-all, entered-taken, entered-size, is-entered}
 use Rattle.text.specs.declared.parsed.Parsed.{Parsed}
 use Rattle.text.specs.declared.entry.Entry.{Entry}
 use Rattle.text.specs.declared.entry.EntryLine.{EntryLine}

@@ -3,7 +3,7 @@
 use Prim.Native.Nat.{ℕ}
 use mathlib.Core.Bool.{cond}
 use mathlib.Core.List.{List, []}
-use Rattle.theory.specs.entries.Table.{entriesFull, afterEntry}
+use Rattle.requests.specs.entries.Table.{entriesFull, afterEntry}
 use Rattle.text.specs.declared.entry.EntryLine.{EntryLine}
 use Rattle.text.specs.Stream.{Reader}
 use Rattle.text.specs.EntryForm.{entryOf}

@@ -10,7 +10,7 @@ use Rattle.theory.specs.declared.record.Record.{Record}
 use Rattle.theory.specs.declared.state.State.{State}
 use Rattle.theory.specs.feeding.Meaning.{Meaning, meaning}
 use Rattle.theory.specs.feeding.Step.{stepOf, freshState}
-use Rattle.theory.specs.entries.Table.{excuse}
+use Rattle.requests.specs.entries.Table.{excuse}
 use Rattle.text.specs.declared.parsed.Parsed.{Parsed}
 use Rattle.text.specs.Lines.{lineRoom, linesOf}
 use Rattle.text.specs.LineForm.{parseOf}

@@ -5,7 +5,7 @@ use mathlib.Core.List.{List, [], _++_}
 use Rattle.text.specs.Printing.{bytes, decimal, recordText}
 use Rattle.theory.specs.declared.record.Record.{Record}
 use Rattle.theory.specs.declared.answer.Answer.{Answer}
-use Rattle.theory.specs.declared.excuse.Excuse.{Excuse}
+use Rattle.requests.specs.declared.excuse.Excuse.{Excuse}
 use Rattle.theory.specs.verdicts.Verdict.{Verdict, Race, Clear, Doubt}
 use Rattle.theory.specs.feeding.Meaning.{Meaning, refuses, takes, judges, meaning}
 

@@ -7,8 +7,8 @@ use lib.ListN.{length, take}
 use Rattle.theory.specs.declared.state.State.{State}
 use Rattle.theory.specs.order.Limits as Limits
 use Rattle.theory.specs.feeding.Step.{freshState, freshControl}
-use Rattle.theory.specs.entries.Table.{entriesFull, entered}
-use Rattle.theory.specs.entries.Known.{Fault, AllFit, enteredAll, startWith}
+use Rattle.requests.specs.entries.Table.{entriesFull, entered}
+use Rattle.requests.specs.entries.Known.{Fault, AllFit, enteredAll, startWith}
 use Rattle.text.specs.declared.entry.Entry.{Entry}
 use Rattle.text.specs.declared.entry.EntryLine.{EntryLine}
 use Rattle.text.specs.Lines.{linesOf}

@@ -7,8 +7,4 @@ pub mod history
 pub mod tables
 pub mod totals
 pub mod feeding
-pub mod lazy
-pub mod entries
-pub mod swapping
-pub mod settling
 pub mod skipping

@@ -7,6 +7,4 @@ pub mod Paths
 pub mod Asked
 pub mod Matching
 pub mod Unused
-pub mod Following
-pub mod Listed
 pub mod FastSteps

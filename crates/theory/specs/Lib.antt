@@ -12,13 +12,5 @@ pub mod tables
 pub mod feeding
 -- Totals of the verdicts
 pub mod totals
--- Faults already accepted
-pub mod entries
--- The lazy reckoning
-pub mod lazy
--- The same run, logged in another order
-pub mod swapping
--- Which controller could have settled it
-pub mod settling
 -- Takes without clock work
 pub mod skipping

@@ -3,5 +3,4 @@ pub mod Meaning
 pub mod Step
 pub mod Lent
 pub mod Feeding
-pub mod Following
 pub mod Paths

@@ -1,5 +1,5 @@
 // What the program is asked by its argument: a table after every so many accepted records.
-use report::read_decimal;
+use reading::read_decimal;
 use text::Number;
 ghost use mathlib.Core.Path.{_≡_};
 ghost use Rattle.totals.specs.Argument.{everyOf};

@@ -10,7 +10,7 @@ use argument::every_of;
 use checker::begin;
 use input::PIECE;
 use libc::STDERR_FILENO;
-use report::DIGITS;
+use reading::DIGITS;
 use report::HELD_MOST;
 use report::LINE_ROOM;
 use report::REFUSED;

@@ -3,7 +3,7 @@ use mathlib.Core.Path.{_≡_, refl, sym, _∙_, ap}
 use mathlib.Core.Bool.{Bool, true, false, cond, _||_, or-false, or-assoc, true≢false}
 use mathlib.Core.List.{List, [], _∷_, _++_}
 use Prim.Native.Nat.{ℕ}
-use Rattle.theory.specs.order.Recording.{Event}
+use Rattle.theory.specs.order.Recording.{Op, take, give, Event, act, semaphore, series}
 use Rattle.theory.specs.acceptance.Owning.{isOwned, under, since, Who, nobody, laterWho, whoSince}
 
 -- The profile
@@ -41,6 +41,16 @@ none-since (d ∷ es) q = decided (isOwned d) (none-since es) q
     decided false k q = k q
 
 -- Holders and last givers
+
+-- a take or a give of semaphore s: who holds it changes by it
+pub data ChangesHolder (s : ℕ) : Event → Type 0 where
+  by-take : {t : ℕ} → ChangesHolder s (act take t s)
+  by-give : {t : ℕ} → ChangesHolder s (act give t s)
+
+-- its number is a semaphore's
+pub holder-series : {s t n : ℕ} {o : Op} → ChangesHolder s (act o t n) → series o ≡ semaphore
+holder-series by-take = refl
+holder-series by-give = refl
 
 module _ (next : Event → ℕ → Who → Who) where
   later-snoc : (h : Who) (es : List Event) (e : Event) (s : ℕ) → laterWho next h (es ++ (e ∷ [])) s ≡ next e s (laterWho next h es s)

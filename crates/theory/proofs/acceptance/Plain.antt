@@ -25,6 +25,16 @@ use Rattle.theory.proofs.tables.HandOver.{HandOverKind, a-take, a-give,
 abbrev pub commonRows : Standing → ℕ → Bool → List Row
 commonRows s task outside = (2 when leb tasks task) ∷ (3 when outside) ∷ (5 when leb records (s .count)) ∷ (6 when not (s .live task)) ∷ []
 
+-- where none applies there is room for a record
+pub common-room : (s : Standing) (task : ℕ) (outside : Bool) {n : ℕ} → n ≡ firstRow (commonRows s task outside) → n ≡ 0 → s .count < records
+common-room s task outside {n} e z = of (leb tasks task) outside (leb records (s .count)) (s .live task) e (leb-false records (s .count))
+  where
+    of : (a b c d : Bool) → n ≡ cond a 2 (cond b 3 (cond c 5 (cond (not d) 6 0))) → (c ≡ false → s .count < records) → s .count < records
+    of true b c d q h = absurd (omega arith)
+    of false true c d q h = absurd (omega arith)
+    of false false true d q h = absurd (omega arith)
+    of false false false d q h = h refl
+
 -- they stand first among the rows of an act
 module _ (s : Standing) (r : Record) {n : ℕ} (e : n ≡ firstRow (commonRows s (r .task) (leb (seriesSize (r .kind)) (r .on)))) where
   -- the first of them that applies is the first row

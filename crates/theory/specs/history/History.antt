@@ -2,17 +2,17 @@
 -- variable that clashes with one of that kind, which is "its latest conflicting earlier access"; 0 where there is none.
 use Prim.Native.Nat.{ℕ, _+_, _*_}
 use mathlib.Core.Bool.{Bool, false, cond}
-use mathlib.Core.List.{List, [], _∷_}
+use mathlib.Core.List.{List, map}
 use lib.Dec.{eqb}
 use lib.ListN.{getD, set, length}
 use Rattle.theory.specs.basics.Turns.{turns}
 use Rattle.theory.specs.order.Limits.{tasks, variables}
-use Rattle.theory.specs.order.Recording.{Op, read, write, bump, fresh, kind, about, accessNumber, opOf, Kind, of-op, of-mark, numberedKind}
-use Rattle.theory.specs.order.Path.{clashes}
+use Rattle.theory.specs.order.Recording.{Op, read, fresh, kind, about, accessNumber, opOf, Kind, of-op, of-mark, numberedKind}
+use Rattle.theory.specs.order.Path.{conflictRows, clashes}
 
--- the kinds of access by their numbers
+-- the kinds of access by their numbers, in the order of the table of conflicts
 abbrev pub askers : List Op
-askers = read ∷ write ∷ bump ∷ []
+askers = map (λ x. x .access) conflictRows
 
 abbrev pub asker : ℕ → Op
 asker a = getD askers a read

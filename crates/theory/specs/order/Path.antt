@@ -1,8 +1,8 @@
 -- Steps and paths ("Order"), and which accesses conflict.
 use Prim.Native.Nat.{ℕ, _<_}
-use mathlib.Core.List.{List}
+use mathlib.Core.List.{List, [], _∷_}
 use mathlib.Core.Logic.{_≢_}
-use mathlib.Core.Bool.{Bool, _&&_, _||_}
+use mathlib.Core.Bool.{Bool, false, _&&_, _||_}
 use lib.Dec.{T}
 use Rattle.theory.specs.order.Recording.{Op, read, write, bump, take, give, look, set, start, join, fresh, Event, act, At, Every, ActsIn, isAccess, _is_}
 
@@ -28,10 +28,31 @@ pub data HappensBefore (es : List Event) : ℕ → ℕ → Type 0 where
   one : {i j : ℕ} → StepAt es i j → HappensBefore es i j
   more : {i j k : ℕ} → StepAt es i j → HappensBefore es j k → HappensBefore es i k
 
--- which two accesses clash: "at least one writes", or one is a bump and the other a read: "Two bumps never conflict. A bump conflicts with a read
--- and with a write"
+-- a row of the table of conflicts: a kind of access, and with which of the kinds up to its own row it clashes
+pub record ConflictRow : Type 0 where
+  pub access : Op
+  pub others : List Op
+
+infix 30 _versus_
+abbrev pub _versus_ : Op → List Op → ConflictRow
+o versus ps = record { access = o; others = ps }
+
+-- the table: "at least one writes"; "Two bumps never conflict. A bump conflicts with a read and with a write"
+abbrev pub conflictRows : List ConflictRow
+conflictRows = (read versus []) ∷ (write versus (read ∷ write ∷ [])) ∷ (bump versus (read ∷ write ∷ [])) ∷ []
+
+abbrev pub isAmong : List Op → Op → Bool
+isAmong [] p = false
+isAmong (q ∷ qs) p = p is q || isAmong qs p
+
+-- p stands in the row of o
+abbrev pub inRow : List ConflictRow → Op → Op → Bool
+inRow [] o p = false
+inRow (x ∷ xs) o p = (o is (x .access) && isAmong (x .others) p) || inRow xs o p
+
+-- which two accesses clash: one stands in the row of the other
 unfoldable pub rule : Op → Op → Bool
-rule o p = o is write || p is write || (o is bump && p is read) || (o is read && p is bump)
+rule o p = inRow conflictRows o p || inRow conflictRows p o
 
 abbrev pub clashes : Op → Op → Bool
 clashes o p = isAccess o && (isAccess p && rule o p)

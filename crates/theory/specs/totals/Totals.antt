@@ -28,7 +28,7 @@ verdictPlace Doubt = 2
 abbrev pub totalAt : Verdict → ℕ → ℕ
 totalAt w v = firstTotal + verdictPlace w * variables + v
 
--- what a planner has accepted lies after them (specs/entries): how many entries were taken in, and a cell for each variable and task
+-- what a planner has accepted lies after them (specs/entries of requests): how many entries were taken in, and a cell for each variable and task
 abbrev pub entriesAt : ℕ
 entriesAt = firstTotal + 3 * variables
 

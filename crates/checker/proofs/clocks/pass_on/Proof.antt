@@ -16,9 +16,6 @@ joins-acted-requires c κs = λ e. rw e at (c .before .pre .on-fits)
 is-join : (c : tie.After-joins-acted) → c .joins-acted .result ≡ true → c .before .before .args .kind ≡ kind Op.join
 is-join c e = let a = c .before .before .args in joins-kind tasks (a .cells .now) (a .kind) (a .on) (sym (c .joins-acted .ensures) ∙ e)
 
-acquired-row-requires : tie.Need-acquired-row-requires
-acquired-row-requires c κs = is-join (c .before)
-
 flow-requires : tie.Need-flow-requires
 flow-requires c κs =
     let at-joins = c .before .before .before in
@@ -32,4 +29,4 @@ returns c =
     rw (← at-acquired .before .before .joins-acted .ensures, ← at-acquired .acquired-row .ensures, ← c .before .released-row .ensures) (c .flow .ensures)
 
 pub pass-on-spec : {M : Type 1} → statement M
-pass-on-spec = tie.close (tie.spec joins-acted-requires acquired-row-requires (λ c κs. search needs) flow-requires returns)
+pass-on-spec = tie.close (tie.spec joins-acted-requires (λ c κs. search needs) (λ c κs. search needs) flow-requires returns)

@@ -7,7 +7,7 @@ use mathlib.Core.List.{List}
 use borrow.Author.Tests.{ltb-true}
 use lib.Dec.{ltb}
 use Rattle.theory.specs.order.Limits.{tasks, variables, entries}
-use Rattle.theory.specs.entries.Table.{entryCount, entriesFull, pairInRange, enters}
+use Rattle.requests.specs.entries.Table.{entryCount, entriesFull, pairInRange, enters}
 use borrow.Author.Needs.{needs}
 use Rattle.checker.proofs.entries.enter.Statement.{statement}
 use Rattle.checker.proofs.entries.enter.Tie as tie

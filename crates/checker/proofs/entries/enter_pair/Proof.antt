@@ -1,5 +1,5 @@
 -- Both pairs, and the count.
-use Rattle.theory.specs.entries.Table.{entered}
+use Rattle.requests.specs.entries.Table.{entered}
 use borrow.Author.Needs.{needs}
 use Rattle.checker.proofs.entries.enter_pair.Statement.{statement}
 use Rattle.checker.proofs.entries.enter_pair.Tie as tie

@@ -8,7 +8,7 @@ use lib.Dec.{ltb}
 use Rattle.theory.specs.order.Limits.{tasks, variables}
 use Rattle.theory.specs.order.Recording.{accesses}
 use Rattle.theory.specs.declared.record.Record.{Record}
-use Rattle.theory.specs.entries.Table.{entryCount, accessInRange, tablesExcuse}
+use Rattle.requests.specs.entries.Table.{entryCount, accessInRange, tablesExcuse}
 use Rattle.theory.proofs.history.Accesses.{OfAccess}
 use borrow.Author.Needs.{needs}
 use Rattle.checker.proofs.entries.excuse.Statement.{statement}

@@ -1,7 +1,7 @@
 -- The tasks that are apart, without those of the pairs' cell.
 use mathlib.Core.Path.{_∙_}
 use Rattle.theory.specs.tables.Reckonings.{clockApart}
-use Rattle.theory.specs.entries.Table.{pairedWith, openTasks}
+use Rattle.requests.specs.entries.Table.{pairedWith, openTasks}
 use Rattle.theory.proofs.tables.Bits.{mask-without}
 use borrow.Author.Needs.{needs}
 use Rattle.checker.proofs.entries.open_mask.Statement.{statement}

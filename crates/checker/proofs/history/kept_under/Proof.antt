@@ -19,7 +19,7 @@ returns c =
     let at-conflict = c .before in
     let (asks, a) = at-conflict .before .pre in
     let x = at-conflict .before .args in
-    (c .picked .ensures ∙ ap (λ (b : Bool). cond b (x .a) writeAsks) (at-conflict .conflict .ensures asks a), rw (c .picked .ensures) (fits (at-conflict .conflict .result) (x .a) a))
+    (c .picked .ensures ∙ ap (λ (b : Bool). cond b (x .a) writeAsks) (at-conflict .conflict .ensures .1 asks a), rw (c .picked .ensures) (fits (at-conflict .conflict .result) (x .a) a))
 
 pub kept-under-spec : {M : Type 1} → statement M
 kept-under-spec = tie.close (tie.spec (λ c κs. search needs) (λ c κs. search needs) returns)

@@ -29,7 +29,8 @@ loop-again c =
     let at-lowest = at-row .before in
     let at-loop = at-lowest .before .before .before in
     let mask = at-loop .before .before .args .mask in
-    one-named-turn (idle-gather mask _) (at-loop .loop .inv) (at-lowest .lowest .ensures) (c .without-lowest .ensures .0)
+    let low = at-lowest .lowest .ensures in
+    one-named-turn (idle-gather mask _) (at-loop .loop .inv) (low .0 (at-lowest .before .before .loop-test .taken), low .1) (c .without-lowest .ensures .0)
     (λ named. rw (at-acquired .acquired-with .ensures, at-row .task-row .ensures, named) (sym (join-acquired tasks hub _ _ _)))
 
 returns : tie.Need-returns Inv-loop μ-loop

@@ -45,7 +45,7 @@ loop-again c =
     let i = at-loop .loop .inv in
     let put = rw (at-row .task-row .ensures) at (at-put .put-row .ensures) in (
       rw put (row-put tasks hub _ _ _ (λ e. omega (arith, low .1)) ∙ i .0),
-      one-named-turn (idle-spread mask (i .0)) (i .1) low (c .without-lowest .ensures .0) (λ named. rw (lt-ltb _ tasks (low .1), named) put),
+      one-named-turn (idle-spread mask (i .0)) (i .1) (low .0 (at-lowest .before .before .loop-test .taken), low .1) (c .without-lowest .ensures .0) (λ named. rw (lt-ltb _ tasks (low .1), named) put),
     )
 
 loop2-holds : tie.Need-loop2-holds Inv-loop μ-loop Inv-loop2 μ-loop2

@@ -7,7 +7,7 @@ use Rattle.checker.proofs.masks.judged.Tie as tie
 
 latest-number-requires : tie.Need-latest-number-requires
 latest-number-requires c κs =
-    let p = c .before .before .before .before .before .pre in record { is-access = p .0; task-fits = c .lowest-or-0 .ensures .1; variable-fits = p .1 }
+    let p = c .before .before .before .before .before .pre in record { is-access = p .0; task-fits = c .lowest .ensures .1; variable-fits = p .1 }
 
 returns : tie.Need-returns
 returns c =
@@ -22,7 +22,7 @@ returns c =
     let m = rw (at-full .lower-half .ensures, at-arrived .lower-half2 .ensures) at (at-mask .either-mask .ensures) in
     c .answer-by .ensures
     ∙ judged-so (a .last .now) (a .kind) (a .v .0) (a .number .0) (a .words .full) (a .words .arrived) (at-latest .latest-number .result) (p .2) (p .3) m
-    (λ h. rw (← at-lowest .lowest-or-0 .ensures .0 h) (at-latest .latest-number .ensures))
+    (λ h. rw (← at-lowest .lowest .ensures .0 h) (at-latest .latest-number .ensures))
 
 pub judged-spec : {M : Type 1} → statement M
 judged-spec = tie.close (tie.spec (λ c κs. search needs) (λ c κs. search needs) (λ c κs. search needs) (λ c κs. search needs) latest-number-requires (λ c κs. search needs) returns)

@@ -25,7 +25,7 @@ loop-again c = (search needs, one-turn (c .before .before .loop .inv .1) refl)
 
 returns : tie.Need-returns Inv-loop μ-loop
 unfolding clearSlot
-returns c = rw (← c .before .before .all-but .ensures) (all-turns rowCount (c .before .loop .inv .1) (omega arith) (omega arith))
+returns c = rw (← c .before .before .all-but .ensures .0 (omega arith)) (all-turns rowCount (c .before .loop .inv .1) (omega arith) (omega arith))
 
 pub clear-slot-spec : {M : Type 1} → statement M
 clear-slot-spec =

@@ -6,7 +6,7 @@ use native.Mathlib.Omega.{arith}
 use lib.ListN.{set, getD}
 use Rattle.theory.specs.order.Limits.{tasks}
 use Rattle.theory.specs.tables.Reckonings.{nextClocks}
-use Rattle.theory.specs.settling.Fold.{homeOnly, homeOf, homesAfter}
+use Rattle.requests.specs.settling.Fold.{homeOnly, homeOf, homesAfter}
 use Rattle.theory.proofs.basics.Turns.{Turned, no-turn, one-turn, all-turns}
 use borrow.Author.Needs.{needs}
 use Rattle.checker.proofs.settling.fill_each.Statement.{statement}
@@ -24,9 +24,10 @@ loop-holds c = (search needs, no-turn)
 
 loop-again : tie.Need-loop-again Inv-loop μ-loop
 loop-again c =
-    let at-loop = c .before .before .before .before in (
+    let at-loop = c .before .before .before .before in
+    let h = c .before .before .before .loop-test .taken in (
       search needs,
-      one-turn (at-loop .loop .inv .1) (ap (λ (x : List ℕ). set (at-loop .loop .homes) (at-loop .loop .t) x) (c .fill-by .ensures ∙ rw (c .before .weight .ensures .0))),
+      one-turn (at-loop .loop .inv .1) (ap (λ (x : List ℕ). set (at-loop .loop .homes) (at-loop .loop .t) x) (c .fill-by .ensures ∙ rw (c .before .weight .ensures .0 (omega (arith, h))))),
     )
 
 returns : tie.Need-returns Inv-loop μ-loop

@@ -3,8 +3,8 @@ use mathlib.Core.Path.{refl, _∙_}
 use Prim.Native.Nat.{_-_}
 use native.Mathlib.Omega.{arith}
 use lib.ListN.{length}
-use Rattle.theory.specs.settling.Fold.{homeFollower, freshSide}
-use Rattle.theory.proofs.feeding.Listed.{answered-by, answered-empty}
+use Rattle.requests.specs.settling.Fold.{homeFollower, freshSide}
+use Rattle.requests.proofs.following.Listed.{answered-by, answered-empty}
 use borrow.Author.Needs.{needs}
 use Rattle.checker.proofs.settling.settle.Statement.{statement}
 use Rattle.checker.proofs.settling.settle.Tie as tie

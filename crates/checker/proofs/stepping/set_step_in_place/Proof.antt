@@ -7,54 +7,57 @@ use borrow.Author.Tests.{ne-eqb}
 use Rattle.theory.specs.order.Recording.{lossMark}
 use Rattle.theory.specs.acceptance.Control.{countIn}
 use Rattle.theory.specs.feeding.Step.{setStepOf}
-use Rattle.theory.proofs.acceptance.Accepted.{Accepts, accepts, set-refused}
+use Rattle.theory.proofs.acceptance.Accepted.{set-refused}
 use Rattle.theory.proofs.history.Accesses.{kept-nowhere}
+use Rattle.acceptance.proofs.Admits.{Admits, admits, refuses}
 use borrow.Author.Needs.{needs}
 use Rattle.checker.proofs.stepping.set_step_in_place.Statement.{statement}
 use Rattle.checker.proofs.stepping.set_step_in_place.Tie as tie
 
 returns : tie.Need-returns
 unfolding setStepOf
-returns c = rw (← c .before .refusal .ensures) (set-refused _ _ _ (c .if1 .taken))
+returns c =
+    let at-admit = c .before .before in
+    let a = at-admit .before .before .args in
+    let e = at-admit .admit .ensures in
+    let x = refuses (a .control .now) (a .r) (e .0) (e .1) (c .if1 .taken) in
+    rw (x .same, ← x .refusal) (set-refused _ _ (a .r) (c .if1 .taken))
 
 -- once no row applies
-accepted : (c : tie.Else1) → let a = c .before .before .before .args in Accepts (a .control .now) (a .r)
-accepted c = let a = c .before .before .before .args in accepts (a .control .now) (a .r) _ (c .before .refusal .ensures) (c .if1 .left)
-
-add-t14 : tie.Need-add-t14
-add-t14 c = omega (arith, accepted (c .before) .room)
-
-note-requires : tie.Need-note-requires
-note-requires c κs = let a = accepted (c .before .before) in (a .proper, a .room)
+admitted : (c : tie.Else1) → let at-admit = c .before .before in let a = at-admit .before .before .args in Admits (a .control .now) (a .r) (at-admit .admit .result) (at-admit .admit .last .0)
+admitted c =
+    let at-admit = c .before .before in
+    let a = at-admit .before .before .args in
+    let e = at-admit .admit .ensures in
+    admits (a .control .now) (a .r) (e .0) (e .1) (c .if1 .left)
 
 act-by-sets-requires : tie.Need-act-by-sets-requires
 act-by-sets-requires c κs =
     let at-match = c .before .before .before .before in
     let n = at-match .match .rest .1 in
-    (accepted (at-match .before .before .before .before) .proper .act-fits n, n)
+    (admitted (at-match .before .before) .accepted .proper .act-fits n, n)
 
 -- a mark fills in nothing as it arrived, and is kept nowhere
 returns-2 : tie.Need-returns-2
 unfolding setStepOf
 returns-2 c =
     let at-match = c .before .before in
-    let at-note = at-match .before in
-    let at-if1 = at-note .before .before .before in
-    let a = at-if1 .before .before .before .args in
+    let at-if1 = at-match .before .before in
+    let a = at-if1 .before .before .before .before .args in
+    let x = admitted at-if1 in
     let e = at-match .match .keys1 in
-    let h = accepted at-if1 .proper .mark-names e in
+    let h = x .accepted .proper .mark-names e in
     let some = ne-eqb (a .r .on) 0 (λ z. omega arith) in
     let last = kept-nowhere (λ s l. set l s (countIn (a .control .now) + 1)) lossMark (a .r .on) (a .r .task) (a .last .now) refl in
-    rw (← at-if1 .before .refusal .ensures, at-if1 .if1 .left, at-note .note .ensures, c .mix .ensures, e, last, some)
+    rw (x .refusal, x .noted, x .number, c .mix .ensures, e, last, some)
 
 returns-3 : tie.Need-returns-3
 unfolding setStepOf
 returns-3 c =
-    let at-note = c .before .before .before .before .before .before in
-    let at-if1 = at-note .before .before .before in
-    let t = c .act-by-sets .ensures in
-    rw (← at-if1 .before .refusal .ensures, at-if1 .if1 .left, t .1, t .0, at-note .note .ensures, t .2, t .3, t .4)
+    let at-if1 = c .before .before .before .before .before .before .before in
+    let x = admitted at-if1 in
+    let t = rw (x .number) at (c .act-by-sets .ensures) in
+    rw (x .refusal, t .1, t .0, x .noted, t .2, t .3, t .4)
 
 pub set-step-in-place-spec : {M : Type 1} → statement M
-set-step-in-place-spec = tie.close (tie.spec
-    (λ c κs. search needs) returns (λ c. search needs) add-t14 note-requires (λ c κs. search needs) act-by-sets-requires returns-2 returns-3)
+set-step-in-place-spec = tie.close (tie.spec (λ c κs. search needs) returns (λ c κs. search needs) act-by-sets-requires returns-2 returns-3)

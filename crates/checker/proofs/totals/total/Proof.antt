@@ -1,7 +1,9 @@
 -- The total that the two tests name, and the Races' where it is one.
 use mathlib.Core.Path.{_≡_, _∙_, ap}
 use native.Mathlib.Omega.{arith}
+use borrow.Author.Tests.{lt-ltb}
 use Rattle.theory.specs.tables.Counters.{raise}
+use Rattle.theory.specs.totals.Totals.{controlCells}
 use Rattle.theory.proofs.totals.Counted.{totalsFrom, counts-at, counted-by}
 use borrow.Author.Needs.{needs}
 use Rattle.checker.proofs.totals.total.Statement.{statement}
@@ -17,20 +19,15 @@ add-raise c =
     let h = counts-at (a .race) (a .doubt) (place (c .before .before)) (start .pre) .1 in
     omega (arith, h)
 
-raise-requires : tie.Need-raise-requires
-raise-requires c κs =
-    let start = c .before .before .before .before in
-    let a = start .args in
-    counts-at (a .race) (a .doubt) (place (c .before .before)) (start .pre) .1
-
 returns : tie.Need-returns
 returns c =
     let at-raise = c .before .before in
     let at-picked = at-raise .before .before .before in
     let start = at-picked .before .before in
     let a = start .args in
-    let at = counts-at (a .race) (a .doubt) (place at-picked) (start .pre) .0 in
-    rw (c .one-more-if .ensures) (counted-by (a .race) (a .doubt) (a .v .0) (a .control .now) (at-raise .raise .ensures ∙ ap (λ i. raise i (a .control .now)) at))
+    let (at, within) = counts-at (a .race) (a .doubt) (place at-picked) (start .pre) in
+    let raised = rw (lt-ltb _ controlCells within) at (at-raise .raise .ensures) in
+    rw (c .one-more-if .ensures) (counted-by (a .race) (a .doubt) (a .v .0) (a .control .now) (raised ∙ ap (λ i. raise i (a .control .now)) at))
 
 pub total-spec : {M : Type 1} → statement M
-total-spec = tie.close (tie.spec (λ c κs. search needs) (λ c κs. search needs) (λ c. search needs) add-raise raise-requires (λ c. search needs) (λ c κs. search needs) (λ c. search needs) returns)
+total-spec = tie.close (tie.spec (λ c κs. search needs) (λ c κs. search needs) (λ c. search needs) add-raise (λ c κs. search needs) (λ c. search needs) (λ c κs. search needs) (λ c. search needs) returns)

@@ -10,15 +10,15 @@ use Rattle.report.proofs.fast_writing.number_word.Statement.{statement}
 use Rattle.report.proofs.fast_writing.number_word.Tie as tie
 
 -- `=` and seven zeros
-zeros : (c : tie.After-eight) → c .eight .result ≡ 3472328296227680317
+zeros : (c : tie.After-little-endian) → c .little-endian .result ≡ 3472328296227680317
 unfolding little
-zeros c = c .eight .ensures
+zeros c = c .little-endian .ensures
 
-worked-out : (c : tie.After-eight) → let r = c .before .before .in-pairs .result in
-    (tensIn r * 2559 ≤ r * 256 + c .eight .result) × (r * 256 + c .eight .result - tensIn r * 2559 ≡ numberWord (c .before .before .before .args .n))
+worked-out : (c : tie.After-little-endian) → let r = c .before .before .in-pairs .result in
+    (tensIn r * 2559 ≤ r * 256 + c .little-endian .result) × (r * 256 + c .little-endian .result - tensIn r * 2559 ≡ numberWord (c .before .before .before .args .n))
 worked-out c =
     let start = c .before .before .before in
-    by-tens (start .args .n) (c .before .before .in-pairs .result) (c .eight .result) (start .pre) (c .before .before .in-pairs .ensures) (zeros c)
+    by-tens (start .args .n) (c .before .before .in-pairs .result) (c .little-endian .result) (start .pre) (c .before .before .in-pairs .ensures) (zeros c)
 
 mul-q : tie.Need-mul-q
 mul-q c = omega (arith, c .in-pairs .ensures, pairs-below (c .before .args .n) (c .before .pre))
@@ -39,5 +39,5 @@ pub number-word-spec : {M : Type 1} → statement M
 number-word-spec =
     tie.close (tie.spec
     (λ c κs. search needs) mul-q (λ c. search needs) (λ c. search needs) (λ c. search needs) (λ c. search needs)
-    (λ c. search needs) (λ c. search needs) mul-result (λ c. search needs) (λ c κs. search needs) add-result
+    (λ c. search needs) (λ c. search needs) mul-result (λ c κs. search needs) add-result
     (λ c. search needs) sub-result returns)

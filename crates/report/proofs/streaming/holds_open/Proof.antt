@@ -1,6 +1,5 @@
 -- The tests in their order; the first that fails settles it.
-use mathlib.Core.Path.{ap, _∙_}
-use native.Mathlib.Nat.{zero-add}
+use mathlib.Core.Path.{ap}
 use native.Mathlib.Omega.{arith}
 use lib.Dec.{leb}
 use borrow.Author.Tests.{le-leb, lt-leb}
@@ -20,7 +19,7 @@ slice-aggregate-line-end c = length-taken _ _ (omega (arith, c .before .if2 .lef
 
 returns-3 : tie.Need-returns-3
 returns-3 c =
-    rw (le-leb _ _ (c .before .before .before .if1 .left), le-leb _ _ (c .before .before .if2 .left)) (ap (leb _) (c .line-end .ensures .0 ∙ zero-add _))
+    rw (le-leb _ _ (c .before .before .before .if1 .left), le-leb _ _ (c .before .before .if2 .left)) (ap (leb _) (c .line-end .ensures))
 
 pub holds-open-spec : {M : Type 1} → statement M
 holds-open-spec = tie.close (tie.spec returns returns-2 slice-aggregate-line-end (λ c κs. search needs) returns-3)

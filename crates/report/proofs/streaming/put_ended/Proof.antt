@@ -23,7 +23,15 @@ put-first-requires c κs =
     let at-if1 = at-line-end .before in
     let start = at-if1 .before .before .before .before .before in
     let (f, last, some) = start .pre in
-    (f, omega (arith, at-if1 .if1 .left), at-line-end .line-end .ensures .0, some-lf (start .args .piece .now) (at-line-end .line-end .ensures .0) last some)
+    (f, omega (arith, at-if1 .if1 .left), at-line-end .line-end .ensures, some-lf (start .args .piece .now) (at-line-end .line-end .ensures) last some)
+
+-- the first LF stands in the piece, so that there is a place after it
+add-put-lines-2 : tie.Need-add-put-lines-2
+add-put-lines-2 c =
+    let at-line-end = c .before .before .before .before .before .before .before .before .before .before in
+    let start = at-line-end .before .before .before .before .before .before in
+    let (f, last, some) = start .pre in
+    omega (arith, f .counted, some-lf (start .args .piece .now) (at-line-end .line-end .ensures) last some)
 
 put-lines-requires-2 : tie.Need-put-lines-requires-2
 put-lines-requires-2 c κs =
@@ -31,8 +39,8 @@ put-lines-requires-2 c κs =
     let at-line-end = at-put-first .before .before .before .before .before .before in
     let start = at-line-end .before .before .before .before .before .before in
     let (f, last, some) = start .pre in
-    let ends = some-lf (start .args .piece .now) (at-line-end .line-end .ensures .0) last some in
-    let before = first-before (start .args .piece .now) _ (at-line-end .line-end .ensures .0) ends last in
+    let ends = some-lf (start .args .piece .now) (at-line-end .line-end .ensures) last some in
+    let before = first-before (start .args .piece .now) _ (at-line-end .line-end .ensures) ends last in
     let a = at-put-first .put-first .ensures in
     lines-before _ _ last before (omega (arith, f .room, last .within, before, a .room, as-long (a .wrote))) (omega (arith, f .counted, last .within, before))
 
@@ -42,11 +50,11 @@ returns-2 c =
     let at-line-end = at-put-first .before .before .before .before .before .before in
     let start = at-line-end .before .before .before .before .before .before in
     let (f, last, some) = start .pre in
-    let ends = some-lf (start .args .piece .now) (at-line-end .line-end .ensures .0) last some in
-    some-begun _ _ _ _ _ (short-held _ (f .short)) (at-line-end .line-end .ensures .0) ends last (at-put-first .put-first .ensures) (c .before .before .put-lines2 .ensures)
+    let ends = some-lf (start .args .piece .now) (at-line-end .line-end .ensures) last some in
+    some-begun _ _ _ _ _ (short-held _ (f .short)) (at-line-end .line-end .ensures) ends last (at-put-first .put-first .ensures) (c .before .before .put-lines2 .ensures)
 
 pub put-ended-spec : {M : Type 1} → statement M
 put-ended-spec =
     tie.close (tie.spec
-    put-lines-requires (λ c. search needs) returns (λ c κs. search needs) put-first-requires (λ c. search needs) (λ c. search needs)
+    put-lines-requires (λ c. search needs) returns (λ c κs. search needs) put-first-requires (λ c. search needs) add-put-lines-2
     put-lines-requires-2 (λ c. search needs) returns-2)

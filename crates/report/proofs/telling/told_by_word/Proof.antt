@@ -1,14 +1,10 @@
 -- What it is told. Assumes nothing.
-use mathlib.Core.Path.{ap, _∙_}
-use native.Mathlib.Omega.{arith}
-use lib.Seq.{take-all}
-use Rattle.text.specs.Bytes.{little}
 use borrow.Author.Needs.{needs}
 use Rattle.report.proofs.telling.told_by_word.Statement.{statement}
 use Rattle.report.proofs.telling.told_by_word.Tie as tie
 
 returns : tie.Need-returns
-returns c = let a = c .before .before .args in λ i. record { number = a .number; word = (c .eight .ensures ∙ ap little (take-all 8 (a .word .now) (omega arith))) i; len = a .len; partner = a .partner }
+returns c = let a = c .before .args in λ i. record { number = a .number; word = c .little-endian .ensures i; len = a .len; partner = a .partner }
 
 pub told-by-word-spec : {M : Type 1} → statement M
 told-by-word-spec = tie.close (tie.spec

@@ -20,9 +20,9 @@ returns c =
       at-len .pick3 .ensures,
       at-word .pick2 .ensures,
       at-other .pick .ensures,
-      at-race .eight .ensures,
-      at-doubt .eight2 .ensures,
-      at-clear .eight3 .ensures,
+      at-race .little-endian .ensures,
+      at-doubt .little-endian2 .ensures,
+      at-clear .little-endian3 .ensures,
       at-number .number-of .ensures,
       at-case .case-of .ensures,
     ) (tells-plainly (start .args .a) (start .pre) line r)
@@ -30,6 +30,5 @@ returns c =
 pub told-plain-spec : {M : Type 1} → statement M
 told-plain-spec =
     tie.close (tie.spec
-    (λ c κs. search needs) (λ c κs. search needs) (λ c. search needs) (λ c κs. search needs) (λ c. search needs)
-    (λ c κs. search needs) (λ c. search needs) (λ c κs. search needs) (λ c κs. search needs) (λ c κs. search needs)
-    (λ c κs. search needs) (λ c κs. search needs) returns)
+    (λ c κs. search needs) (λ c κs. search needs) (λ c κs. search needs) (λ c κs. search needs) (λ c κs. search needs)
+    (λ c κs. search needs) (λ c κs. search needs) (λ c κs. search needs) (λ c κs. search needs) returns)
