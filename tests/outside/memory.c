@@ -113,7 +113,8 @@ static void fed_whole(uint32_t first) {
         if (i == 0) {
             order_step(state, (uint8_t)first, 0, 0, answer);
         } else {
-            order_step(state, (uint8_t)(i % 13), i / 13 % 18, i % 67, answer);
+            /* every kind, and numbers of none */
+            order_step(state, (uint8_t)(i % 17), i / 17 % 18, i % 67, answer);
         }
         right = right && answer[0] <= ORDER_DOUBT && answer[1] > 0 && (answer[2] > 0) == (answer[0] >= ORDER_RACE);
         free(answer);
