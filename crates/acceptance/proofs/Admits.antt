@@ -10,9 +10,15 @@ use Rattle.theory.specs.declared.record.Record.{Record}
 use Rattle.theory.specs.order.Recording.{seriesSize}
 use Rattle.theory.specs.acceptance.Table.{firstRow}
 use Rattle.theory.specs.acceptance.Control.{controlStanding, controlRefusal, counted, controlAfter}
-use Rattle.theory.specs.feeding.Step.{recordNumber, nextNumber, clockKind}
+use Rattle.theory.specs.declared.masks.Masks.{Masks}
+use Rattle.theory.specs.declared.answer.Answer.{Answer}
+use Rattle.theory.specs.history.History.{lastAfter}
+use Rattle.theory.specs.totals.Totals.{totalled}
+use Rattle.theory.specs.feeding.Meaning.{meaning}
+use Rattle.theory.specs.feeding.Step.{recordNumber, nextNumber, answeredBy, clockKind}
 use Rattle.theory.proofs.acceptance.Accepted.{Accepts, accepts}
 use Rattle.theory.proofs.acceptance.Plain.{commonRows, Plainly}
+use Rattle.theory.proofs.feeding.Parts.{AcceptedBy}
 use Rattle.acceptance.specs.declared.admission.Admitted.{Admitted}
 use Rattle.acceptance.specs.Admission.{admittedAs, unless}
 
@@ -62,6 +68,13 @@ admits control r e t z =
       moves = moves-is (controlRefusal control r) (nextNumber control) m e z;
       noted = t ∙ ap (λ (n : ℕ). unless n (controlAfter (r .kind) (r .task) (r .on) control) control) none;
     }
+
+-- and with that the accepted part of its step is what the definition says
+pub accepted-by : {control last after : List ℕ} {r : Record} {a : Admitted} {m : Masks} {answer : Answer} {t l : List ℕ} → Admits control r a after →
+    answer ≡ answeredBy last (r .kind) (r .on) (a .number .0) m → t ≡ totalled (meaning answer) (r .on) after → l ≡ lastAfter (r .kind) (r .task) (r .on) (a .number .0) last →
+    AcceptedBy control last r m answer t l
+accepted-by x answered counted kept =
+    record { answered = rw (x .number) at answered; counted = rw (x .noted) at counted; kept = rw (x .number) at kept }
 
 -- what only the rows of every act can refuse, and is counted and no more, is admitted so too
 pub plain-as : (control : List ℕ) (r : Record) {o : Bool} {after : List ℕ} {a : Admitted} → Plainly control (r .kind) (r .task) (r .on) → o ≡ leb (seriesSize (r .kind)) (r .on) →
