@@ -19,7 +19,7 @@ use Rattle.theory.specs.fillings.Completion.{Filling, fills, arrived, fu
 use Rattle.theory.specs.history.History.{latestNumber}
 use Rattle.theory.specs.tables.Rows.{onward}
 use Rattle.theory.specs.tables.Reckonings.{clockOwn, clockMask, nextClocks, setMasks, nextSets, masksBy, lowestTask}
-use Rattle.theory.specs.feeding.Step.{recordNumber, nextNumber, answerByMasks, acceptedAnswer, acceptedControl, acceptedHistory, clockAnswer, clockKind, stepOf, setStepOf}
+use Rattle.theory.specs.feeding.Step.{recordNumber, nextNumber, answerByMasks, nextAnswer, nextControl, nextHistory, clockAnswer, clockKind, stepOf, setStepOf}
 use Rattle.theory.specs.feeding.Lent.{stateOf, setStateOf}
 use Rattle.theory.proofs.basics.Reflects.{Reflects, right, wrong, equal}
 use Rattle.theory.proofs.tables.Bits.{Halved}
@@ -53,18 +53,18 @@ module _ (last : List ℕ) (k v number full arrived : ℕ) (partner : RecordNumb
           rw (eq-eqb (full % 2 ^ tasks) 0 none, eq-eqb (arrived % 2 ^ tasks) 0 neither)
 
 -- only an access is answered by its masks
-asked : (control last : List ℕ) (r : Record) {m n : Masks} → (accesses (r .kind) ≡ true → m ≡ n) → acceptedAnswer control last r m ≡ acceptedAnswer control last r n
+asked : (control last : List ℕ) (r : Record) {m n : Masks} → (accesses (r .kind) ≡ true → m ≡ n) → nextAnswer control last r m ≡ nextAnswer control last r n
 asked control last r {m} {n} e = of (accesses (r .kind)) refl
   where
-    of : (b : Bool) → accesses (r .kind) ≡ b → acceptedAnswer control last r m ≡ acceptedAnswer control last r n
-    of true h = ap (acceptedAnswer control last r) (e h)
+    of : (b : Bool) → accesses (r .kind) ≡ b → nextAnswer control last r m ≡ nextAnswer control last r n
+    of true h = ap (nextAnswer control last r) (e h)
     of false h = rw h
 
 -- What the accepted part of a step answers and leaves, by some masks
 pub record AcceptedBy (control last : List ℕ) (r : Record) (m : Masks) (a : Answer) (t l : List ℕ) : Type 0 where
-  pub answered : a ≡ acceptedAnswer control last r m
-  pub counted : t ≡ acceptedControl control r a
-  pub kept : l ≡ acceptedHistory control last r
+  pub answered : a ≡ nextAnswer control last r m
+  pub counted : t ≡ nextControl control r a
+  pub kept : l ≡ nextHistory control last r
 
 module _ (control last : List ℕ) (r : Record) (z : controlRefusal control r ≡ 0) {m : Masks} {a : Answer} {t l x y : List ℕ} (p : AcceptedBy control last r m a t l) where
   -- A step by the clocks is that part and the clocks as they are moved
@@ -83,7 +83,7 @@ module _ (control last : List ℕ) (r : Record) (z : controlRefusal control r �
       record { state = setStateOf t l x y; answer = a } ≡ setStepOf (setStateOf control last sets fullsets) r
   unfolding setStepOf
   set-stepped sets fullsets e c f =
-      let q = p .answered ∙ ap (acceptedAnswer control last r) e in
+      let q = p .answered ∙ ap (nextAnswer control last r) e in
       rw (z, ← q, ← p .counted, ← p .kept, ← c, ← f)
 
 -- The clocks after an access, in any filling: its own cells are all that changes, since it acquires from and releases to no other row

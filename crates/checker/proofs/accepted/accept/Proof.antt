@@ -3,7 +3,6 @@ use mathlib.Core.Path.{refl, sym, _∙_}
 use native.Mathlib.Omega.{arith}
 use Rattle.theory.proofs.history.Accesses.{of-access, fresh-fits, kept-other}
 use Rattle.theory.proofs.tables.Ranges.{access-acts}
-use borrow.Author.Needs.{needs}
 use Rattle.checker.proofs.accepted.accept.Statement.{statement}
 use Rattle.checker.proofs.accepted.accept.Tie as tie
 

@@ -5,7 +5,6 @@ use Rattle.theory.specs.tables.Reckonings.{slotWords, setOwn}
 use Rattle.theory.proofs.tables.Rows.{same-or}
 use Rattle.theory.proofs.tables.Onward.{onward-accessed}
 use Rattle.theory.proofs.tables.Ranges.{access-acts}
-use borrow.Author.Needs.{needs}
 use Rattle.checker.proofs.set_steps.access_by_sets.Statement.{statement}
 use Rattle.checker.proofs.set_steps.access_by_sets.Tie as tie
 

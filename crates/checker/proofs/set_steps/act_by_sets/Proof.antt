@@ -10,7 +10,6 @@ use Rattle.theory.specs.tables.Reckonings.{slotWords, addSlot, clearSlot, setOw
 use Rattle.theory.proofs.history.Accesses.{kept-nowhere}
 use Rattle.theory.proofs.tables.Rows.{same-or}
 use Rattle.theory.proofs.tables.Onward.{passed-on}
-use borrow.Author.Needs.{needs}
 use Rattle.checker.proofs.set_steps.act_by_sets.Statement.{statement}
 use Rattle.checker.proofs.set_steps.act_by_sets.Tie as tie
 
