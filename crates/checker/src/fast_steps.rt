@@ -1,8 +1,8 @@
 // The two sorts of records that nearly all are of: an access, and a take, give, look or set outside the profile. Which comes next no processor guesses, so
 // each sort is told apart once, and from there on nothing branches on a kind, a verdict or a direction.
-use crate::accepted::accept;
 use crate::clocks;
 use crate::masks::empty_words;
+use crate::outcome::accept;
 use acceptance::admit_plain;
 use acceptance::no_flag;
 use acceptance::no_semaphore;

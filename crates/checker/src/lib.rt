@@ -1,5 +1,4 @@
 // The order checker below the text layer, over basics and acceptance: each function proved against a definition of crates/theory or crates/requests.
-mod accepted;
 mod asking;
 mod clocks;
 mod entries;
@@ -8,6 +7,7 @@ mod history;
 mod marks;
 mod masks;
 mod moving;
+mod outcome;
 mod running;
 mod set_steps;
 mod sets;

@@ -1,8 +1,8 @@
 // The step by the sets, over all kinds of records: in place, on tables that the caller lends, and by value.
-use crate::accepted::accept;
 use crate::masks::Words;
 use crate::masks::as_words;
 use crate::masks::empty_words;
+use crate::outcome::accept;
 use crate::sets;
 use acceptance::admit;
 use basics::is_access;

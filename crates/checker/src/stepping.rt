@@ -1,9 +1,9 @@
 // The step by the clocks, over all kinds of records: in place, on tables that the caller lends, and by value.
-use crate::accepted::accept;
 use crate::fast_steps::step_access;
 use crate::fast_steps::step_hand_over;
 use crate::masks::empty_words;
 use crate::moving::move_clocks;
+use crate::outcome::accept;
 use acceptance::admit;
 use acceptance::is_under;
 use basics::both;

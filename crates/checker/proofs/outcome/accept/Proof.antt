@@ -3,8 +3,8 @@ use mathlib.Core.Path.{refl, sym, _∙_}
 use native.Mathlib.Omega.{arith}
 use Rattle.theory.proofs.history.Accesses.{of-access, fresh-fits, kept-other}
 use Rattle.theory.proofs.tables.Ranges.{access-acts}
-use Rattle.checker.proofs.accepted.accept.Statement.{statement}
-use Rattle.checker.proofs.accepted.accept.Tie as tie
+use Rattle.checker.proofs.outcome.accept.Statement.{statement}
+use Rattle.checker.proofs.outcome.accept.Tie as tie
 
 take-access-requires : tie.Need-take-access-requires
 take-access-requires c κs =

@@ -1,5 +1,5 @@
 // The accepted part of a step: what an accepted record is answered, and what it leaves in the control table and in the history. It is one for every kind of
-// record and for both reckonings, each of which moves its own tables (moving.rt).
+// record and for both reckonings, each of which moves its own tables (moving.rt, set_steps.rt).
 use crate::history::keep;
 use crate::history::renew;
 use crate::masks::Words;
