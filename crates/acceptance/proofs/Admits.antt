@@ -12,11 +12,13 @@ use Rattle.theory.specs.acceptance.Table.{firstRow}
 use Rattle.theory.specs.acceptance.Control.{controlStanding, controlRefusal, counted, controlAfter}
 use Rattle.theory.specs.declared.masks.Masks.{Masks}
 use Rattle.theory.specs.declared.answer.Answer.{Answer}
+use Rattle.theory.specs.declared.answer.Answer.the-variants.{Refused}
 use Rattle.theory.specs.history.History.{lastAfter}
 use Rattle.theory.specs.totals.Totals.{totalled}
 use Rattle.theory.specs.feeding.Meaning.{meaning}
-use Rattle.theory.specs.feeding.Step.{recordNumber, nextNumber, answeredBy, clockKind}
-use Rattle.theory.proofs.acceptance.Accepted.{Accepts, accepts}
+use Rattle.theory.specs.feeding.Step.{recordNumber, nextNumber, answeredBy, clockKind, stepOf, setStepOf}
+use Rattle.theory.specs.feeding.Lent.{stateOf, setStateOf}
+use Rattle.theory.proofs.acceptance.Accepted.{Accepts, accepts, refused, set-refused}
 use Rattle.theory.proofs.acceptance.Plain.{commonRows, Plainly}
 use Rattle.theory.proofs.feeding.Parts.{AcceptedBy}
 use Rattle.acceptance.specs.declared.admission.Admitted.{Admitted}
@@ -95,3 +97,23 @@ pub refuses : (control : List ℕ) (r : Record) {after : List ℕ} {a : Admitted
 refuses control r e t h =
     let is = refusal-is (controlRefusal control r) (nextNumber control) (clockKind control (r .kind) (r .task) (r .on)) e in
     record { refusal = is; same = t ∙ sym (left-same (controlRefusal control r) _ control (λ z. h (is ∙ z))) }
+
+-- so that a step which ends there is the definition's, by the clocks
+pub refused-step : (control last clocks fullclocks : List ℕ) (r : Record) {after : List ℕ} {a : Admitted} →
+    a ≡ admittedAs (controlRefusal control r) (nextNumber control) (clockKind control (r .kind) (r .task) (r .on)) →
+    after ≡ unless (controlRefusal control r) (controlAfter (r .kind) (r .task) (r .on) control) control → a .refused ≢ 0 →
+    record { state = stateOf after last clocks fullclocks; answer = Refused (a .refused) } ≡ stepOf (stateOf control last clocks fullclocks) r
+unfolding stepOf
+refused-step control last clocks fullclocks r e t h =
+    let x = refuses control r e t h in
+    rw (x .same, ← x .refusal) (refused _ _ r h)
+
+-- and by the sets
+pub set-refused-step : (control last sets fullsets : List ℕ) (r : Record) {after : List ℕ} {a : Admitted} →
+    a ≡ admittedAs (controlRefusal control r) (nextNumber control) (clockKind control (r .kind) (r .task) (r .on)) →
+    after ≡ unless (controlRefusal control r) (controlAfter (r .kind) (r .task) (r .on) control) control → a .refused ≢ 0 →
+    record { state = setStateOf after last sets fullsets; answer = Refused (a .refused) } ≡ setStepOf (setStateOf control last sets fullsets) r
+unfolding setStepOf
+set-refused-step control last sets fullsets r e t h =
+    let x = refuses control r e t h in
+    rw (x .same, ← x .refusal) (set-refused _ _ r h)

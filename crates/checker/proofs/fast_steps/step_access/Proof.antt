@@ -3,14 +3,13 @@ use mathlib.Core.Path.{_≡_, sym}
 use lib.Dec.{leb}
 use Rattle.theory.specs.order.Recording.{seriesSize}
 use Rattle.theory.specs.fillings.Completion.{arrived, full}
-use Rattle.theory.specs.feeding.Step.{nextNumber, stepOf}
-use Rattle.theory.proofs.acceptance.Accepted.{refused}
+use Rattle.theory.specs.feeding.Step.{nextNumber}
 use Rattle.theory.proofs.acceptance.Plain.{Plainly, plain-access}
 use Rattle.theory.proofs.feeding.Parts.{stepped, access-moved}
 use Rattle.theory.proofs.history.Accesses.{OfAccess, of-access}
 use Rattle.theory.proofs.tables.Bits.{halved-twice, mask-lt}
 use Rattle.theory.proofs.tables.Ranges.{access-acts, access-size}
-use Rattle.acceptance.proofs.Admits.{Admits, plain-as, admits, refuses, accepted-by}
+use Rattle.acceptance.proofs.Admits.{Admits, plain-as, admits, accepted-by, refused-step}
 use borrow.Author.Needs.{needs}
 use Rattle.checker.proofs.fast_steps.step_access.Statement.{statement}
 use Rattle.checker.proofs.fast_steps.step_access.Tie as tie
@@ -22,15 +21,13 @@ outside : (c : tie.After-no-variable) → let a = c .before .before .args in c .
 outside c = let start = c .before .before in rw (access-size (start .args .r .kind) (start .pre)) (c .no-variable .ensures)
 
 returns : tie.Need-returns
-unfolding stepOf
 returns c =
     let at-admit = c .before .before in
     let start = at-admit .before .before .before in
     let a = start .args in
     let e = at-admit .admit-plain .ensures in
     let asked = plain-as (a .control .now) (a .r) (plain start) (outside (at-admit .before)) (e .0) (e .1) in
-    let x = refuses (a .control .now) (a .r) (asked .0) (asked .1) (c .if1 .taken) in
-    rw (x .same, ← x .refusal) (refused _ _ (a .r) (c .if1 .taken))
+    refused-step (a .control .now) (a .last .now) (a .clocks .now) (a .fullclocks .now) (a .r) (asked .0) (asked .1) (c .if1 .taken)
 
 -- once no row applies
 admitted : (c : tie.Else1) → let at-admit = c .before .before in let a = at-admit .before .before .before .args in Admits (a .control .now) (a .r) (at-admit .admit-plain .result) (at-admit .admit-plain .last .0)

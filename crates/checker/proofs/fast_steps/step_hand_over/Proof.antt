@@ -3,13 +3,12 @@ use mathlib.Core.Path.{sym, _∙_}
 use mathlib.Core.Bool.{true≢false}
 use Rattle.theory.specs.acceptance.Table.{Fitting}
 use Rattle.theory.specs.fillings.Completion.{arrived, full}
-use Rattle.theory.specs.feeding.Step.{nextNumber, stepOf}
-use Rattle.theory.proofs.acceptance.Accepted.{refused}
+use Rattle.theory.specs.feeding.Step.{nextNumber}
 use Rattle.theory.proofs.acceptance.Plain.{Plainly, plain-hand-over}
 use Rattle.theory.proofs.feeding.Parts.{stepped, act-moved}
 use Rattle.theory.proofs.tables.Bits.{halved-none}
 use Rattle.theory.proofs.tables.HandOver.{hand-acts, hand-no-access}
-use Rattle.acceptance.proofs.Admits.{Admits, plain-as, admits, refuses, accepted-by}
+use Rattle.acceptance.proofs.Admits.{Admits, plain-as, admits, accepted-by, refused-step}
 use borrow.Author.Needs.{needs}
 use Rattle.checker.proofs.fast_steps.step_hand_over.Statement.{statement}
 use Rattle.checker.proofs.fast_steps.step_hand_over.Tie as tie
@@ -18,15 +17,13 @@ plain : (c : tie.Start) → let a = c .args in Plainly (a .control .now) (a .r .
 plain c = let a = c .args in plain-hand-over (a .control .now) (a .r .task) (a .r .on) (c .pre .0) (c .pre .1)
 
 returns : tie.Need-returns
-unfolding stepOf
 returns c =
     let at-admit = c .before .before in
     let start = at-admit .before .before .before in
     let a = start .args in
     let e = at-admit .admit-plain .ensures in
     let asked = plain-as (a .control .now) (a .r) (plain start) (at-admit .before .no-object .ensures) (e .0) (e .1) in
-    let x = refuses (a .control .now) (a .r) (asked .0) (asked .1) (c .if1 .taken) in
-    rw (x .same, ← x .refusal) (refused _ _ (a .r) (c .if1 .taken))
+    refused-step (a .control .now) (a .last .now) (a .clocks .now) (a .fullclocks .now) (a .r) (asked .0) (asked .1) (c .if1 .taken)
 
 -- once no row applies
 admitted : (c : tie.Else1) → let at-admit = c .before .before in let a = at-admit .before .before .before .args in Admits (a .control .now) (a .r) (at-admit .admit-plain .result) (at-admit .admit-plain .last .0)

@@ -1,23 +1,19 @@
 -- A refused record leaves all as it was; of an accepted one the calls' equations are put together.
 use Rattle.theory.specs.order.Recording.{accesses}
 use Rattle.theory.specs.tables.Reckonings.{setApart}
-use Rattle.theory.specs.feeding.Step.{setStepOf}
-use Rattle.theory.proofs.acceptance.Accepted.{set-refused}
 use Rattle.theory.proofs.feeding.Parts.{set-stepped}
 use Rattle.theory.proofs.tables.Bits.{masks-lt, halved-mask}
-use Rattle.acceptance.proofs.Admits.{Admits, admits, refuses, accepted-by}
+use Rattle.acceptance.proofs.Admits.{Admits, admits, accepted-by, set-refused-step}
 use borrow.Author.Needs.{needs}
 use Rattle.checker.proofs.set_steps.set_step_in_place.Statement.{statement}
 use Rattle.checker.proofs.set_steps.set_step_in_place.Tie as tie
 
 returns : tie.Need-returns
-unfolding setStepOf
 returns c =
     let at-admit = c .before .before in
     let a = at-admit .before .before .args in
     let e = at-admit .admit .ensures in
-    let x = refuses (a .control .now) (a .r) (e .0) (e .1) (c .if1 .taken) in
-    rw (x .same, ← x .refusal) (set-refused _ _ (a .r) (c .if1 .taken))
+    set-refused-step (a .control .now) (a .last .now) (a .sets .now) (a .fullsets .now) (a .r) (e .0) (e .1) (c .if1 .taken)
 
 -- once no row applies
 admitted : (c : tie.Else1) → let at-admit = c .before .before in let a = at-admit .before .before .args in Admits (a .control .now) (a .r) (at-admit .admit .result) (at-admit .admit .last .0)

@@ -1,24 +1,20 @@
 -- A refused record leaves all as it was; of an accepted one the calls' equations are put together.
 use mathlib.Core.Path.{sym, _∙_}
 use mathlib.Core.Bool.{true≢false}
-use Rattle.theory.specs.feeding.Step.{stepOf}
-use Rattle.theory.proofs.acceptance.Accepted.{refused}
 use Rattle.theory.proofs.feeding.Parts.{stepped}
 use Rattle.theory.proofs.skipping.Code.{moved-proper}
 use Rattle.theory.proofs.tables.Bits.{halved-none}
-use Rattle.acceptance.proofs.Admits.{Admits, admits, refuses, accepted-by}
+use Rattle.acceptance.proofs.Admits.{Admits, admits, accepted-by, refused-step}
 use borrow.Author.Needs.{needs}
 use Rattle.checker.proofs.stepping.step_other.Statement.{statement}
 use Rattle.checker.proofs.stepping.step_other.Tie as tie
 
 returns : tie.Need-returns
-unfolding stepOf
 returns c =
     let at-admit = c .before .before in
     let a = at-admit .before .before .args in
     let e = at-admit .admit .ensures in
-    let x = refuses (a .control .now) (a .r) (e .0) (e .1) (c .if1 .taken) in
-    rw (x .same, ← x .refusal) (refused _ _ (a .r) (c .if1 .taken))
+    refused-step (a .control .now) (a .last .now) (a .clocks .now) (a .fullclocks .now) (a .r) (e .0) (e .1) (c .if1 .taken)
 
 -- once no row applies
 admitted : (c : tie.Else1) → let at-admit = c .before .before in let a = at-admit .before .before .args in Admits (a .control .now) (a .r) (at-admit .admit .result) (at-admit .admit .last .0)
