@@ -10,9 +10,17 @@ use Rattle.theory.specs.declared.record.Record.{Record}
 use Rattle.theory.specs.order.Recording.{seriesSize}
 use Rattle.theory.specs.acceptance.Table.{firstRow}
 use Rattle.theory.specs.acceptance.Control.{controlStanding, controlRefusal, counted, controlAfter}
-use Rattle.theory.specs.feeding.Step.{recordNumber, nextNumber, clockKind}
-use Rattle.theory.proofs.acceptance.Accepted.{Accepts, accepts}
+use Rattle.theory.specs.declared.masks.Masks.{Masks}
+use Rattle.theory.specs.declared.answer.Answer.{Answer}
+use Rattle.theory.specs.declared.answer.Answer.the-variants.{Refused}
+use Rattle.theory.specs.history.History.{lastAfter}
+use Rattle.theory.specs.totals.Totals.{totalled}
+use Rattle.theory.specs.feeding.Meaning.{meaning}
+use Rattle.theory.specs.feeding.Step.{recordNumber, nextNumber, answeredBy, clockKind, stepOf, setStepOf}
+use Rattle.theory.specs.feeding.Lent.{stateOf, setStateOf}
+use Rattle.theory.proofs.acceptance.Accepted.{Accepts, accepts, refused, set-refused}
 use Rattle.theory.proofs.acceptance.Plain.{commonRows, Plainly}
+use Rattle.theory.proofs.feeding.Parts.{AcceptedBy}
 use Rattle.acceptance.specs.declared.admission.Admitted.{Admitted}
 use Rattle.acceptance.specs.Admission.{admittedAs, unless}
 
@@ -63,6 +71,13 @@ admits control r e t z =
       noted = t ∙ ap (λ (n : ℕ). unless n (controlAfter (r .kind) (r .task) (r .on) control) control) none;
     }
 
+-- and with that the accepted part of its step is what the definition says
+pub accepted-by : {control last after : List ℕ} {r : Record} {a : Admitted} {m : Masks} {answer : Answer} {t l : List ℕ} → Admits control r a after →
+    answer ≡ answeredBy last (r .kind) (r .on) (a .number .0) m → t ≡ totalled (meaning answer) (r .on) after → l ≡ lastAfter (r .kind) (r .task) (r .on) (a .number .0) last →
+    AcceptedBy control last r m answer t l
+accepted-by x answered counted kept =
+    record { answered = rw (x .number) at answered; counted = rw (x .noted) at counted; kept = rw (x .number) at kept }
+
 -- what only the rows of every act can refuse, and is counted and no more, is admitted so too
 pub plain-as : (control : List ℕ) (r : Record) {o : Bool} {after : List ℕ} {a : Admitted} → Plainly control (r .kind) (r .task) (r .on) → o ≡ leb (seriesSize (r .kind)) (r .on) →
     a ≡ admittedAs (firstRow (commonRows (controlStanding control) (r .task) o)) (nextNumber control) (r .kind) →
@@ -82,3 +97,23 @@ pub refuses : (control : List ℕ) (r : Record) {after : List ℕ} {a : Admitted
 refuses control r e t h =
     let is = refusal-is (controlRefusal control r) (nextNumber control) (clockKind control (r .kind) (r .task) (r .on)) e in
     record { refusal = is; same = t ∙ sym (left-same (controlRefusal control r) _ control (λ z. h (is ∙ z))) }
+
+-- so that a step which ends there is the definition's, by the clocks
+pub refused-step : (control last clocks fullclocks : List ℕ) (r : Record) {after : List ℕ} {a : Admitted} →
+    a ≡ admittedAs (controlRefusal control r) (nextNumber control) (clockKind control (r .kind) (r .task) (r .on)) →
+    after ≡ unless (controlRefusal control r) (controlAfter (r .kind) (r .task) (r .on) control) control → a .refused ≢ 0 →
+    record { state = stateOf after last clocks fullclocks; answer = Refused (a .refused) } ≡ stepOf (stateOf control last clocks fullclocks) r
+unfolding stepOf
+refused-step control last clocks fullclocks r e t h =
+    let x = refuses control r e t h in
+    rw (x .same, ← x .refusal) (refused _ _ r h)
+
+-- and by the sets
+pub set-refused-step : (control last sets fullsets : List ℕ) (r : Record) {after : List ℕ} {a : Admitted} →
+    a ≡ admittedAs (controlRefusal control r) (nextNumber control) (clockKind control (r .kind) (r .task) (r .on)) →
+    after ≡ unless (controlRefusal control r) (controlAfter (r .kind) (r .task) (r .on) control) control → a .refused ≢ 0 →
+    record { state = setStateOf after last sets fullsets; answer = Refused (a .refused) } ≡ setStepOf (setStateOf control last sets fullsets) r
+unfolding setStepOf
+set-refused-step control last sets fullsets r e t h =
+    let x = refuses control r e t h in
+    rw (x .same, ← x .refusal) (set-refused _ _ r h)

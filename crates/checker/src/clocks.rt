@@ -195,6 +195,21 @@ pub(crate) fn own(cells: &mut Clocks, task: Task, number: RecordNumber)
     cells[FIRST_ACTED + t] = 1;
 }
 
+// In both tables.
+pub(crate) fn own_both(
+    clocks: &mut Clocks,
+    fullclocks: &mut Clocks,
+    task: Task,
+    number: RecordNumber,
+)
+    requires { ⌜ task .0 < tasks ⌝ }
+    ensures { λ _. ⌜ (now (clocks .exit) ≡ clockOwn (task .0) (number .0) (now (clocks .entry)))
+        × (now (fullclocks .exit) ≡ clockOwn (task .0) (number .0) (now (fullclocks .entry))) ⌝ }
+{
+    own(clocks, task, number);
+    own(fullclocks, task, number);
+}
+
 // The mask of an access in one filling, twice in a word, from where the task's row of clocks begins and where what the history has for its kind
 // does: the tasks whose latest conflicting access the row does not know. The loop is over columns, which are the tasks by their numbers.
 fn mask(cells: &Clocks, last: &History, row: usize, from: usize) -> u32

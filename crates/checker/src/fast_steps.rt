@@ -1,7 +1,8 @@
 // The two sorts of records that nearly all are of: an access, and a take, give, look or set outside the profile. Which comes next no processor guesses, so
 // each sort is told apart once, and from there on nothing branches on a kind, a verdict or a direction.
-use crate::acting::access_by_clocks;
 use crate::clocks;
+use crate::masks::empty_words;
+use crate::outcome::accept;
 use acceptance::admit_plain;
 use acceptance::no_flag;
 use acceptance::no_semaphore;
@@ -17,13 +18,11 @@ use theory::Task;
 use theory::Variable;
 ghost use mathlib.Core.Path.{_≡_};
 ghost use mathlib.Core.Bool.{true, false};
-ghost use mathlib.Core.List.{List};
-ghost use Prim.Native.Nat.{ℕ};
 ghost use lib.Dec.{leb};
 ghost use Rattle.theory.specs.order.Recording.{accesses, seriesSize};
 ghost use Rattle.theory.specs.acceptance.Control.{underIn};
 ghost use Rattle.theory.specs.feeding.Step.{stepOf};
-ghost use Rattle.theory.specs.feeding.Lent.{seen, stateOf, tables};
+ghost use Rattle.theory.specs.feeding.Lent.{tables};
 ghost use Rattle.theory.proofs.tables.HandOver.{HandOverKind};
 
 // Feeds an access.
@@ -42,16 +41,10 @@ pub(crate) fn step_access(
         return Answer::Refused(admitted.refused);
     }
     let number = admitted.number;
-    access_by_clocks(
-        control,
-        last,
-        clocks,
-        fullclocks,
-        r.kind,
-        Task(r.task),
-        Variable(r.on),
-        number,
-    )
+    let task = Task(r.task);
+    let words = clocks::clock_words(clocks, fullclocks, last, r.kind, task, Variable(r.on));
+    clocks::own_both(clocks, fullclocks, task, number);
+    accept(control, last, r, true, number, words)
 }
 
 // There is no such semaphore, or, where a flag is looked at or set, no such flag.
@@ -66,16 +59,16 @@ fn no_object(kind: u8, on: u32) -> bool
     }
 }
 
-// Feeds a take, give, look or set outside the profile. The history is as it was.
+// Feeds a take, give, look or set outside the profile.
 pub(crate) fn step_hand_over(
     control: &mut Control,
+    last: &mut History,
     clocks: &mut Clocks,
     fullclocks: &mut Clocks,
     r: Record,
 ) -> Answer
     requires { ⌜ HandOverKind (r .kind) × (underIn (now control) ≡ false) ⌝ }
-    ensures { λ a. let t = seen control in let c = seen clocks in let f = seen fullclocks in
-        ⌜ ((last : List ℕ) → record { state = stateOf (t .exit) last (c .exit) (f .exit); answer = a } ≡ stepOf (stateOf (t .entry) last (c .entry) (f .entry)) r) ⌝ }
+    ensures { λ a. let state = tables control last clocks fullclocks in ⌜ record { state = state .exit; answer = a } ≡ stepOf (state .entry) r ⌝ }
 {
     let admitted = admit_plain(control, r, no_object(r.kind, r.on));
     if admitted.refused != 0 {
@@ -83,8 +76,7 @@ pub(crate) fn step_hand_over(
     }
     let number = admitted.number;
     let task = Task(r.task);
-    clocks::own(clocks, task, number);
-    clocks::own(fullclocks, task, number);
+    clocks::own_both(clocks, fullclocks, task, number);
     clocks::hand_over(clocks, fullclocks, r.kind, task, r.on);
-    Answer::Accepted(number)
+    accept(control, last, r, false, number, empty_words())
 }

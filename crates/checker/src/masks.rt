@@ -50,6 +50,15 @@ pub(crate) struct Words {
     pub(crate) arrived: u32,
 }
 
+pub(crate) fn empty_words() -> Words
+    ensures { λ r. ⌜ (r .full ≡ 0) × (r .arrived ≡ 0) ⌝ }
+{
+    Words {
+        full: 0,
+        arrived: 0,
+    }
+}
+
 pub(crate) fn as_words(masks: Masks) -> Words
     ensures { λ r. ⌜ (r .full ≡ masks .full) × (r .arrived ≡ masks .arrived) ⌝ }
 {

@@ -1,10 +1,9 @@
-// The step over all kinds of records, by the clocks, and the same by the sets. In place, on tables that the caller lends, and by value.
-use crate::acting::act_by_clocks;
-use crate::acting::act_by_sets;
+// The step by the clocks, over all kinds of records: in place, on tables that the caller lends, and by value.
 use crate::fast_steps::step_access;
 use crate::fast_steps::step_hand_over;
-use crate::marks;
-use crate::sets;
+use crate::masks::empty_words;
+use crate::moving::move_clocks;
+use crate::outcome::accept;
 use acceptance::admit;
 use acceptance::is_under;
 use basics::both;
@@ -14,19 +13,15 @@ use theory::Answer;
 use theory::Clocks;
 use theory::Control;
 use theory::History;
-use theory::LOST;
 use theory::Record;
-use theory::SetState;
-use theory::SetStepped;
-use theory::Sets;
 use theory::State;
 use theory::Stepped;
 use theory::Task;
 ghost use mathlib.Core.Path.{_≡_};
 ghost use mathlib.Core.Bool.{false};
 ghost use Rattle.theory.specs.order.Recording.{accesses};
-ghost use Rattle.theory.specs.feeding.Step.{stepOf, setStepOf};
-ghost use Rattle.theory.specs.feeding.Lent.{tables, setTables};
+ghost use Rattle.theory.specs.feeding.Step.{stepOf};
+ghost use Rattle.theory.specs.feeding.Lent.{tables};
 
 // A record that is no access, of any other kind and none.
 fn step_other(
@@ -43,26 +38,16 @@ fn step_other(
     if admitted.refused != 0 {
         return Answer::Refused(admitted.refused);
     }
-    let kind = r.kind;
     let number = admitted.number;
-    match kind {
-        LOST => {
-            marks::mix(fullclocks, r.on);
-            Answer::Accepted(number)
-        }
-        _ => {
-            act_by_clocks(
-                last,
-                clocks,
-                fullclocks,
-                admitted.moves,
-                Task(r.task),
-                r.on,
-                number,
-            );
-            Answer::Accepted(number)
-        }
-    }
+    move_clocks(
+        clocks,
+        fullclocks,
+        admitted.moves,
+        Task(r.task),
+        r.on,
+        number,
+    );
+    accept(control, last, r, false, number, empty_words())
 }
 
 // Feeds a record. A refused record leaves every table as it was. An accepted one gets its number; the kind says what its other numbers are:
@@ -82,43 +67,9 @@ pub fn step_in_place(
         return step_access(control, last, clocks, fullclocks, r);
     }
     if both(hands_over(kind), !is_under(control)) {
-        return step_hand_over(control, clocks, fullclocks, r);
+        return step_hand_over(control, last, clocks, fullclocks, r);
     }
     step_other(control, last, clocks, fullclocks, r)
-}
-
-// The same by the sets, on their own state.
-pub fn set_step_in_place(
-    control: &mut Control,
-    last: &mut History,
-    sets: &mut Sets,
-    fullsets: &mut Sets,
-    r: Record,
-) -> Answer
-    ensures { λ a. let state = setTables control last sets fullsets in ⌜ record { state = state .exit; answer = a } ≡ setStepOf (state .entry) r ⌝ }
-{
-    let admitted = admit(control, r);
-    if admitted.refused != 0 {
-        return Answer::Refused(admitted.refused);
-    }
-    let kind = r.kind;
-    let number = admitted.number;
-    match kind {
-        LOST => {
-            sets::mix(fullsets, r.on);
-            Answer::Accepted(number)
-        }
-        _ => act_by_sets(
-            control,
-            last,
-            sets,
-            fullsets,
-            kind,
-            Task(r.task),
-            r.on,
-            number,
-        ),
-    }
 }
 
 // The same by value: state and record in, state and answer out.
@@ -136,25 +87,6 @@ pub fn step(s: State, r: Record) -> Stepped
             last,
             clocks,
             fullclocks,
-        },
-        answer,
-    }
-}
-
-pub fn set_step(s: SetState, r: Record) -> SetStepped
-    ensures { λ q. ⌜ q ≡ setStepOf s r ⌝ }
-{
-    let mut control = s.control;
-    let mut last = s.last;
-    let mut sets = s.sets;
-    let mut fullsets = s.fullsets;
-    let answer = set_step_in_place(&mut control, &mut last, &mut sets, &mut fullsets, r);
-    SetStepped {
-        state: SetState {
-            control,
-            last,
-            sets,
-            fullsets,
         },
         answer,
     }

@@ -6,4 +6,6 @@ pub mod Updated
 pub mod Owning
 pub mod Keeping
 pub mod ControlTable
+pub mod Noted
+pub mod Standings
 pub mod Examples

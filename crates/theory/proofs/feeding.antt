@@ -7,4 +7,4 @@ pub mod Paths
 pub mod Asked
 pub mod Matching
 pub mod Unused
-pub mod FastSteps
+pub mod Parts

@@ -42,7 +42,8 @@ use Rattle.theory.proofs.verdicts.Search.{Candidate}
 use Rattle.theory.proofs.verdicts.Latest.{Final, final-latest, latest-final}
 use Rattle.theory.proofs.verdicts.Examples.{ends-middle}
 use Rattle.theory.proofs.acceptance.Rows.{ActAllowed}
-use Rattle.theory.proofs.acceptance.ControlTable.{fresh-control, same-refusal}
+use Rattle.theory.proofs.acceptance.ControlTable.{fresh-control}
+use Rattle.theory.proofs.acceptance.Standings.{same-refusal}
 use Rattle.theory.proofs.totals.Kept.{fresh-control-cell}
 use Rattle.theory.proofs.tables.Bits.{mask-none, mask-lowest}
 use Rattle.theory.proofs.feeding.Simulation.{Shape, an-act, a-mark, shape-of, Represents, base-control, fresh-base, after-all, clocks-simulate, same-step}

@@ -14,7 +14,8 @@ use Rattle.theory.specs.acceptance.Control.{controlRefusal, controlAfter}
 use Rattle.theory.specs.feeding.Step.{freshControl}
 use Rattle.theory.specs.feeding.Feeding.{refusalsAfter}
 use Rattle.requests.specs.following.Following.{Run, runOf, followed, Follower, answeredAt, endedBy, answerBy, firstRefused, fedRefusal, AnswersWithout}
-use Rattle.theory.proofs.acceptance.ControlTable.{ExactControl, same-refusal}
+use Rattle.theory.proofs.acceptance.ControlTable.{ExactControl}
+use Rattle.theory.proofs.acceptance.Standings.{same-refusal}
 
 -- the refusal of the first refused record, record by record
 pub first-after : (n : ℕ) (ns : List ℕ) → ¬ (n ≡ 0) → firstRefused (n ∷ ns) ≡ n

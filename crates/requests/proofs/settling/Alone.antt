@@ -23,7 +23,7 @@ use Rattle.requests.specs.settling.Forcing.{CanForce, Forced}
 use Rattle.requests.specs.settling.Fold.{homeOf, freshHomes, homesAfter, aloneMask, homesFed, homesLeft, aloneAfter}
 use Rattle.requests.specs.settling.Answer.{SettlesAlone}
 use Rattle.theory.proofs.basics.Reflects.{by-test, is-true}
-use Rattle.theory.proofs.acceptance.ControlTable.{same-refusal}
+use Rattle.theory.proofs.acceptance.Standings.{same-refusal}
 use Rattle.theory.proofs.tables.Bits.{mask-lt}
 use Rattle.theory.proofs.tables.MaskBits.{mask-bit}
 use Rattle.theory.proofs.feeding.Simulation.{shape-of, Base, Represents, clocks-simulate, after-all}

@@ -21,7 +21,7 @@ use Rattle.theory.proofs.basics.Reflects.{Reflects, right, wrong}
 use Rattle.theory.proofs.order.Ops.{same-op, no-mark, event-act}
 use Rattle.theory.proofs.acceptance.Rows.{OfAct, actRows, act-rows, allowed}
 use Rattle.theory.proofs.acceptance.Owning.{under-snoc, under-kept, ChangesHolder, by-take, by-give, who-snoc, who-left}
-use Rattle.theory.proofs.acceptance.ControlTable.{phase-snoc}
+use Rattle.theory.proofs.acceptance.Noted.{phase-snoc}
 use Rattle.theory.proofs.feeding.Simulation.{Shape, an-act, a-mark, shape-of}
 use Rattle.requests.proofs.swapping.Independent.{Separates, Independent, TwoActs, either-way, phase-kept, phases-commute, holder-kept, holders-commute}
 

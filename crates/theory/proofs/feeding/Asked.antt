@@ -19,7 +19,7 @@ use Rattle.theory.specs.feeding.Step.{freshState, freshSets}
 use Rattle.theory.specs.feeding.Paths.{Reckoning, clockReckoning, setReckoning, leftBy, Retained, FullestPath, RetainedApart, ExactBetween, acquiring, ExactPaths, ExactMasks, TellsPaths}
 use Rattle.theory.proofs.basics.Reflects.{Reflects, right, wrong, by-test, is-true, fails, passed, passes}
 use Rattle.theory.proofs.order.Ops.{each-op, no-mark, opOf-kind, other-tests, on-series, access-on}
-use Rattle.theory.proofs.acceptance.ControlTable.{same-refusal}
+use Rattle.theory.proofs.acceptance.Standings.{same-refusal}
 use Rattle.theory.proofs.tables.MaskBits.{mask-bit}
 use Rattle.theory.proofs.feeding.Simulation.{Shape, an-act, a-mark, shape-of, after-all, clocks-simulate, sets-simulate}
 use Rattle.theory.proofs.feeding.Paths.{clock-paths, set-paths}

@@ -23,7 +23,7 @@ use Rattle.theory.specs.feeding.Feeding.{Checker, replies, afterAll, byC
 use Rattle.theory.specs.feeding.Paths.{clockReckoning, setReckoning, leftBy, ExactPaths, ReckoningsMatch}
 use Rattle.theory.proofs.order.Ops.{no-mark, opOf-kind}
 use Rattle.theory.proofs.tables.Bits.{mask-ext}
-use Rattle.theory.proofs.acceptance.ControlTable.{same-refusal}
+use Rattle.theory.proofs.acceptance.Standings.{same-refusal}
 use Rattle.theory.proofs.feeding.Simulation.{after-all, clocks-simulate, sets-simulate}
 use Rattle.theory.proofs.feeding.Paths.{clock-paths, set-paths}
 use Rattle.theory.proofs.feeding.Asked.{access-alone, AccessShape, an-access, access-shape, clocks-tested, sets-tested}

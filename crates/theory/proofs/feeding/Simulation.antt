@@ -32,7 +32,9 @@ use Rattle.theory.proofs.order.Ops.{op-of, no-mark, event-act, on-serie
 use Rattle.theory.proofs.tables.NamedRows.{bit-named}
 use Rattle.theory.proofs.tables.Exact.{ProperMask, nobody, somebody}
 use Rattle.theory.proofs.fillings.Reach.{arrived-nothing}
-use Rattle.theory.proofs.acceptance.ControlTable.{ExactControl, fresh-control, control-act, control-mark, same-refusal}
+use Rattle.theory.proofs.acceptance.ControlTable.{ExactControl, fresh-control}
+use Rattle.theory.proofs.acceptance.Noted.{control-act, control-mark}
+use Rattle.theory.proofs.acceptance.Standings.{same-refusal}
 use Rattle.theory.proofs.totals.Raised.{exact-totalled}
 use Rattle.theory.proofs.tables.ClockTables.{ExactClocks, clocks-act, clocks-mark, fresh-clocks}
 use Rattle.theory.proofs.tables.SetTables.{ExactSets, sets-act, sets-mark, fresh-sets}

@@ -11,7 +11,7 @@ use Rattle.theory.specs.order.Recording.{Op, start, Effect, keeps, begin
 use Rattle.theory.specs.order.Limits.{tasks}
 use Rattle.theory.specs.fillings.Completion.{Named, Filling, arrived, full, fills}
 use Rattle.theory.specs.acceptance.Table.{Phase, isLive, isUnseen, applyEffect, nextPhase, phase}
-use Rattle.theory.proofs.acceptance.ControlTable.{phase-snoc}
+use Rattle.theory.proofs.acceptance.Noted.{phase-snoc}
 use Rattle.theory.proofs.order.Carry.{Node, due, acted, Releases, own, own-next, own-acted, by-start}
 use Rattle.theory.proofs.fillings.Reach.{acquired-some, nobody-named, acquired-due, released-due, released-acted}
 use Rattle.theory.proofs.fillings.Fullest.{FillerAcquires}

@@ -13,7 +13,7 @@ use Rattle.theory.specs.basics.Turns.{turns, anyBelow}
 use Rattle.theory.specs.order.Recording.{write, fresh, kind, Kind, of-op, kinds, numberedKind, kindAccesses, accesses, seriesSize}
 use Rattle.theory.specs.order.Path.{rule, clashes}
 use Rattle.theory.specs.acceptance.Table.{Fitting}
-use Rattle.theory.specs.history.History.{askers, asker, askAt, kindClashes, slot, underEach, emptied, withAccess, lastAfter}
+use Rattle.theory.specs.history.History.{askers, asker, askAt, kindClashes, keptFor, slot, underEach, emptied, withAccess, lastAfter}
 use Rattle.theory.proofs.basics.Reflects.{Reflects, right, wrong, equal}
 use Rattle.theory.proofs.acceptance.Rows.{none-below}
 use Rattle.theory.proofs.order.Ops.{numberedKind-kind}
@@ -40,9 +40,12 @@ pub kept-nowhere : {A : Type 0} (f : ℕ → A → A) (k v u : ℕ) (b : A) → 
 unfolding underEach turns
 kept-nowhere f k v u b e = none (length askers)
   where
-    none : (n : ℕ) → turns n (λ a b. cond (kindClashes (numberedKind k) (asker a)) (f (slot a v u) b) b) b ≡ b
+    nowhere : (a : ℕ) → keptFor k a ≡ false
+    nowhere a = sym (no-clash k _ e)
+
+    none : (n : ℕ) → turns n (λ a b. cond (keptFor k a) (f (slot a v u) b) b) b ≡ b
     none zero = refl
-    none (suc n) = rw (sym (no-clash k (asker n) e)) (none n)
+    none (suc n) = rw (nowhere n) (none n)
 
 -- an access is kept
 pub kept-access : (k t v number : ℕ) (last : List ℕ) → accesses k ≡ true → lastAfter k t v number last ≡ withAccess k t v number last

@@ -9,9 +9,9 @@ use lib.Dec.{T}
 use lib.ListN.{length, set, replicate, length-set, length-replicate, getD-replicate}
 use lib.Seq.{getD-set-same, getD-set-other}
 use Rattle.theory.specs.basics.Turns.{turns}
-use Rattle.theory.specs.order.Recording.{Op, fresh, Event, act, lost, lossMark, Every, no-more, series, sizeOf, kind, numberedKind, isAccess}
+use Rattle.theory.specs.order.Recording.{Op, fresh, Event, act, lost, lossMark, Every, no-more, series, sizeOf, kind, isAccess}
 use Rattle.theory.specs.order.Path.{rule, clashes}
-use Rattle.theory.specs.history.History.{askers, asker, kindClashes, slot, slots, lastOf, underEach, emptied, lastAfter}
+use Rattle.theory.specs.history.History.{askers, asker, keptFor, slot, slots, lastOf, underEach, emptied, lastAfter}
 use Rattle.theory.specs.order.Limits.{tasks, variables}
 use Rattle.theory.proofs.order.Ops.{numberedKind-kind, access-on, same-op}
 use Rattle.theory.proofs.order.Tests.{every-snoc, snoc-every}
@@ -64,7 +64,7 @@ module _ {A : Type 0} (f : ℕ → A → A) (k v u : ℕ) where
   pub record Under (n s : ℕ) : Type 0 where
     pub a : ℕ
     pub among : a < n
-    pub clash : T (kindClashes (numberedKind k) (asker a))
+    pub clash : T (keptFor k a)
     pub place : s ≡ slot a v u
 
   -- what is in slot s is `On` where that is one of the first n, and `Off` elsewhere
@@ -72,35 +72,35 @@ module _ {A : Type 0} (f : ℕ → A → A) (k v u : ℕ) where
   WroteTo Ok On Off s n b = Ok b × ((Under n s × On b) ⊎ ((¬ Under n s) × Off b))
 
   module _ (Ok On Off : A → Type 0) (s : ℕ)
-      (ok : (a : ℕ) (b : A) → a < length askers → T (kindClashes (numberedKind k) (asker a)) → Ok b → Ok (f (slot a v u) b))
-      (on : (a : ℕ) (b : A) → a < length askers → T (kindClashes (numberedKind k) (asker a)) → s ≡ slot a v u → Ok b → On (f (slot a v u) b))
-      (apart : (a : ℕ) (b : A) → a < length askers → T (kindClashes (numberedKind k) (asker a)) → s ≢ slot a v u → Ok b →
+      (ok : (a : ℕ) (b : A) → a < length askers → T (keptFor k a) → Ok b → Ok (f (slot a v u) b))
+      (on : (a : ℕ) (b : A) → a < length askers → T (keptFor k a) → s ≡ slot a v u → Ok b → On (f (slot a v u) b))
+      (apart : (a : ℕ) (b : A) → a < length askers → T (keptFor k a) → s ≢ slot a v u → Ok b →
       (On b → On (f (slot a v u) b)) × (Off b → Off (f (slot a v u) b))) where
     abbrev Wrote : ℕ → A → Type 0
     Wrote = WroteTo Ok On Off s
 
     abbrev step : ℕ → A → A
-    step a b = cond (kindClashes (numberedKind k) (asker a)) (f (slot a v u) b) b
+    step a b = cond (keptFor k a) (f (slot a v u) b) b
 
     one-more : {n : ℕ} → Under n s → Under (suc n) s
     one-more x = let h = x .among in record { a = x .a; among = omega arith; clash = x .clash; place = x .place }
 
     next : (n : ℕ) (b : A) → n < length askers → Wrote n b → Wrote (suc n) (step n b)
-    next n b h (o, w) = decided (by-test (kindClashes (numberedKind k) (asker n)))
+    next n b h (o, w) = decided (by-test (keptFor k n))
       where
-        fewer : (T (kindClashes (numberedKind k) (asker n)) → s ≢ slot n v u) → Under (suc n) s → Under n s
+        fewer : (T (keptFor k n) → s ≢ slot n v u) → Under (suc n) s → Under n s
         fewer away x = of (equal (x .a) n)
           where
             of : {p : Bool} → Reflects (x .a ≡ n) p → Under n s
-            of (right e) = absurd (away (subst (λ (a : ℕ). T (kindClashes (numberedKind k) (asker a))) e (x .clash)) (subst (λ (a : ℕ). s ≡ slot a v u) e (x .place)))
+            of (right e) = absurd (away (subst (λ (a : ℕ). T (keptFor k a)) e (x .clash)) (subst (λ (a : ℕ). s ≡ slot a v u) e (x .place)))
             of (wrong d) = let l = x .among in record { a = x .a; among = omega arith; clash = x .clash; place = x .place }
 
-        stays : {y : A} → (T (kindClashes (numberedKind k) (asker n)) → s ≢ slot n v u) → (On b → On y) × (Off b → Off y) → (Under n s × On b) ⊎ ((¬ Under n s) × Off b) →
+        stays : {y : A} → (T (keptFor k n) → s ≢ slot n v u) → (On b → On y) × (Off b → Off y) → (Under n s × On b) ⊎ ((¬ Under n s) × Off b) →
             (Under (suc n) s × On y) ⊎ ((¬ Under (suc n) s) × Off y)
         stays away (p, q) (inl (x, y)) = inl (one-more x, p y)
         stays away (p, q) (inr (x, y)) = inr ((λ z. x (fewer away z)), q y)
 
-        decided : {p : Bool} → Reflects (T (kindClashes (numberedKind k) (asker n))) p → Wrote (suc n) (cond p (f (slot n v u) b) b)
+        decided : {p : Bool} → Reflects (T (keptFor k n)) p → Wrote (suc n) (cond p (f (slot n v u) b) b)
         decided (right c) = (ok n b h c o, here (equal s (slot n v u)))
           where
             here : {p : Bool} → Reflects (s ≡ slot n v u) p → (Under (suc n) s × On (f (slot n v u) b)) ⊎ ((¬ Under (suc n) s) × Off (f (slot n v u) b))
@@ -127,7 +127,7 @@ under-in o ht hn x =
     in-slot (x .a) (x .among) c ht (access-on o (clash-access o (asker (x .a)) c) hn) (x .place)
 
 -- the variable of an act that is kept
-pub kept-on : (o : Op) (a : ℕ) {n : ℕ} → n < sizeOf (series o) → T (kindClashes (numberedKind (kind o)) (asker a)) → n < variables
+pub kept-on : (o : Op) (a : ℕ) {n : ℕ} → n < sizeOf (series o) → T (keptFor (kind o) a) → n < variables
 kept-on o a hn c = access-on o (clash-access o (asker a) (rw (numberedKind-kind o) at c)) hn
 
 pub no-slot-mark : {mask s : ℕ} → ¬ InSlot s (lost mask)

@@ -25,7 +25,8 @@ use Rattle.theory.proofs.tables.Acts.{clock-own-same, clock-own-other}
 use Rattle.theory.proofs.tables.Nodes.{row, InRange, due-in, semaphore-in}
 use Rattle.theory.proofs.tables.ClockTables.{OfTask, ExactClocks}
 use Rattle.theory.proofs.acceptance.Keeping.{is-by}
-use Rattle.theory.proofs.acceptance.ControlTable.{ExactControl, gave-same}
+use Rattle.theory.proofs.acceptance.ControlTable.{ExactControl}
+use Rattle.theory.proofs.acceptance.Standings.{gave-same}
 use Rattle.theory.proofs.skipping.Learnt.{Had, gave, Learnt}
 
 -- Joining a row that is nowhere above the other

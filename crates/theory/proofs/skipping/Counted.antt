@@ -31,7 +31,8 @@ use Rattle.theory.proofs.tables.Counters.{Room, one-more, raise-same, r
 use Rattle.theory.proofs.acceptance.Rows.{allowed}
 use Rattle.theory.proofs.acceptance.Accepted.{fits-of}
 use Rattle.theory.proofs.acceptance.Owning.{who-none}
-use Rattle.theory.proofs.acceptance.ControlTable.{ExactControl, gave-same, same-refusal}
+use Rattle.theory.proofs.acceptance.ControlTable.{ExactControl}
+use Rattle.theory.proofs.acceptance.Standings.{gave-same, same-refusal}
 use Rattle.theory.proofs.feeding.Simulation.{Shape, an-act, a-mark, shape-of, after-all, clocks-simulate}
 use Rattle.theory.proofs.totals.Kept.{CountsSo, clocks-keep, sets-keep, fresh-control-cell}
 

@@ -1,6 +1,6 @@
 -- Masks of 16 tasks, built from the highest bit down or summed from the lowest up. Assumes nothing.
 use mathlib.Core.Path.{_≡_, refl, sym, _∙_, ap}
-use mathlib.Core.Bool.{Bool, true, false, not, _&&_}
+use mathlib.Core.Bool.{Bool, true, false, cond, not, _&&_}
 use Prim.Native.Nat.{ℕ, zero, suc, _+_, _*_, _-_, _^_, _/_, _%_, _≤_, _<_, zero-le, suc-le-suc, min}
 use native.Mathlib.Nat.{pow-suc, add-mul, mul-assoc, zero-mul}
 use native.Mathlib.Numerals.{add-one}
@@ -12,7 +12,7 @@ use borrow.Author.Tests.{eq-eqb, ne-eqb}
 use lib.Pow.{pow-mono, pow-lt, shr-shr}
 use Rattle.theory.specs.fillings.Completion.{bit}
 use Rattle.theory.specs.basics.Turns.{turns, indicator}
-use Rattle.theory.specs.tables.Reckonings.{maskOf, lowestTask}
+use Rattle.theory.specs.tables.Reckonings.{maskOf, masksBy, lowestTask}
 use Rattle.theory.specs.order.Limits.{tasks}
 use Rattle.theory.proofs.basics.Reflects.{Reflects, right, wrong, equal}
 
@@ -80,6 +80,11 @@ lowest p (suc n) h =
 pub mask-lt : (p : ℕ → Bool) → maskOf p < 2 ^ tasks
 unfolding maskOf
 mask-lt p = upper-lt p tasks
+
+-- so are the masks of a record, which only an access has
+pub masks-lt : (access : Bool) (p q : ℕ → Bool) → let m = cond access (masksBy (maskOf p) (maskOf q)) (masksBy 0 0) in (m .full < 2 ^ tasks) × (m .arrived < 2 ^ tasks)
+masks-lt true p q = (mask-lt p, mask-lt q)
+masks-lt false p q = (omega arith, omega arith)
 
 lowest-of : (p : ℕ → Bool) → Lowest p tasks (lowestTask (maskOf p))
 unfolding maskOf
@@ -229,6 +234,9 @@ halved-empty {x} h = decided (equal x 0)
     decided : {b : Bool} → Reflects (x ≡ 0) b → eqb (x % 2 ^ tasks) 0 ≡ b
     decided (right z) = eq-eqb (x % 2 ^ tasks) 0 (omega arith)
     decided (wrong d) = ne-eqb (x % 2 ^ tasks) 0 (λ z. d (h .empty z))
+
+pub halved-none : {x : ℕ} → x ≡ 0 → Halved x
+halved-none e = record { empty = λ _. e }
 
 pub halved-mask : {x m : ℕ} → x ≡ m → m < 2 ^ tasks → (x % 2 ^ tasks ≡ m) × Halved x
 halved-mask e h = (omega arith, record { empty = λ z. omega arith })

@@ -8,10 +8,10 @@ use native.Mathlib.Omega.{arith}
 use lib.Bits.{bitOr}
 use lib.Dec.{T, eqb}
 use lib.ListN.{length, replicate}
-use Rattle.theory.specs.order.Recording.{Op, Event, act, lost, series, sizeOf, kind, numberedKind}
+use Rattle.theory.specs.order.Recording.{Op, Event, act, lost, series, sizeOf, kind}
 use Rattle.theory.specs.fillings.Completion.{bit, Filling, fills}
 use Rattle.theory.specs.tables.Rows.{cellCount, cell, noteActed, mark, hub, rowCount, actedRow}
-use Rattle.theory.specs.history.History.{askers, asker, kindClashes, slot, slots, underEach}
+use Rattle.theory.specs.history.History.{askers, keptFor, slot, slots, underEach}
 use Rattle.theory.specs.tables.Reckonings.{slotWords, hasSlot, clearSlot, addSlot, setOwn, setAct, slotWord, slotPlace}
 use Rattle.theory.specs.order.Limits.{tasks}
 use Rattle.theory.proofs.basics.Reflects.{Reflects, right, wrong, equal}
@@ -133,7 +133,7 @@ module _ {w : Filling} {es : List Event} {b : List ℕ} {t n : ℕ} (o : Op) (x 
       (record { sized = x .sized; acted = λ u h. refl })
       (record { same = λ r h. refl })
     where
-      below : (a : ℕ) → a < length askers → T (kindClashes (numberedKind (kind o)) (asker a)) → slot a n t < slots
+      below : (a : ℕ) → a < length askers → T (keptFor (kind o) a) → slot a n t < slots
       below a ha c = slot-below ha (kept-on o a hn c) ht
 
   record Own (b′ : List ℕ) : Type 0 where

@@ -61,11 +61,22 @@ answeredBy last k on number masks =
 abbrev pub nextNumber : List ℕ → ℕ
 nextNumber control = countIn control + 1
 
+-- The accepted part of a step, the same by clocks and by sets: the answer by the masks of either, what the control table is then, with the verdict
+-- counted, and what is kept
+
+abbrev pub nextAnswer : List ℕ → List ℕ → Record → Masks → Answer
+nextAnswer control last r masks = answeredBy last (r .kind) (r .on) (nextNumber control) masks
+
+abbrev pub nextControl : List ℕ → Record → Answer → List ℕ
+nextControl control r answer = totalled (meaning answer) (r .on) (controlAfter (r .kind) (r .task) (r .on) control)
+
+abbrev pub nextHistory : List ℕ → List ℕ → Record → List ℕ
+nextHistory control last r = lastAfter (r .kind) (r .task) (r .on) (nextNumber control) last
+
 -- By the clocks
 
 abbrev pub clockAnswer : State → Record → Answer
-clockAnswer s r =
-    answeredBy (s .last) (r .kind) (r .on) (nextNumber (s .control)) (clockMasks (s .clocks) (s .fullclocks) (s .last) (r .kind) (r .task) (r .on))
+clockAnswer s r = nextAnswer (s .control) (s .last) r (clockMasks (s .clocks) (s .fullclocks) (s .last) (r .kind) (r .task) (r .on))
 
 -- which kind moves the clocks: a take that is skipped does no more than its own entry, as a miss does, which makes no step (F-13)
 abbrev pub clockKind : List ℕ → ℕ → ℕ → ℕ → ℕ
@@ -77,8 +88,8 @@ acceptedAs m s r =
     record {
       state =
           record {
-            control = totalled (meaning (clockAnswer s r)) (r .on) (controlAfter (r .kind) (r .task) (r .on) (s .control));
-            last = lastAfter (r .kind) (r .task) (r .on) (nextNumber (s .control)) (s .last);
+            control = nextControl (s .control) r (clockAnswer s r);
+            last = nextHistory (s .control) (s .last) r;
             clocks = nextClocks arrived m (r .task) (r .on) (nextNumber (s .control)) (s .clocks);
             fullclocks = nextClocks full m (r .task) (r .on) (nextNumber (s .control)) (s .fullclocks);
           };
@@ -99,15 +110,15 @@ stepOf s r = stepUnless (controlRefusal (s .control) r) s r
 -- By the sets
 
 abbrev pub setAnswer : SetState → Record → Answer
-setAnswer s r = answeredBy (s .last) (r .kind) (r .on) (nextNumber (s .control)) (setMasks (s .sets) (s .fullsets) (s .last) (r .kind) (r .task) (r .on))
+setAnswer s r = nextAnswer (s .control) (s .last) r (setMasks (s .sets) (s .fullsets) (s .last) (r .kind) (r .task) (r .on))
 
 abbrev pub setAccepted : SetState → Record → SetStepped
 setAccepted s r =
     record {
       state =
           record {
-            control = totalled (meaning (setAnswer s r)) (r .on) (controlAfter (r .kind) (r .task) (r .on) (s .control));
-            last = lastAfter (r .kind) (r .task) (r .on) (nextNumber (s .control)) (s .last);
+            control = nextControl (s .control) r (setAnswer s r);
+            last = nextHistory (s .control) (s .last) r;
             sets = nextSets arrived (r .kind) (r .task) (r .on) (s .sets);
             fullsets = nextSets full (r .kind) (r .task) (r .on) (s .fullsets);
           };

@@ -43,9 +43,13 @@ abbrev pub kindClashes : Kind → Op → Bool
 kindClashes (of-op o) p = clashes o p
 kindClashes of-mark p = false
 
--- f at each slot that an access of kind k to v by task u is kept in: under each kind that it clashes with. What is no access is kept nowhere
+-- what a record of kind k says is kept under the kind of access that has number a: an access is, under each that it clashes with
+abbrev pub keptFor : ℕ → ℕ → Bool
+keptFor k a = kindClashes (numberedKind k) (asker a)
+
+-- f at each slot that an access of kind k to v by task u is kept in. What is no access is kept nowhere
 unfoldable pub underEach : {A : Type 0} → (ℕ → A → A) → ℕ → ℕ → ℕ → A → A
-underEach f k v u b = turns (length askers) (λ a b. cond (kindClashes (numberedKind k) (asker a)) (f (slot a v u) b) b) b
+underEach f k v u b = turns (length askers) (λ a b. cond (keptFor k a) (f (slot a v u) b) b) b
 
 -- the history with an access kept; what is no access is kept nowhere
 abbrev pub withAccess : ℕ → ℕ → ℕ → ℕ → List ℕ → List ℕ

@@ -1,6 +1,6 @@
 -- The partner is that of the mask that decides, where one does.
 use mathlib.Core.Path.{_∙_}
-use Rattle.theory.proofs.feeding.FastSteps.{judged-so}
+use Rattle.theory.proofs.feeding.Parts.{judged-so}
 use borrow.Author.Needs.{needs}
 use Rattle.checker.proofs.masks.judged.Statement.{statement}
 use Rattle.checker.proofs.masks.judged.Tie as tie

@@ -10,7 +10,7 @@ use Rattle.checker.proofs.stepping.step_in_place.Tie as tie
 
 step-hand-over-requires : tie.Need-step-hand-over-requires
 step-hand-over-requires c κs =
-    let at-if2 = c .before .before .before in
+    let at-if2 = c .before .before .before .before in
     let at-both = at-if2 .before in
     let at-under = at-both .before in
     let at-hands = at-under .before .before in
@@ -19,8 +19,5 @@ step-hand-over-requires c κs =
       sym (at-under .is-under .ensures) ∙ not-true _ (and-elim-right (at-hands .hands-over .result) _ t),
     )
 
-returns-2 : tie.Need-returns-2
-returns-2 c = c .step-hand-over .ensures (c .before .before .before .before .before .before .before .before .before .before .before .args .last .now)
-
 pub step-in-place-spec : {M : Type 1} → statement M
-step-in-place-spec = tie.close (tie.spec (λ c κs. search needs) (λ c κs. search needs) (λ c. search needs) (λ c κs. search needs) (λ c κs. search needs) (λ c κs. search needs) step-hand-over-requires returns-2 (λ c κs. search needs) (λ c. search needs))
+step-in-place-spec = tie.close (tie.spec (λ c κs. search needs) (λ c κs. search needs) (λ c. search needs) (λ c κs. search needs) (λ c κs. search needs) (λ c κs. search needs) step-hand-over-requires (λ c. search needs) (λ c κs. search needs) (λ c. search needs))

@@ -6,8 +6,8 @@ use Rattle.theory.proofs.history.Accesses.{kept-access}
 use Rattle.theory.proofs.tables.Bits.{halved-empty}
 use Rattle.theory.proofs.totals.Counted.{told-verdict}
 use borrow.Author.Needs.{needs}
-use Rattle.checker.proofs.acting.take_access.Statement.{statement}
-use Rattle.checker.proofs.acting.take_access.Tie as tie
+use Rattle.checker.proofs.outcome.take_access.Statement.{statement}
+use Rattle.checker.proofs.outcome.take_access.Tie as tie
 
 returns : tie.Need-returns
 returns c =
