@@ -11,7 +11,7 @@ use theory::RecordNumber;
 ghost use mathlib.Core.Path.{_≡_};
 ghost use Rattle.theory.specs.acceptance.Table.{firstRow};
 ghost use Rattle.theory.specs.acceptance.Control.{controlStanding, controlRefusal, counted, controlAfter};
-ghost use Rattle.theory.specs.feeding.Step.{nextNumber, clockKind};
+ghost use Rattle.theory.specs.feeding.Step.{recordOf, nextNumber, clockKind};
 ghost use Rattle.theory.specs.feeding.Lent.{seen};
 ghost use Rattle.theory.proofs.acceptance.Plain.{commonRows};
 ghost use Rattle.acceptance.specs.Admission.{admittedAs, unless};
@@ -34,19 +34,20 @@ fn not_admitted(refused: u32) -> Admitted
     }
 }
 
-// Any record. A refused one leaves the table as it was.
-pub fn admit(control: &mut Control, r: Record) -> Admitted
-    ensures { λ a. let c = seen control in let n = controlRefusal (c .entry) r in
-        ⌜ (a ≡ admittedAs n (nextNumber (c .entry)) (clockKind (c .entry) (r .kind) (r .task) (r .on)))
-        × (c .exit ≡ unless n (controlAfter (r .kind) (r .task) (r .on) (c .entry)) (c .entry)) ⌝ }
+// Any record. A refused one leaves the table as it was. The three numbers come by themselves and not as a record, which would be copied here by wider
+// loads than the caller's stores: a processor waits for those.
+pub fn admit(control: &mut Control, kind: u8, task: u32, on: u32) -> Admitted
+    ensures { λ a. let c = seen control in let n = controlRefusal (c .entry) (recordOf kind task on) in
+        ⌜ (a ≡ admittedAs n (nextNumber (c .entry)) (clockKind (c .entry) kind task on))
+        × (c .exit ≡ unless n (controlAfter kind task on (c .entry)) (c .entry)) ⌝ }
 {
-    let refused = refusal(control, r);
+    let refused = refusal(control, Record { kind, task, on });
     if refused != 0 {
         return not_admitted(refused);
     }
     let number = RecordNumber(control[COUNT] + 1);
-    let moves = clock_kind(control, r.kind, r.task, r.on);
-    note(control, r.kind, r.task, r.on);
+    let moves = clock_kind(control, kind, task, on);
+    note(control, kind, task, on);
     Admitted {
         refused: 0,
         number,

@@ -101,7 +101,7 @@ pub fn set_step_in_place(
 ) -> Answer
     ensures { λ a. let state = setTables control last sets fullsets in ⌜ record { state = state .exit; answer = a } ≡ setStepOf (state .entry) r ⌝ }
 {
-    let admitted = admit(control, r);
+    let admitted = admit(control, r.kind, r.task, r.on);
     if admitted.refused != 0 {
         return Answer::Refused(admitted.refused);
     }

@@ -92,7 +92,7 @@ fn follow_home(
     let mut i = 0;
     while i < upto {
         let r = record_at(list, i);
-        let admitted = admit(control, r);
+        let admitted = admit(control, r.kind, r.task, r.on);
         if admitted.refused != 0 {
             return admitted.refused;
         }
@@ -168,7 +168,7 @@ pub fn feed_home(
         ⌜ (a ≡ ending (homeFollower home) r (runOf 0 (c .entry) (sideOf (l .entry) (s .entry))))
         × (runOf (a .refused) (c .exit) (sideOf (l .exit) (s .exit)) ≡ followed (sideAfter home) (c .entry) (sideOf (l .entry) (s .entry)) (r ∷ [])) ⌝ }
 {
-    let admitted = admit(control, r);
+    let admitted = admit(control, r.kind, r.task, r.on);
     if admitted.refused != 0 {
         return no_answer(admitted.refused);
     }

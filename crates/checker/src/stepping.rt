@@ -34,7 +34,7 @@ fn step_other(
     requires { ⌜ accesses (r .kind) ≡ false ⌝ }
     ensures { λ a. let state = tables control last clocks fullclocks in ⌜ record { state = state .exit; answer = a } ≡ stepOf (state .entry) r ⌝ }
 {
-    let admitted = admit(control, r);
+    let admitted = admit(control, r.kind, r.task, r.on);
     if admitted.refused != 0 {
         return Answer::Refused(admitted.refused);
     }

@@ -36,7 +36,7 @@ pub(crate) fn follow(
     let mut i = 0;
     while i < upto {
         let r = record_at(list, i);
-        let admitted = admit(control, r);
+        let admitted = admit(control, r.kind, r.task, r.on);
         if admitted.refused != 0 {
             return Followed {
                 refused: admitted.refused,
