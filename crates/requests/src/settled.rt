@@ -5,7 +5,7 @@ pub const NO: u32 = 1;
 
 pub const YES: u32 = 2;
 
-#[derive(Drop)]
+#[derive(Clone, Copy)]
 pub struct Settled {
     pub refused: u32,
     pub forced: u32,

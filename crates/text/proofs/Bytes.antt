@@ -14,44 +14,44 @@ use Rattle.text.specs.Bytes.{index_of, up_to, after, starts_with, is_word, littl
 
 -- The first place of a byte
 
-pub index-here : (b : ℕ) {x : ℕ} (s : List ℕ) → x ≡ b → index_of b (x ∷ s) ≡ 0
+pub index_here : (b : ℕ) {x : ℕ} (s : List ℕ) → x ≡ b → index_of b (x ∷ s) ≡ 0
 unfolding index_of
-index-here b {x} s e = rw (eq-eqb x b e)
+index_here b {x} s e = rw (eq-eqb x b e)
 
-pub index-later : (b : ℕ) {x : ℕ} (s : List ℕ) → (x ≡ b → ⊥) → index_of b (x ∷ s) ≡ suc (index_of b s)
+pub index_later : (b : ℕ) {x : ℕ} (s : List ℕ) → (x ≡ b → ⊥) → index_of b (x ∷ s) ≡ suc (index_of b s)
 unfolding index_of
-index-later b {x} s d = rw (ne_eqb x b d)
+index_later b {x} s d = rw (ne_eqb x b d)
 
-pub index-none : (b : ℕ) → index_of b [] ≡ 0
+pub index_none : (b : ℕ) → index_of b [] ≡ 0
 unfolding index_of
-index-none b = refl
+index_none b = refl
 
 -- from place i on: the byte is there, or not, or the list is at its end
 module _ (b : ℕ) (s : List ℕ) (i : ℕ) where
   pub found_at : i < length s → get_or s i 0 ≡ b → i + index_of b (drop i s) ≡ i
-  found_at h e = rw (drop-cons s i 0 h, index-here b (drop (suc i) s) e) (add-zero i)
+  found_at h e = rw (drop-cons s i 0 h, index_here b (drop (suc i) s) e) (add-zero i)
 
   pub passed_at : i < length s → (get_or s i 0 ≡ b → ⊥) → i + index_of b (drop i s) ≡ (i + 1) + index_of b (drop (i + 1) s)
-  passed_at h d = rw (add-one i, drop-cons s i 0 h, index-later b (drop (suc i) s) d) (omega arith)
+  passed_at h d = rw (add-one i, drop-cons s i 0 h, index_later b (drop (suc i) s) d) (omega arith)
 
   pub ended_at : length s ≤ i → i + index_of b (drop i s) ≡ i
-  ended_at h = rw (drop_of_length-le s h, index-none b) (add-zero i)
+  ended_at h = rw (drop_of_length-le s h, index_none b) (add-zero i)
 
-pub index-fits : (b : ℕ) (s : List ℕ) → index_of b s ≤ length s
+pub index_fits : (b : ℕ) (s : List ℕ) → index_of b s ≤ length s
 unfolding index_of
-index-fits b [] = omega arith
-index-fits b (x ∷ s) = picked (eqb x b) (index-fits b s)
+index_fits b [] = omega arith
+index_fits b (x ∷ s) = picked (eqb x b) (index_fits b s)
   where
     picked : (t : Bool) → index_of b s ≤ length s → cond t zero (suc (index_of b s)) ≤ suc (length s)
     picked true h = omega arith
     picked false h = omega arith
 
 -- there is a b no later than at a place that has one
-pub index-bound : (b : ℕ) (s : List ℕ) (j : ℕ) → j < length s → get_or s j 0 ≡ b → index_of b s ≤ j
+pub index_bound : (b : ℕ) (s : List ℕ) (j : ℕ) → j < length s → get_or s j 0 ≡ b → index_of b s ≤ j
 unfolding index_of
-index-bound b [] j h e = absurd (omega arith)
-index-bound b (x ∷ s) zero h e = rw (eq-eqb x b e) (omega arith)
-index-bound b (x ∷ s) (suc j) h e = picked (eqb x b) (index-bound b s j (omega arith) e)
+index_bound b [] j h e = absurd (omega arith)
+index_bound b (x ∷ s) zero h e = rw (eq-eqb x b e) (omega arith)
+index_bound b (x ∷ s) (suc j) h e = picked (eqb x b) (index_bound b s j (omega arith) e)
   where
     picked : (t : Bool) → index_of b s ≤ j → cond t zero (suc (index_of b s)) ≤ suc j
     picked true k = omega arith
@@ -111,13 +111,13 @@ unfolding index_of
 without_append b [] s h k = k
 without_append b (x ∷ w) s h k = let (f, g) = first_not (eqb x b) (index_of b w) (length w) h in rw f (ap suc (without_append b w s g k))
 
-pub index-seam : (b : ℕ) (w s : List ℕ) → Without b w → index_of b (w ++ (b ∷ s)) ≡ length w
+pub index_seam : (b : ℕ) (w s : List ℕ) → Without b w → index_of b (w ++ (b ∷ s)) ≡ length w
 unfolding index_of
-index-seam b [] s h = index-here b s refl
-index-seam b (x ∷ w) s h = let (f, g) = first_not (eqb x b) (index_of b w) (length w) h in rw f (ap suc (index-seam b w s g))
+index_seam b [] s h = index_here b s refl
+index_seam b (x ∷ w) s h = let (f, g) = first_not (eqb x b) (index_of b w) (length w) h in rw f (ap suc (index_seam b w s g))
 
 pub without_cons : (b x : ℕ) (s : List ℕ) → (x ≡ b → ⊥) → Without b s → Without b (x ∷ s)
-without_cons b x s d h = index-later b s d ∙ ap suc h
+without_cons b x s d h = index_later b s d ∙ ap suc h
 
 -- the first byte is not b, and none after it
 pub without_head : (b x : ℕ) (s : List ℕ) → Without b (x ∷ s) → (x ≡ b → ⊥) × Without b s
@@ -131,7 +131,7 @@ without_drop b [] (suc n) h = h
 without_drop b (x ∷ s) (suc n) h = without_drop b s n (without_head b x s h).1
 
 pub without_take : (b : ℕ) (s : List ℕ) (n : ℕ) → Without b s → Without b (take n s)
-without_take b s zero h = index-none b
+without_take b s zero h = index_none b
 without_take b [] (suc n) h = h
 without_take b (x ∷ s) (suc n) h = let (d, g) = without_head b x s h in without_cons b x (take n s) d (without_take b s n g)
 
@@ -144,18 +144,18 @@ drop_seam [] b s = refl
 drop_seam (x ∷ w) b s = drop_seam w b s
 
 pub before_seam : (b : ℕ) (w s : List ℕ) → Without b w → up_to b (w ++ (b ∷ s)) ≡ w
-before_seam b w s h = rw (index-seam b w s h) (take_seam w (b ∷ s))
+before_seam b w s h = rw (index_seam b w s h) (take_seam w (b ∷ s))
 
-pub after-seam : (b : ℕ) (w s : List ℕ) → Without b w → after b (w ++ (b ∷ s)) ≡ s
-after-seam b w s h = rw (index-seam b w s h) (drop_seam w b s)
+pub after_seam : (b : ℕ) (w s : List ℕ) → Without b w → after b (w ++ (b ∷ s)) ≡ s
+after_seam b w s h = rw (index_seam b w s h) (drop_seam w b s)
 
 -- a list without b, and then another
-pub index-append : (b : ℕ) (w s : List ℕ) → Without b w → index_of b (w ++ s) ≡ length w + index_of b s
+pub index_append : (b : ℕ) (w s : List ℕ) → Without b w → index_of b (w ++ s) ≡ length w + index_of b s
 unfolding index_of
-index-append b [] s h = omega arith
-index-append b (x ∷ w) s h =
+index_append b [] s h = omega arith
+index_append b (x ∷ w) s h =
     let (f, g) = first_not (eqb x b) (index_of b w) (length w) h in
-    rw (f, index-append b w s g) (omega arith)
+    rw (f, index_append b w s g) (omega arith)
 
 -- a part without b is passed over
 pub passed_over : (b : ℕ) (s : List ℕ) (i j : ℕ) → i ≤ j → j ≤ length s
@@ -163,16 +163,16 @@ pub passed_over : (b : ℕ) (s : List ℕ) (i j : ℕ) → i ≤ j → j ≤ len
 passed_over b s i j h l e =
     let w : List ℕ = take (j - i) (drop i s) in
     let p : length w ≡ j - i = length-take-le (j - i) (drop i s) (rw (length-drop i s) (omega arith)) in
-    let n : Without b w = omega (arith, ltb-false (index_of b w) (length w) e, index-fits b w) in
+    let n : Without b w = omega (arith, ltb-false (index_of b w) (length w) e, index_fits b w) in
     let g : i + (j - i) ≡ j = omega arith in
     let q : drop i s ≡ w ++ drop j s = sym (take-append-drop (j - i) (drop i s)) ∙ ap (λ (t : List ℕ). w ++ t) (drop-drop (j - i) i s ∙ ap (λ (k : ℕ). drop k s) g) in
-    ap (λ (t : List ℕ). i + index_of b t) q ∙ ap (λ (k : ℕ). i + k) (index-append b w (drop j s) n) ∙ omega arith
+    ap (λ (t : List ℕ). i + index_of b t) q ∙ ap (λ (k : ℕ). i + k) (index_append b w (drop j s) n) ∙ omega arith
 
 -- a b in front is the first one
-pub index-front : (b : ℕ) (w s : List ℕ) → index_of b w < length w → index_of b (w ++ s) ≡ index_of b w
+pub index_front : (b : ℕ) (w s : List ℕ) → index_of b w < length w → index_of b (w ++ s) ≡ index_of b w
 unfolding index_of
-index-front b [] s h = absurd (omega arith)
-index-front b (x ∷ w) s h = picked (eqb x b) h (index-front b w s)
+index_front b [] s h = absurd (omega arith)
+index_front b (x ∷ w) s h = picked (eqb x b) h (index_front b w s)
   where
     picked : (t : Bool) → cond t zero (suc (index_of b w)) < suc (length w) → (index_of b w < length w → index_of b (w ++ s) ≡ index_of b w)
         → cond t zero (suc (index_of b (w ++ s))) ≡ cond t zero (suc (index_of b w))
@@ -183,7 +183,7 @@ pub found_in : (b : ℕ) (s : List ℕ) (i j : ℕ) → i ≤ j → j ≤ length
     → index_of b (drop i s) ≡ index_of b (take (j - i) (drop i s))
 found_in b s i j h l e =
     let p : length (take (j - i) (drop i s)) ≡ j - i = length-take-le (j - i) (drop i s) (rw (length-drop i s) (omega arith)) in
-    ap (index_of b) (sym (take-append-drop (j - i) (drop i s))) ∙ index-front b (take (j - i) (drop i s)) (drop (j - i) (drop i s)) (omega arith)
+    ap (index_of b) (sym (take-append-drop (j - i) (drop i s))) ∙ index_front b (take (j - i) (drop i s)) (drop (j - i) (drop i s)) (omega arith)
 
 -- there is no b before the first b
 pub before_without : (b : ℕ) (s : List ℕ) → Without b (up_to b s)

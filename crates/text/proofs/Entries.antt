@@ -13,5 +13,5 @@ entries_held =
       same_next = λ control l. ap (control_with control) (held_same entry_of long_entry l);
     }
 
-pub entry-reader-cuts : CutsAlike entry_reader
-entry-reader-cuts = cuts_alike entry_reader entries_held
+pub entry_reader_cuts : CutsAlike entry_reader
+entry_reader_cuts = cuts_alike entry_reader entries_held

@@ -22,7 +22,7 @@ use Rattle.text.specs.Entries.{said_for_entry, control_with, entry_reader}
 use Rattle.text.specs.Answers.{PieceFits}
 use Rattle.text.specs.EntriesRead.{EntriesFit, EntriesRead, EntriesAnswered}
 use Rattle.text.proofs.Wrote.{◌then◌, wrote_nothing, front, as_long}
-use Rattle.text.proofs.Stream.{said_append, after-append}
+use Rattle.text.proofs.Stream.{said_append, after_append}
 use Rattle.text.proofs.Entries.{entries_held}
 use Rattle.text.proofs.Held.{front_held}
 
@@ -114,7 +114,7 @@ read_both : {out out' out'' line line' line'' control control' control'' : List 
 read_both {line = line} {control = control} {begun = begun} s t v w =
     record {
       wrote = rw (said_append entry_reader entries_held (pending_in control begun line) s t, ← v.keeps) (v.wrote then w.wrote);
-      keeps = w.keeps ∙ ap (λ (k : Pending (List ℕ)). piece_kept entry_reader k t) v.keeps ∙ sym (after-append entry_reader entries_held (pending_in control begun line) s t);
+      keeps = w.keeps ∙ ap (λ (k : Pending (List ℕ)). piece_kept entry_reader k t) v.keeps ∙ sym (after_append entry_reader entries_held (pending_in control begun line) s t);
       room = omega (arith, v.room, w.room, length-append s t);
       short = w.short;
       holds = w.holds ∙ v.holds;

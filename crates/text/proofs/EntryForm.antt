@@ -20,7 +20,7 @@ use Rattle.text.specs.LineForm.{read_digits, space, field_of}
 use Rattle.text.specs.EntryForm.{after_spaces, word_after, rec_name, var_name, low_name, high_name, mark_word, fewer_digits, record_wide, read_record_number, record_field, in_range, within_range}
 use Rattle.text.specs.EntryForm.{marked_entry, entry_by, entry_of, entry_text, InForm, EntryTaken, OnlyEntryText, OnlyInForm, LongEntry, TextOf, EntryWritten}
 use Rattle.text.specs.Printing.{bytes, last_digits, width_in, width, decimal, record_digits}
-use Rattle.text.proofs.Bytes.{Without, without_append, before_seam, after-seam, joined, is_the_word}
+use Rattle.text.proofs.Bytes.{Without, without_append, before_seam, after_seam, joined, is_the_word}
 use Rattle.text.proofs.Digits.{none_above, digits_long, decimal_fits}
 use Rattle.text.proofs.LineForm.{cut_before}
 use Rattle.text.proofs.Numerals.{let_through, read_above, read_printed, printed_read}
@@ -157,19 +157,19 @@ from_low e = low_word e ++ (space ∷ from_high e)
 abbrev from_var : Entry → List ℕ
 from_var e = var_word e ++ (space ∷ from_low e)
 
-entry-text : (k : ℕ) (e : Entry) → entry_text k e ≡ rec_word k e ++ (space ∷ from_var e)
+entry_text_lem : (k : ℕ) (e : Entry) → entry_text k e ≡ rec_word k e ++ (space ∷ from_var e)
 unfolding entry_text
-entry-text k e = simp append_assoc
+entry_text_lem k e = simp append_assoc
 
 -- the line of an entry, from its words
-entry-joined : (s : List ℕ) (k : ℕ) (e : Entry) → word_after 0 s ≡ rec_word k e → word_after 1 s ≡ var_word e → word_after 2 s ≡ low_word e → word_after 3 s ≡ high_word e
+entry_joined : (s : List ℕ) (k : ℕ) (e : Entry) → word_after 0 s ≡ rec_word k e → word_after 1 s ≡ var_word e → word_after 2 s ≡ low_word e → word_after 3 s ≡ high_word e
     → after_spaces 4 s ≡ from_mark e → s ≡ entry_text k e
 unfolding after_spaces
-entry-joined s k e a b c d m =
+entry_joined s k e a b c d m =
     let p = spaced 3 s (high_word e) (from_mark e) d m (mark_long e.accepted).0 in
     let q = spaced 2 s (low_word e) (from_high e) c p (omega arith) in
     let r = spaced 1 s (var_word e) (from_low e) b q (omega arith) in
-    spaced 0 s (rec_word k e) (from_var e) a r (omega arith) ∙ sym (entry-text k e)
+    spaced 0 s (rec_word k e) (from_var e) a r (omega arith) ∙ sym (entry_text_lem k e)
 
 fields_said : (s : List ℕ) (e : Entry) (x y z w : Number) → record_field (word_after 0 s) ≡ x → field_of var_name (word_after 1 s) ≡ y → field_of low_name (word_after 2 s) ≡ z
     → field_of high_name (word_after 3 s) ≡ w → entry_by x y z w (after_spaces 4 s) ≡ EntryLine.Entry e → Said s e
@@ -181,7 +181,7 @@ fields_said s e (Number.Value rec) (Number.Value var) (Number.Value low) (Number
         count = r.count;
         five_or_seven = r.wide;
         enough = r.enough;
-        is = entry-joined s r.count (record { rec = rec; var = var; low = low; high = high; accepted = t })
+        is = entry_joined s r.count (record { rec = rec; var = var; low = low; high = high; accepted = t })
             r.is (field_is var_name (word_after 1 s) var b).is (field_is low_name (word_after 2 s) low c).is
             (field_is high_name (word_after 3 s) high d).is m;
       });
@@ -212,9 +212,9 @@ wide_most k (inr e) = omega arith
 pub wide_fits : (k : ℕ) → record_wide k ≡ true → k ≤ record_digits
 wide_fits k e = wide_most k (wide_digits k e)
 
-entry-short : (k : ℕ) (e : Entry) → Wide k → InForm e → length (entry_text k e) ≤ 40 + record_digits
+entry_short : (k : ℕ) (e : Entry) → Wide k → InForm e → length (entry_text k e) ≤ 40 + record_digits
 unfolding entry_text
-entry-short k e w h =
+entry_short k e w h =
     simp length-append (omega (
       arith,
       digits_long k e.rec,
@@ -231,7 +231,7 @@ long_entry s h = picked (entry_of s) refl
     picked : (x : EntryLine) → entry_of s ≡ x → entry_of s ≡ EntryLine.Nothing
     picked (EntryLine.Entry e) f =
         let t = only_entry_text s e f in
-        absurd (omega (arith, ap length t.is, entry-short t.count e t.five_or_seven (only_in_form s e f)))
+        absurd (omega (arith, ap length t.is, entry_short t.count e t.five_or_seven (only_in_form s e f)))
     picked EntryLine.Nothing f = f
 
 -- The text of an entry is taken
@@ -246,7 +246,7 @@ word_first w s h = before_seam space w s h
 
 spaces_next : (k : ℕ) (w s : List ℕ) → Without space w → after_spaces (suc k) (w ++ (space ∷ s)) ≡ after_spaces k s
 unfolding after_spaces
-spaces_next k w s h = ap (after_spaces k) (after-seam space w s h)
+spaces_next k w s h = ap (after_spaces k) (after_seam space w s h)
 
 word_next : (k : ℕ) (w s : List ℕ) → Without space w → word_after (suc k) (w ++ (space ∷ s)) ≡ word_after k s
 unfolding word_after
@@ -268,17 +268,17 @@ unfolding marked_entry is_word starts_with
 mark_read rec var low high true = refl
 mark_read rec var low high false = refl
 
-pub entry-taken : EntryTaken
+pub entry_taken : EntryTaken
 unfolding index_of
-entry-taken e h line t =
-    ap entry_of (t.is ∙ entry-text t.count e)
+entry_taken e h line t =
+    ap entry_of (t.is ∙ entry_text_lem t.count e)
     ∙ words_read (rec_word t.count e) (var_word e) (low_word e) (high_word e) (from_mark e)
     (record_whole t.count e.rec) (field_whole var_name e.var refl) (field_whole low_name e.low refl) (field_whole high_name e.high refl)
     ∙ rw (record_read t.count e.rec t.five_or_seven t.enough, field_read var_name e.var (omega arith), field_read low_name e.low (omega arith), field_read high_name e.high (omega arith))
     (mark_read e.rec e.var e.low e.high e.accepted ∙ range_within e h)
 
-pub entry-written : EntryWritten
-entry-written e h = record { count = record_digits; five_or_seven = inr refl; enough = omega (arith, h.rec_within); is = refl }
+pub entry_written : EntryWritten
+entry_written e h = record { count = record_digits; five_or_seven = inr refl; enough = omega (arith, h.rec_within); is = refl }
 
 -- What the code has
 

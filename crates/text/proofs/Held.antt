@@ -23,11 +23,11 @@ use Rattle.text.specs.Stream.{lines_said, lines_after, piece_said, piece_kept, b
 use Rattle.text.specs.Report.{said_for, state_after, report_from, report_of}
 use Rattle.text.specs.Pieces.{Kept, kept, held_most, after_byte, said_in, after_piece, progress_after, holds_open, fits, HeldOpen}
 use Rattle.text.specs.Reading.{LastLf}
-use Rattle.text.proofs.Bytes.{Without, and_true, index-none, index-fits, index-bound, split_first, before_without, without_append, without_cons, without_head, without_drop, without_take}
+use Rattle.text.proofs.Bytes.{Without, and_true, index_none, index_fits, index_bound, split_first, before_without, without_append, without_cons, without_head, without_drop, without_take}
 use Rattle.text.proofs.Wrote.{sets_append, ◌then◌, front, as_long}
 use Rattle.text.proofs.Lines.{no_lines, lines_of_lem, lines_fit, line_last}
 use Rattle.text.proofs.Reading.{lf_within}
-use Rattle.text.proofs.Pieces.{kept_with, parse_held, said_append, after-append, rest_held, line_said, line_after}
+use Rattle.text.proofs.Pieces.{kept_with, parse_held, said_append, after_append, rest_held, line_said, line_after}
 use Rattle.text.proofs.Reporting.{lines_in, lines_in_lem, from_place, line_without}
 
 -- What is held
@@ -184,7 +184,7 @@ module _ (piece : List ℕ) (rest : ℕ) (x : LastLf piece rest) where
         get_or-drop from (take rest piece) (length u - 1) 0
         ∙ ap (λ (j : ℕ). get_or (take rest piece) j 0) q
         ∙ get_or-take rest piece (rest - 1) 0 (omega (arith, long))
-        ∙ x.after-lf (omega (arith, long))
+        ∙ x.after_lf (omega (arith, long))
 
     pub part_said : said_in (kept s n []) (drop from piece) ≡ report_from (suc n) s (lines_in piece rest from)
     part_said =
@@ -200,7 +200,7 @@ module _ (piece : List ℕ) (rest : ℕ) (x : LastLf piece rest) where
     part_after =
         let (p, q) = ended_said (length u) u (omega arith) last s n in
         ap (after_piece (kept s n [])) joined
-        ∙ after-append (kept s n []) u (drop rest piece)
+        ∙ after_append (kept s n []) u (drop rest piece)
         ∙ ap (λ (k : Kept). after_piece k (drop rest piece)) q
         ∙ (rest_held (stateFrom s (lines_of u)) (n + length (lines_of u)) [] (drop rest piece) x.none).1
 
@@ -239,14 +239,14 @@ module _ (piece : List ℕ) (e : ℕ) (q : e ≡ line_end piece) (ends : e < len
 
 -- where there is a last LF, there is a first
 pub some_lf : (piece : List ℕ) {e rest : ℕ} → e ≡ line_end piece → LastLf piece rest → 0 < rest → e < length piece
-some_lf piece {rest = rest} q x h = omega (arith, index-bound lf piece (rest - 1) (omega (arith, x.within)) (x.after-lf h), x.within)
+some_lf piece {rest = rest} q x h = omega (arith, index_bound lf piece (rest - 1) (omega (arith, x.within)) (x.after_lf h), x.within)
 
 -- the lines before what follows it fit where there is room for a line for each byte
 pub lines_before : (piece : List ℕ) {out : List ℕ} {at lines rest : ℕ} (from : ℕ) → LastLf piece rest → from ≤ rest → at + line_room * (rest - from) ≤ length out → lines + (rest - from) < 2 ^ 64
     → LinesFit out at lines piece from rest
 lines_before piece {rest = rest} from x h r k =
     let l = lines_in_lem piece rest from in
-    record { begins = h; uncut = record { within = x.within; after-lf = λ i _. x.after-lf i }; room = omega (arith, l); counted = omega (arith, l) }
+    record { begins = h; uncut = record { within = x.within; after_lf = λ i _. x.after_lf i }; room = omega (arith, l); counted = omega (arith, l) }
 
 -- the line that has begun with h ends in the piece
 module _ (s : State) (n : ℕ) (h piece : List ℕ) (e : ℕ) (short : length h ≤ held_most) (q : e ≡ line_end piece) (ends : e < length piece) where
@@ -321,7 +321,7 @@ module _ (zeros memory s : List ℕ) {n a b : ℕ} {joint line : List ℕ} (some
   module _ (open-rest : Without lf s) where
     no_lf : Without lf (take b line)
     no_lf =
-        let held : Without lf (take n memory) = omega (arith, clean, index-fits lf (take n memory), length-take n memory) in
+        let held : Without lf (take n memory) = omega (arith, clean, index_fits lf (take n memory), length-take n memory) in
         subst (Without lf) (sym whole_line) (without_take lf (take n memory ++ s) held_most (without_append lf (take n memory) s held open-rest))
 
     one : lines_in (take b line) b 0 ≡ take b line ∷ []
@@ -331,7 +331,7 @@ module _ (zeros memory s : List ℕ) {n a b : ℕ} {joint line : List ℕ} (some
     joined_fits h k =
         record {
           begins = omega arith;
-          uncut = record { within = omega (arith, joined_long); after-lf = λ _ l. absurd (omega (arith, joined_long)) };
+          uncut = record { within = omega (arith, joined_long); after_lf = λ _ l. absurd (omega (arith, joined_long)) };
           room = omega (arith, ap length one);
           counted = omega (arith, ap length one);
         }
@@ -355,9 +355,9 @@ held_open k [] w = w
 held_open k (b ∷ s) w = held_open (after_byte k b) s (picked (eqb b lf) refl)
   where
     picked : (t : Bool) → eqb b lf ≡ t → Without lf (after_byte k b).held
-    picked true e = rw e (index-none lf)
+    picked true e = rw e (index_none lf)
     picked false e =
-        rw e (without_take lf (k.held ++ (b ∷ [])) held_most (without_append lf k.held (b ∷ []) w (without_cons lf b [] (eqb-false b lf e) (index-none lf))))
+        rw e (without_take lf (k.held ++ (b ∷ [])) held_most (without_append lf k.held (b ∷ []) w (without_cons lf b [] (eqb-false b lf e) (index_none lf))))
 
 -- The whole text
 
@@ -367,7 +367,7 @@ text_fits report text h k =
     let all = ap (λ (l : List ℕ). length (lines_of l)) (take-length text) in
     record {
       begins = omega arith;
-      uncut = record { within = omega arith; after-lf = λ _ l. absurd (omega arith) };
+      uncut = record { within = omega arith; after_lf = λ _ l. absurd (omega arith) };
       room = omega (arith, all);
       counted = omega (arith, all, lines_fit text);
     }

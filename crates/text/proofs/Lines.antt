@@ -11,21 +11,21 @@ use lib.Seq.{drop-drop, drop-cons, take-length}
 use borrow.Author.Tests.{eq-eqb, ne_eqb}
 use Rattle.text.specs.Bytes.{index_of}
 use Rattle.text.specs.Lines.{lf, begun_by, lines_of, line_end, lf_bit, lf_count}
-use Rattle.text.proofs.Bytes.{Without, before_seam, after-seam}
+use Rattle.text.proofs.Bytes.{Without, before_seam, after_seam}
 
 pub no_lines : lines_of [] ≡ []
 unfolding lines_of
 no_lines = refl
 
 -- the first line of a text that is not empty, and the lines after it
-pub lines_from : (b : ℕ) (s : List ℕ) → lines_of (b ∷ s) ≡ take (line_end (b ∷ s)) (b ∷ s) ∷ lines_of (drop (suc (line_end (b ∷ s))) (b ∷ s))
+pub lines_from_lem : (b : ℕ) (s : List ℕ) → lines_of (b ∷ s) ≡ take (line_end (b ∷ s)) (b ∷ s) ∷ lines_of (drop (suc (line_end (b ∷ s))) (b ∷ s))
 unfolding lines_of index_of
-lines_from b [] = picked (eqb b lf)
+lines_from_lem b [] = picked (eqb b lf)
   where
     picked : (t : Bool) → cond t ([] ∷ []) (begun_by b []) ≡ take (cond t zero 1) (b ∷ []) ∷ lines_of (drop (suc (cond t zero 1)) (b ∷ []))
     picked true = refl
     picked false = refl
-lines_from b (c ∷ s) = picked (eqb b lf) (lines_from c s)
+lines_from_lem b (c ∷ s) = picked (eqb b lf) (lines_from_lem c s)
   where
     picked : (t : Bool) → let u = c ∷ s in lines_of u ≡ take (line_end u) u ∷ lines_of (drop (suc (line_end u)) u)
         → let e = cond t zero (suc (line_end u)) in
@@ -35,11 +35,11 @@ lines_from b (c ∷ s) = picked (eqb b lf) (lines_from c s)
 
 pub lines_of_lem : (s : List ℕ) → 0 < length s → lines_of s ≡ take (line_end s) s ∷ lines_of (drop (suc (line_end s)) s)
 lines_of_lem [] h = absurd (omega arith)
-lines_of_lem (b ∷ s) h = lines_from b s
+lines_of_lem (b ∷ s) h = lines_from_lem b s
 
 -- a line that is ended by LF, and what follows
 pub line_first : (line rest : List ℕ) → Without lf line → lines_of (line ++ (lf ∷ rest)) ≡ line ∷ lines_of rest
-line_first line rest h = lines_of_lem (line ++ (lf ∷ rest)) (some line) ∙ ap₂ (λ (l : List ℕ) (t : List ℕ). l ∷ lines_of t) (before_seam lf line rest h) (after-seam lf line rest h)
+line_first line rest h = lines_of_lem (line ++ (lf ∷ rest)) (some line) ∙ ap₂ (λ (l : List ℕ) (t : List ℕ). l ∷ lines_of t) (before_seam lf line rest h) (after_seam lf line rest h)
   where
     some : (l : List ℕ) → 0 < length (l ++ (lf ∷ rest))
     some [] = omega arith
@@ -101,7 +101,7 @@ unfolding lines_of
 line_more b c s = picked (eqb b lf)
   where
     some : 0 < length (lines_of (c ∷ s))
-    some = rw (lines_from c s) (omega arith)
+    some = rw (lines_from_lem c s) (omega arith)
 
     picked : (t : Bool) → length (cond t ([] ∷ lines_of (c ∷ s)) (begun_by b (lines_of (c ∷ s)))) ≡ cond t 1 0 + length (lines_of (c ∷ s))
     picked true = omega arith

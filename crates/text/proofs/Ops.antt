@@ -12,7 +12,7 @@ use Rattle.text.specs.declared.parsed.Parsed.{Parsed}
 use Rattle.text.specs.Bytes.{index_of, up_to, after, starts_with, is_word, little}
 use Rattle.text.specs.LineForm.{words, op_name, word_of, space, named_kind, rest_of, parse_of}
 use Rattle.text.specs.Places.{StandsAt, opening, kind_opening, op_bytes}
-use Rattle.text.proofs.Bytes.{index-fits, index-front, is_the_word, Below, all_below, all_below_lem}
+use Rattle.text.proofs.Bytes.{index_fits, index_front, is_the_word, Below, all_below, all_below_lem}
 use Rattle.text.proofs.LineForm.{rest_none}
 use Rattle.text.proofs.Places.{says_split, says_first, says_little}
 use Rattle.text.proofs.RoundTrip.{each_word, op_kind, op_is}
@@ -91,7 +91,7 @@ opens_kind s k h b l e m =
     let f : n ≤ length o = omega (arith, op_long k h, opening_long k h) in
     let g : index_of space o < length o = omega (arith, op_bytes_lem k h, opening_long k h) in
     ap (λ (t : List ℕ). named_kind (up_to space t)) (says_split (says_opening s 0 k h b l e))
-    ∙ ap (λ (j : ℕ). named_kind (take j (o ++ r))) (index-front space o r g ∙ i)
+    ∙ ap (λ (j : ℕ). named_kind (take j (o ++ r))) (index_front space o r g ∙ i)
     ∙ ap named_kind (take-append-le n o r f ∙ opening_op k h)
     ∙ op_kind k h
 
@@ -99,7 +99,7 @@ opens_kind s k h b l e m =
 pub op_ends : (s : List ℕ) (k : ℕ) → k ≡ named_kind (up_to space s) → k < length words → length (op_name ++ word_of k) ≡ 0 + index_of space s
 op_ends s k e h =
     let q : up_to space s ≡ op_name ++ word_of k = rw e (op_is (up_to space s) (subst (λ (j : ℕ). j < length words) e h)) in
-    omega (arith, ap length q, length-take-le (index_of space s) s (index-fits space s))
+    omega (arith, ap length q, length-take-le (index_of space s) s (index_fits space s))
 
 pub no_op_read : (s : List ℕ) (k : ℕ) → k ≡ named_kind (up_to space s) → length words ≤ k → parse_of s ≡ Parsed.Nothing
 unfolding parse_of

@@ -29,20 +29,20 @@ kept_with s n h = kept s n (take held_most h)
 pub at_lf : (s : State) (n : ℕ) (h : List ℕ) → said_at (kept_with s n h) lf ≡ said_for (suc n) s (parse_of h)
 at_lf = Stream.at_lf record_reader held_enough
 
-pub after-lf : (s : State) (n : ℕ) (h : List ℕ) → after_byte (kept_with s n h) lf ≡ kept_with (state_after s (parse_of h)) (suc n) []
-after-lf = Stream.after-lf record_reader held_enough
+pub after_lf_lem : (s : State) (n : ℕ) (h : List ℕ) → after_byte (kept_with s n h) lf ≡ kept_with (state_after s (parse_of h)) (suc n) []
+after_lf_lem = Stream.after_lf_lem record_reader held_enough
 
 pub at_other : (k : Kept) (b : ℕ) → (b ≡ lf → ⊥) → said_at k b ≡ []
 at_other = Stream.at_other record_reader held_enough
 
-pub after-other : (s : State) (n : ℕ) (h : List ℕ) (b : ℕ) → (b ≡ lf → ⊥) → after_byte (kept_with s n h) b ≡ kept_with s n (h ++ (b ∷ []))
-after-other = Stream.after-other record_reader held_enough
+pub after_other : (s : State) (n : ℕ) (h : List ℕ) (b : ℕ) → (b ≡ lf → ⊥) → after_byte (kept_with s n h) b ≡ kept_with s n (h ++ (b ∷ []))
+after_other = Stream.after_other record_reader held_enough
 
 pub said_append : (k : Kept) (a b : List ℕ) → said_in k (a ++ b) ≡ said_in k a ++ said_in (after_piece k a) b
 said_append = Stream.said_append record_reader held_enough
 
-pub after-append : (k : Kept) (a b : List ℕ) → after_piece k (a ++ b) ≡ after_piece (after_piece k a) b
-after-append = Stream.after-append record_reader held_enough
+pub after_append : (k : Kept) (a b : List ℕ) → after_piece k (a ++ b) ≡ after_piece (after_piece k a) b
+after_append = Stream.after_append record_reader held_enough
 
 pub rest_held : (s : State) (n : ℕ) (h l : List ℕ) → Without lf l
     → (said_in (kept_with s n h) l ≡ []) × (after_piece (kept_with s n h) l ≡ kept_with s n (h ++ l))

@@ -12,7 +12,7 @@ use borrow.Author.Tests.{leb-true, leb-false}
 use Rattle.text.specs.Bytes.{index_of}
 use Rattle.text.specs.Lines.{lf, lines_of, line_end}
 use Rattle.text.specs.Reading.{line_at, place_after, next_at, LineStarts, ReadsLines}
-use Rattle.text.proofs.Bytes.{index-fits, index-bound, index-front}
+use Rattle.text.proofs.Bytes.{index_fits, index_bound, index_front}
 use Rattle.text.proofs.Lines.{lines_of_lem}
 
 -- the part up to the line's end
@@ -34,7 +34,7 @@ drop_min (x ∷ s) (suc k) = rw (suc-min-suc (length s) k) (drop_min s k)
 
 line_length : (s : List ℕ) (at : ℕ) → length (line_at s at) ≡ line_end (drop at s)
 unfolding line_at
-line_length s at = length-take-le (line_end (drop at s)) (drop at s) (index-fits lf (drop at s))
+line_length s at = length-take-le (line_end (drop at s)) (drop at s) (index_fits lf (drop at s))
 
 -- the place after a line that LF ends
 pub next_place : (s : List ℕ) (at : ℕ) → at + line_end (drop at s) < length s → next_at s at ≡ at + line_end (drop at s) + 1
@@ -59,13 +59,13 @@ reads_lines s at h =
 pub lf_within : (t : List ℕ) (at : ℕ) → at < length t → get_or t (length t - 1) 0 ≡ lf → line_end (drop at t) < length (drop at t)
 lf_within t at h e =
     let q : at + (length t - 1 - at) ≡ length t - 1 = omega arith in
-    let b = index-bound lf (drop at t) (length t - 1 - at) (omega (arith, length-drop at t)) (get_or-drop at t (length t - 1 - at) 0 ∙ ap (λ (j : ℕ). get_or t j 0) q ∙ e) in
+    let b = index_bound lf (drop at t) (length t - 1 - at) (omega (arith, length-drop at t)) (get_or-drop at t (length t - 1 - at) 0 ∙ ap (λ (j : ℕ). get_or t j 0) q ∙ e) in
     omega (arith, length-drop at t, b)
 
 -- a line that LF ends in t is the same in t ++ v
 module _ (t v : List ℕ) (at : ℕ) (h : at < length t) (e : line_end (drop at t) < length (drop at t)) where
   ends : line_end (drop at (t ++ v)) ≡ line_end (drop at t)
-  ends = ap (index_of lf) (drop-append-le at t v (omega arith)) ∙ index-front lf (drop at t) v e
+  ends = ap (index_of lf) (drop-append-le at t v (omega arith)) ∙ index_front lf (drop at t) v e
 
   front_line : line_at (t ++ v) at ≡ line_at t at
   unfolding line_at
@@ -89,7 +89,7 @@ read_within s end at w k = picked (leb (length s) end) refl
         let more = leb-false (length s) end e in
         let long : length (take end s) ≡ end = length-take-le end s w.within in
         let last : length (take end s) - 1 ≡ end - 1 = omega (arith, long) in
-        let byte = ap (λ (j : ℕ). get_or (take end s) j 0) last ∙ get_or-take end s (end - 1) 0 (omega arith) ∙ w.after-lf (omega arith) more in
+        let byte = ap (λ (j : ℕ). get_or (take end s) j 0) last ∙ get_or-take end s (end - 1) 0 (omega arith) ∙ w.after_lf (omega arith) more in
         let here : at < length (take end s) = omega (arith, long) in
         let b = lf_within (take end s) at here byte in
         let q = sym (take-append-drop end s) in

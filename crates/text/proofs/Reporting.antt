@@ -14,7 +14,7 @@ use Rattle.text.specs.Answers.{LineAnswered, stateFrom, LinesAnswered}
 use Rattle.text.specs.Stream.{lines_said, lines_after}
 use Rattle.text.specs.Report.{said_for, state_after, report_from}
 use Rattle.text.specs.Reading.{line_at, next_at, LineStarts}
-use Rattle.text.proofs.Bytes.{Without, index-none, split_first, before_without, without_cons}
+use Rattle.text.proofs.Bytes.{Without, index_none, split_first, before_without, without_cons}
 use Rattle.text.proofs.Lines.{no_lines, lines_fit}
 use Rattle.text.proofs.Reading.{lines_within}
 use Rattle.text.proofs.Wrote.{sets_append}
@@ -128,7 +128,7 @@ line_without piece p e q =
 
 -- there is none at the end
 pub none_at_end : (s : List ℕ) → Without lf (drop (length s) s)
-none_at_end s = rw (drop_of_length-le s {i = length s} (omega arith)) (index-none lf)
+none_at_end s = rw (drop_of_length-le s {i = length s} (omega arith)) (index_none lf)
 
 -- from place i + 1 on there is no LF, nor at i
 pub one_before : (s : List ℕ) (i : ℕ) → 0 < i → i ≤ length s → (get_or s (i - 1) 0 ≡ lf → ⊥) → Without lf (drop i s) → Without lf (drop (i - 1) s)

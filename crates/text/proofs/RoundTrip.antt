@@ -17,7 +17,7 @@ use Rattle.text.specs.Bytes.{index_of, up_to, after, starts_with, is_word}
 use Rattle.text.specs.LineForm.{digits, read_decimal, words, op_name, task_name, on_name, tasks_name, space, place_of, named_kind, field_by, field_of, act_record, mark_record}
 use Rattle.text.specs.LineForm.{parse_act, parse_mark, rest_of, parse_of, word_of, text_of, Sayable, TextTaken, OnlyText, OnlySayable, LongRefused}
 use Rattle.text.specs.Printing.{last_digit, last_digits, width, decimal}
-use Rattle.text.proofs.Bytes.{Without, without_cons, without_append, before_seam, after-seam, joined, word_split, word_starts, word_dropped, is_the_word}
+use Rattle.text.proofs.Bytes.{Without, without_cons, without_append, before_seam, after_seam, joined, word_split, word_starts, word_dropped, is_the_word}
 use Rattle.text.proofs.Digits.{decimal_fits}
 use Rattle.text.proofs.Numerals.{let_through, decimal_read, read_decimal_lem}
 use Rattle.text.proofs.LineForm.{rest_act}
@@ -196,11 +196,11 @@ field_whole name n h = without_append space name (decimal n) h (decimal_whole sp
 
 parse_words : (w s : List ℕ) → Without space w → parse_of (w ++ (space ∷ s)) ≡ rest_of (named_kind w) s
 unfolding parse_of
-parse_words w s h = ap₂ (λ (x : List ℕ) (y : List ℕ). rest_of (named_kind x) y) (before_seam space w s h) (after-seam space w s h)
+parse_words w s h = ap₂ (λ (x : List ℕ) (y : List ℕ). rest_of (named_kind x) y) (before_seam space w s h) (after_seam space w s h)
 
 act_words : (k : ℕ) (w s : List ℕ) → Without space w → parse_act k (w ++ (space ∷ s)) ≡ act_record k (field_of task_name w) (field_of on_name s)
 unfolding parse_act
-act_words k w s h = ap₂ (λ (x : List ℕ) (y : List ℕ). act_record k (field_of task_name x) (field_of on_name y)) (before_seam space w s h) (after-seam space w s h)
+act_words k w s h = ap₂ (λ (x : List ℕ) (y : List ℕ). act_record k (field_of task_name x) (field_of on_name y)) (before_seam space w s h) (after_seam space w s h)
 
 act_taken : (k t n : ℕ) → k < length words → (k ≡ loss_mark → ⊥) → t < 10 ^ digits → n < 10 ^ digits
     → parse_of (text_of (record { kind = k; task = t; on = n })) ≡ Parsed.Record (record { kind = k; task = t; on = n })

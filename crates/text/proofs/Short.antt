@@ -15,7 +15,7 @@ use Rattle.text.specs.LineForm.{words, op_name, task_name, on_name, space, word_
 use Rattle.text.specs.Places.{StandsAt, FieldAt, OpAt}
 use Rattle.text.specs.Printing.{decimal}
 use Rattle.text.specs.Reading.{line_at, next_at}
-use Rattle.text.proofs.Bytes.{Without, without_append, index-seam, before_seam}
+use Rattle.text.proofs.Bytes.{Without, without_append, index_seam, before_seam}
 use Rattle.text.proofs.Places.{says_split, says_both, says_byte}
 use Rattle.text.proofs.Reading.{next_place}
 use Rattle.text.proofs.RoundTrip.{each_word, decimal_whole, act_text, text_taken}
@@ -29,7 +29,7 @@ module _ (s : List ℕ) (at : ℕ) (w : List ℕ) (h : StandsAt s at (w ++ (lf �
   from = says_split h ∙ append_assoc w (lf ∷ []) rest
 
   ends : index_of lf (drop at s) ≡ length w
-  ends = ap (index_of lf) from ∙ index-seam lf w rest d
+  ends = ap (index_of lf) from ∙ index_seam lf w rest d
 
   pub line_says : line_at s at ≡ w
   unfolding line_at

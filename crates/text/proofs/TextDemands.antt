@@ -1,4 +1,4 @@
--- Demand 1 for texts. Of the step nothing is used but that it meets demand 1 for records (`clocks-demand1`). Assumes nothing.
+-- Demand 1 for texts. Of the step nothing is used but that it meets demand 1 for records (`clocks_demand1`). Assumes nothing.
 use mathlib.Core.Path.{◌≡◌, refl, sym, ap, ap₂, subst, ◌∙◌}
 use mathlib.Core.Bool.{Bool, true, false}
 use mathlib.Core.List.{List, [], ◌∷◌, ◌++◌}

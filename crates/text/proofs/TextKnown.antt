@@ -33,7 +33,7 @@ use Rattle.text.specs.ReportLines.{refused_line, line_for}
 use Rattle.text.specs.Report.{said_beside, said_for, state_after, record_reader, report_of}
 use Rattle.text.specs.Entries.{said_for_entry, control_with, entry_reader}
 use Rattle.text.specs.TextKnown.{EntryGot, no_entry, no_room, took_in, EntriesGot, no_entries, an_entry, faults_by, faults_in, FilesRead, AsRace, the_same, a_race, AsRaces, no_line, a_line, RaceOrKnown, EntriesCut, WithoutEntries}
-use Rattle.text.proofs.EntryForm.{entry-taken, only_entry_text, only_in_form}
+use Rattle.text.proofs.EntryForm.{entry_taken, only_entry_text, only_in_form}
 use Rattle.text.proofs.Stream.{cuts_alike, ends_alike}
 use Rattle.text.proofs.Pieces.{held_enough}
 use Rattle.text.proofs.Entries.{entries_held}
@@ -68,12 +68,12 @@ module _ {e : Entry} (control : List ℕ) (f : InForm e) where
       rw (lt-ltb e.var Limits.variables f.var_within, lt-ltb e.low Limits.tasks l, lt-ltb e.high Limits.tasks f.high_within, q)
 
 -- what a line is, by what it says
-entry-form : (line : List ℕ) {e : Entry} → entry_of line ≡ EntryLine.Entry e → InForm e × (TextOf e line)
-entry-form line {e} q = (only_in_form line e q, only_entry_text line e q)
+entry_form : (line : List ℕ) {e : Entry} → entry_of line ≡ EntryLine.Entry e → InForm e × (TextOf e line)
+entry_form line {e} q = (only_in_form line e q, only_entry_text line e q)
 
 not_form : (line : List ℕ) → entry_of line ≡ EntryLine.Nothing → (e : Entry) → InForm e → ¬ (TextOf e line)
 not_form line q e f p =
-    let z : EntryLine.Nothing ≡ EntryLine.Entry e = sym q ∙ entry-taken e f line p in
+    let z : EntryLine.Nothing ≡ EntryLine.Entry e = sym q ∙ entry_taken e f line p in
     absurd (let w : ◌≡◌ {A = ℕ} 0 1 = cc in omega arith)
 
 -- one line: what it gets, and that the table keeps its size
@@ -83,7 +83,7 @@ record OneRead (n : ℕ) (control line : List ℕ) (x : EntryLine) : Type 0 wher
 
 one_read : (n : ℕ) (control line : List ℕ) → length control ≡ control_cells → (x : EntryLine) → entry_of line ≡ x → OneRead n control line x
 one_read n control line size EntryLine.Nothing q = record { got = no_entry (not_form line q); size = size }
-one_read n control line size (EntryLine.Entry e) q = let (f, p) = entry-form line q in decided f p (entries_full control) refl
+one_read n control line size (EntryLine.Entry e) q = let (f, p) = entry_form line q in decided f p (entries_full control) refl
   where
     decided : InForm e → TextOf e line → (b : Bool) → entries_full control ≡ b → OneRead n control line (EntryLine.Entry e)
     decided f p true z = record { got = rw (left_out control f z, z) (no_room f p z); size = rw (left_out control f z) size }
@@ -107,7 +107,7 @@ faults_fit (line ∷ lines) = of (entry_of line) refl (faults_fit lines)
   where
     of : (x : EntryLine) → entry_of line ≡ x → AllFit (faults_in lines) → AllFit (faults_by x (faults_in lines))
     of EntryLine.Nothing q fs = fs
-    of (EntryLine.Entry e) q fs = and_fits (fault_fits (entry-form line q).0) fs
+    of (EntryLine.Entry e) q fs = and_fits (fault_fits (entry_form line q).0) fs
 
 take_fit : (k : ℕ) {fs : List Fault} → AllFit fs → AllFit (take k fs)
 take_fit zero x = none_left
@@ -128,7 +128,7 @@ table_after (line ∷ lines) control size = of (entry_of line) refl (λ c z. tab
     of : (x : EntryLine) → entry_of line ≡ x → ((c : List ℕ) → length c ≡ control_cells → lines_after entry_reader c lines ≡ entered_all (take (Limits.entries - entry_count c) (faults_in lines)) c) →
         lines_after entry_reader (control_with control x) lines ≡ entered_all (take (Limits.entries - entry_count control) (faults_by x (faults_in lines))) control
     of EntryLine.Nothing q rest = rest control size
-    of (EntryLine.Entry e) q rest = decided (entry-form line q).0 (entries_full control) refl
+    of (EntryLine.Entry e) q rest = decided (entry_form line q).0 (entries_full control) refl
       where
         decided : InForm e → (b : Bool) → entries_full control ≡ b →
             lines_after entry_reader (after_entry e.var e.low e.high e.accepted control) lines ≡ entered_all (take (Limits.entries - entry_count control) (fault_of e ∷ faults_in lines)) control

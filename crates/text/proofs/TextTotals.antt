@@ -19,7 +19,7 @@ use Rattle.text.specs.Report.{said_for, state_after}
 use Rattle.text.specs.Pieces.{Kept, fresh_kept, said_at, after_byte, said_in, after_piece, whole_of}
 use Rattle.text.specs.TextDemands.{Tells, tells_nothing, tells_no_record, tells_answer}
 use Rattle.text.specs.TextTotals.{after_pieces, said_so_far, ended_in, TextTotals}
-use Rattle.text.proofs.Pieces.{kept_with, at_lf, after-lf, at_other, after-other, said_append, after-append}
+use Rattle.text.proofs.Pieces.{kept_with, at_lf, after_lf_lem, at_other, after_other, said_append, after_append}
 use Rattle.text.proofs.Excused.{NoEntries, said_plain, none_after, none_fresh}
 use Rattle.text.proofs.TextDemands.{parsed_none, parsed_form}
 
@@ -53,8 +53,8 @@ so_far s n h (b ∷ t) z = picked (eqb b lf) refl (so_far (state_after s (parse_
         (let k = kept_with (state_after s (parse_of h)) (suc n) [] in SoFar (suc (suc n)) (state_after s (parse_of h)) (ended_in [] t) (said_in k t) (after_piece k t).state) →
         (let k = kept_with s n (h ++ (b ∷ [])) in SoFar (suc n) s (ended_in (h ++ (b ∷ [])) t) (said_in k t) (after_piece k t).state) →
         (let k = kept_with s n h in SoFar (suc n) s (ended_in h (b ∷ t)) (said_at k b ++ said_in (after_byte k b) t) (after_piece (after_byte k b) t).state)
-    picked true e here on = rw (e, eqb-true b lf e, at_lf s n h, after-lf s n h) (line_ended h z here)
-    picked false e here on = let d = eqb-false b lf e in rw (e, at_other (kept_with s n h) b d, after-other s n h b d) on
+    picked true e here on = rw (e, eqb-true b lf e, at_lf s n h, after_lf_lem s n h) (line_ended h z here)
+    picked false e here on = let d = eqb-false b lf e in rw (e, at_other (kept_with s n h) b d, after_other s n h b d) on
 
 -- pieces are their text
 said_whole : (k : Kept) (ps : List (List ℕ)) → said_so_far k ps ≡ said_in k (whole_of ps)
@@ -65,7 +65,7 @@ said_whole k (p ∷ ps) = ap (λ (l : List ℕ). said_in k p ++ l) (said_whole (
 kept_whole : (k : Kept) (ps : List (List ℕ)) → after_pieces k ps ≡ after_piece k (whole_of ps)
 unfolding piece_kept whole_of
 kept_whole k [] = refl
-kept_whole k (p ∷ ps) = kept_whole (after_piece k p) ps ∙ sym (after-append k p (whole_of ps))
+kept_whole k (p ∷ ps) = kept_whole (after_piece k p) ps ∙ sym (after_append k p (whole_of ps))
 
 pub text_totals : TextTotals
 text_totals pieces =

@@ -32,7 +32,7 @@ read_decimal s = cond (is_plain s) (read_digits 0 s) Number.Nothing
 
 -- Words
 
--- the words by their kind numbers: that of a loss mark at `lossMark`, and each other one of an act
+-- the words by their kind numbers: that of a loss mark at `loss_mark`, and each other one of an act
 abbrev pub words : List (List ℕ)
 words =
     bytes "read"

@@ -17,13 +17,13 @@ next_at s at = place_after s at (length (line_at s at))
 -- a line begins at a place, LF standing before it, or the text ends there
 pub record LineStarts (s : List ℕ) (at : ℕ) : Type 0 where
   pub within : at ≤ length s
-  pub after-lf : 0 < at → at < length s → get_or s (at - 1) 0 ≡ lf
+  pub after_lf : 0 < at → at < length s → get_or s (at - 1) 0 ≡ lf
 
 -- what follows the last LF begins there; at 0 where there is none
 pub record LastLf (s : List ℕ) (at : ℕ) : Type 0 where
   pub within : at ≤ length s
   pub none : line_end (drop at s) ≡ length (drop at s)
-  pub after-lf : 0 < at → get_or s (at - 1) 0 ≡ lf
+  pub after_lf : 0 < at → get_or s (at - 1) 0 ≡ lf
 
 -- What is claimed of reading
 

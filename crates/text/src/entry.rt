@@ -1,6 +1,6 @@
 // What a line of the file of accepted faults says: the record where the fault was seen, its variable and the two tasks, and whether the planner
 // has accepted it or has opened it again.
-#[derive(Drop)]
+#[derive(Clone, Copy)]
 pub struct Entry {
     pub rec: u32,
     pub var: u32,
@@ -9,7 +9,7 @@ pub struct Entry {
     pub accepted: bool,
 }
 
-#[derive(Drop)]
+#[derive(Clone, Copy)]
 pub enum EntryLine {
     Nothing,
     Entry(Entry),

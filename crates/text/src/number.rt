@@ -1,5 +1,5 @@
 // What a part of a line says as a number.
-#[derive(Drop)]
+#[derive(Clone, Copy)]
 pub enum Number {
     Value(u32),
     Nothing,

@@ -1,7 +1,7 @@
 use theory::Record;
 
 // What a line says.
-#[derive(Drop)]
+#[derive(Clone, Copy)]
 pub enum Parsed {
     Record(Record),
     Nothing,

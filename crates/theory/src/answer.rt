@@ -1,7 +1,7 @@
 use crate::numbers::RecordNumber;
 
 // What feeding a record answers.
-#[derive(Drop)]
+#[derive(Clone, Copy)]
 pub enum Answer {
     // The number of the first row of the refusal table that applies; the state is as it was.
     Refused(u32),

@@ -1,4 +1,4 @@
-// The kinds of records. The number of each, as `kind` and `lossMark` of specs/order/Recording.antt have it.
+// The kinds of records. The number of each, as `kind` and `loss_mark` of specs/order/Recording.antt have it.
 pub const READ: u8 = 0;
 
 pub const WRITE: u8 = 1;

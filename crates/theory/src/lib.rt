@@ -1,5 +1,7 @@
 // What the checker is judged by: specs/ says what order, completions and verdicts are and which demands follow, proofs/ what is known of them.
 // No code stands here, only the types that the definitions speak of, and the numbers of kinds and limits for the code.
+#![tactic(auto)]
+
 mod acquired;
 mod answer;
 mod kinds;

@@ -1,5 +1,5 @@
 // The tasks whose latest conflicting access has no path to an access: in the fullest filling, and as the recording arrived.
-#[derive(Drop)]
+#[derive(Clone, Copy)]
 pub struct Masks {
     pub full: u16,
     pub arrived: u16,

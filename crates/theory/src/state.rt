@@ -71,7 +71,7 @@ pub type Sets = [u32; SET_CELLS];
 
 // The running state: the clocks of the recording as it arrived, and those of the fullest filling. A host in C may lend one whole.
 #[repr(C)]
-#[derive(Drop)]
+#[derive(Clone, Copy)]
 pub struct State {
     pub control: Control,
     pub last: History,
@@ -79,14 +79,14 @@ pub struct State {
     pub fullclocks: Clocks,
 }
 
-#[derive(Drop)]
+#[derive(Clone, Copy)]
 pub struct Stepped {
     pub state: State,
     pub answer: Answer,
 }
 
 // The state of the sets, which are a reckoning of their own: with sets in place of the clocks.
-#[derive(Drop)]
+#[derive(Clone, Copy)]
 pub struct SetState {
     pub control: Control,
     pub last: History,
@@ -94,7 +94,7 @@ pub struct SetState {
     pub fullsets: Sets,
 }
 
-#[derive(Drop)]
+#[derive(Clone, Copy)]
 pub struct SetStepped {
     pub state: SetState,
     pub answer: Answer,

@@ -46,7 +46,7 @@ use Rattle.theory.proofs.acceptance.ControlTable.{fresh_control_lem}
 use Rattle.theory.proofs.acceptance.Standings.{same_refusal}
 use Rattle.theory.proofs.totals.Kept.{fresh_control_cell}
 use Rattle.theory.proofs.tables.Bits.{mask_none, mask_lowest}
-use Rattle.theory.proofs.feeding.Simulation.{Shape, an_act, a_mark, shape_of, Represents, base_control, fresh_base, after-all, clocks_simulate, same_step}
+use Rattle.theory.proofs.feeding.Simulation.{Shape, an_act, a_mark, shape_of, Represents, base_control, fresh_base, after_all_lem, clocks_simulate, same_step}
 use Rattle.theory.proofs.feeding.Asked.{access_op}
 use Rattle.requests.proofs.lazy.Columns.{none_of_zero}
 use Rattle.requests.proofs.entries.Kept.{cell_kept}
@@ -88,7 +88,7 @@ module _ {es : List Event} (b : List ℕ) {last last' : List ℕ} (p : Op) {t v 
       asked : {u : ℕ} → ActsIn u (act p t v) → u ≡ t
       asked acts = refl
 
-      empty : {p : Op} → Empties (act p t v) (act p t v) → T (is_access p) → ⊥
+      empty : {p q : Op} {t u v w : ℕ} → Empties (act p t v) (act q u w) → T (is_access p) → ⊥
       empty empties a = a
 
   same_number : (u : ℕ) → u < tasks → u ≢ t → latest_number last' (kind p) v u ≡ latest_number last (kind p) v u
@@ -147,7 +147,7 @@ module _ (fs : List Fault) (fit : AllFit fs) (some : 0 < length fs) (few : lengt
 
   pub represents : Represents (recording rs) s
   unfolding fresh_state
-  represents = after-all clocks_simulate [] (start_with fs) rs (record { base = base_control fresh_base (start.exact fresh_control_lem); clocks = clocks_simulate.begins.clocks })
+  represents = after_all_lem clocks_simulate [] (start_with fs) rs (record { base = base_control fresh_base (start.exact fresh_control_lem); clocks = clocks_simulate.begins.clocks })
 
   -- entries are as they were after any records
   all_kept : (rs : List Record) (z : State) (i : ℕ) → entries_at ≤ i → get_or (after_all by_clocks z rs).control i 0 ≡ get_or z.control i 0

@@ -167,7 +167,7 @@ module _ {S A : Type 0} (f : Follower S A) where
       of (suc m) a z = refl
 
   pub ending_own : (q : Record) (x : Run S) {m : ℕ} → x.refused ≡ 0 → m ≡ control_refusal x.control q → m ≢ 0 → f.without m ≡ ending f q x
-  ending_own q x {m} e c z = rw (e, ← c) (of m _ z)
+  ending_own q x {m} e c z = rw (e, ← c) (of m x z)
     where
       of : (m : ℕ) (x : Run S) → m ≢ 0 → f.without m ≡ answered_at f q x m
       of zero x z = absurd (z refl)

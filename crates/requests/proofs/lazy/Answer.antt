@@ -27,7 +27,7 @@ use Rattle.theory.proofs.order.Ops.{event_act, op_of_kind, op_of_lem, on_series,
 use Rattle.theory.proofs.order.Numbered.{kind_above}
 use Rattle.theory.proofs.history.Numbers.{number_final, final_number}
 use Rattle.theory.proofs.verdicts.Latest.{Final}
-use Rattle.theory.proofs.feeding.Simulation.{Shape, an_act, a_mark, shape_of, RepresentsSets, after-all, sets_simulate}
+use Rattle.theory.proofs.feeding.Simulation.{Shape, an_act, a_mark, shape_of, RepresentsSets, after_all_lem, sets_simulate}
 use Rattle.requests.proofs.following.Following.{Keeps, Over, follows_list, before, RightBefore, accepted, answers_without}
 use Rattle.theory.proofs.feeding.Paths.{set_paths}
 use Rattle.theory.proofs.feeding.Asked.{access_op, sets_tell}
@@ -121,7 +121,7 @@ module _ (rs : List Record) (p : Op) (t v : ℕ) (isa : T (is_access p)) (hv : v
   )
     where
       history : RepresentsSets (recording rs) (left_by set_reckoning rs)
-      history = after-all sets_simulate [] fresh_sets rs sets_simulate.begins
+      history = after_all_lem sets_simulate [] fresh_sets rs sets_simulate.begins
 
   -- nobody's pair is one of its own
   other_task : {u i : ℕ} → Final u (act p t v) (recording rs) i → u ≢ t

@@ -62,12 +62,12 @@ clear_bit c d b r s h k l = ap (λ (x : ℕ). bit x d) (cleared_same c b hub r (
 
 -- A row's bit is added
 
-pub add-length : (c u : ℕ) (b : List ℕ) → length (add_column c u b) ≡ length b
-add-length c u b = length-set b u _
+pub add_length : (c u : ℕ) (b : List ℕ) → length (add_column c u b) ≡ length b
+add_length c u b = length-set b u _
 
-pub add-bit : (c d : ℕ) (b : List ℕ) (u r : ℕ) → length b ≡ hub → u < hub → r < hub → c < word_bits → d < word_bits →
+pub add_bit : (c d : ℕ) (b : List ℕ) (u r : ℕ) → length b ≡ hub → u < hub → r < hub → c < word_bits → d < word_bits →
     bit (word_at (add_column c u b) r) d ≡ cond (eqb r u && eqb d c) true (bit (word_at b r) d)
-add-bit c d b u r s h m k l = decided (equal r u)
+add_bit c d b u r s h m k l = decided (equal r u)
   where
     decided : {p : Bool} → Reflects (r ≡ u) p → bit (word_at (add_column c u b) r) d ≡ cond (p && eqb d c) true (bit (word_at b r) d)
     decided (right e) = rw e (ap (λ (x : ℕ). bit x d) (get_or-set_same b u _ 0 (omega arith)) ∙ with_bit_lem c d (word_at b u) k l)

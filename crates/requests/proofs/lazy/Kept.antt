@@ -18,7 +18,7 @@ use Rattle.theory.specs.tables.Reckonings.{word_bits}
 use Rattle.requests.specs.lazy.Fold.{Lazy, word_at, by_end, by_write, column, asker_on, clear_column, add_column, begin_column, keep_on, keep_anew}
 use Rattle.theory.proofs.basics.Reflects.{Reflects, right, wrong, equal, by_test, is_true}
 use Rattle.theory.proofs.tables.Words.{with_bit_lem, without_bit_lem}
-use Rattle.requests.proofs.lazy.Columns.{clear_length, clear_bit, add-length, add-bit}
+use Rattle.requests.proofs.lazy.Columns.{clear_length, clear_bit, add_length, add_bit}
 use Rattle.requests.proofs.lazy.Tracks.{Untouched}
 
 -- Definition
@@ -72,12 +72,12 @@ module _ {s : Lazy} (w : Whole s) (c u : ℕ) (hc : c < word_bits) (hu : u < tas
   cleared = clear_length c s.nodes ∙ w.nodes
 
   begin_whole : Whole (begin_column c u s)
-  begin_whole = record { nodes = add-length c u (clear_column c s.nodes) ∙ cleared; counts = length-set s.counts c _ ∙ w.counts }
+  begin_whole = record { nodes = add_length c u (clear_column c s.nodes) ∙ cleared; counts = length-set s.counts c _ ∙ w.counts }
 
   begin_nodes : (d r : ℕ) → d < word_bits → r < hub →
       bit (word_at (add_column c u (clear_column c s.nodes)) r) d ≡ cond (eqb r u && eqb d c) true (cond (eqb d c) false (bit (word_at s.nodes r) d))
   begin_nodes d r hd hr =
-      rw (add-bit c d (clear_column c s.nodes) u r cleared (omega arith) hr hc hd, clear_bit c d s.nodes r w.nodes hr hc hd)
+      rw (add_bit c d (clear_column c s.nodes) u r cleared (omega arith) hr hc hd, clear_bit c d s.nodes r w.nodes hr hc hd)
 
   begin_own : Begun c u (begin_column c u s)
   begin_own =

@@ -54,6 +54,12 @@ pub access_plain : (o : Op) → T (is_access o) → Plain o
 access_plain o a = by_role (role o) a
   where
     by_role : {o : Op} → Role o → T (is_access o) → Plain o
+    by_role a_take a = elim a [ ]
+    by_role a_give a = elim a [ ]
+    by_role a_look a = elim a [ ]
+    by_role a_set a = elim a [ ]
+    by_role a_start a = elim a [ ]
+    by_role a_join a = elim a [ ]
     by_role (plain x) a = x
 
 -- One column over an act

@@ -26,7 +26,7 @@ use Rattle.theory.proofs.basics.Reflects.{by_test, is_true}
 use Rattle.theory.proofs.acceptance.Standings.{same_refusal}
 use Rattle.theory.proofs.tables.Bits.{mask_lt}
 use Rattle.theory.proofs.tables.MaskBits.{mask_bit}
-use Rattle.theory.proofs.feeding.Simulation.{shape_of, Base, Represents, clocks_simulate, after-all}
+use Rattle.theory.proofs.feeding.Simulation.{shape_of, Base, Represents, clocks_simulate, after_all_lem}
 use Rattle.requests.proofs.settling.Tables.{forced_next, HomesExact, fresh_homes_lem, homes_next}
 
 -- Over a list
@@ -55,7 +55,7 @@ module _ (rs : List Record) (r : Record) where
   tables = homes_left fresh_state fresh_homes rs
 
   base : Base (recording rs) state.control state.last
-  base = (after-all clocks_simulate [] fresh_state rs clocks_simulate.begins).base
+  base = (after_all_lem clocks_simulate [] fresh_state rs clocks_simulate.begins).base
 
   exact : HomesExact (recording rs) tables
   exact = homes_left_lem rs [] fresh_state fresh_homes clocks_simulate.begins fresh_homes_lem

@@ -154,6 +154,7 @@ record BothBetween (hs fs : List Event) (i j k l : ℕ) (e f : Event) : Type 0 w
 module _ (home : ℕ) {F : ℕ → List Event → Type 0} where
   adds_end : {es hs fs mid : List Event} {k : ℕ} {o : Op} {t n : ℕ} (h : HomeFilled home es hs) (c : Filled F es fs) → Adds home h c → Ends es k mid (act o t n) →
       BothEnd hs fs (place h k) (place c k) (act o t n)
+  adds_end done c a d = elim d [ ]
   adds_end (keep h) (keep c) a ends = record { before = []; before' = []; to = ends; to' = ends; within = empty }
   adds_end (keep h) (keep c) a (onward d) =
       let b = adds_end h c a d in
@@ -164,6 +165,8 @@ module _ (home : ℕ) {F : ℕ → List Event → Type 0} where
 
   adds_between : {es hs fs before mid : List Event} {i k : ℕ} {o p : Op} {t u n m : ℕ} (h : HomeFilled home es hs) (c : Filled F es fs) → Adds home h c →
       Ends es k before (act p u m) → Occurs before i (act o t n) mid → BothBetween hs fs (place h i) (place c i) (place h k) (place c k) (act o t n) (act p u m)
+  adds_between done c a d o = elim d [ ]
+  adds_between (keep h) (keep c) a ends o = elim o [ ]
   adds_between (keep h) (keep c) a (onward d) first =
       let b = adds_end h c a d in
       record { before = _; before' = _; mid = _; mid' = _; to = onward b.to; to' = onward b.to'; from = first; from' = first; within = b.within }

@@ -185,11 +185,11 @@ module _ {o p : Op} {t u n m : ℕ} (x : Independent (act o t n) (act p u m)) (e
       let k = allowed (standing es) first a in
       let l = allowed (standing (es ++ (act o t n ∷ []))) second b in
       let room : length es < records = k.room in
-      let room-one : suc (length es) < records = subst (λ (i : ℕ). i < records) (longer es (act o t n)) l.room in
-      let room-other : length (es ++ (act p u m ∷ [])) < records = subst (λ (i : ℕ). i < records) (sym (longer es (act p u m))) room-one in
+      let room_one : suc (length es) < records = subst (λ (i : ℕ). i < records) (longer es (act o t n)) l.room in
+      let room_other : length (es ++ (act p u m ∷ [])) < records = subst (λ (i : ℕ). i < records) (sym (longer es (act p u m))) room_one in
       let y = either_way x in (
         sym (refused_alike x es l.room room (record { known = l.known; no_mark = is_no_mark p })) ∙ b,
-        refused_alike y es room-other room (record { known = k.known; no_mark = is_no_mark o }) ∙ a,
+        refused_alike y es room_other room (record { known = k.known; no_mark = is_no_mark o }) ∙ a,
       )
 
 -- records as they are fed
@@ -206,4 +206,4 @@ taken_swapped {es = es} i (these {x = r} {y = q} y) (and_taken a (and_taken b k)
     let z = i.independent r q y in
     let (c, d) = swap_accepted (shape_of es r a) (shape_of (es ++ (event_of r ∷ [])) q b) z a b in
     and_taken c (and_taken d (taken_same (standing_swapped es z) k))
-taken_swapped i (later s) (and_taken a k) = and_taken a (taken_swapped i s k)
+taken_swapped {es = es} i (later {x = x} s) (and_taken a k) = and_taken a (taken_swapped {es = es ++ (event_of x ∷ [])} i s k)

@@ -31,7 +31,7 @@ use Rattle.theory.proofs.fillings.Bounds.{apart_in_all}
 use Rattle.theory.proofs.verdicts.Search.{Candidate, Outcome, nobody, somebody, partner_outcome, candidate_latest, candidate_far, far_candidate}
 use Rattle.theory.proofs.verdicts.Examples.{ends_middle}
 use Rattle.theory.proofs.feeding.Simulation.{Shape, an_act, a_mark, shape_of, Represents, clocks_simulate}
-use Rattle.theory.proofs.feeding.Matching.{after-one-more}
+use Rattle.theory.proofs.feeding.Matching.{after_one_more}
 use Rattle.theory.proofs.totals.Moved.{bool_false}
 use Rattle.theory.proofs.totals.Kept.{fresh_control_cell}
 use Rattle.requests.proofs.entries.Kept.{taken_kept, no_excuse}
@@ -100,7 +100,7 @@ module _ (fs : List Fault) (fit : AllFit fs) (some-fault : 0 < length fs) (few :
     passed_on r z =
         record {
           logged = recorded_one_more [] passed r ∙ (ap (λ (l : List Event). append_unless l r (refusal l r)) x.logged ∙ ap (append_unless es r) z);
-          state = after-one-more by_clocks (start_with fs) passed r ∙ ap (λ (y : State). by_clocks.next y r) x.state;
+          state = after_one_more by_clocks (start_with fs) passed r ∙ ap (λ (y : State). by_clocks.next y r) x.state;
           exact = subst (λ (n : ℕ). Represents (append_unless es r n) (by_clocks.next s r)) z (clocks_simulate.steps es s r x.exact).1;
         }
 
@@ -155,7 +155,7 @@ module _ (fs : List Fault) (fit : AllFit fs) (some-fault : 0 < length fs) (few :
   said_from x none_left begin = said_none
   said_from {passed} {es = es} {s = s} x (and_taken {r = r} {rs = rs} z k) begin =
       said_next (said_to passed es s x (map event_of (r ∷ rs)) begin (shape_of es r z) z)
-      (said_from (passed_on passed es s x r z) k (begin ∙ sym (append_assoc es (event_of r ∷ []) (map event_of rs))))
+      (said_from {passed = passed ++ (r ∷ [])} (passed_on passed es s x r z) k (begin ∙ sym (append_assoc es (event_of r ∷ []) (map event_of rs))))
 
 -- The claim
 

@@ -18,7 +18,7 @@ use Rattle.theory.specs.verdicts.Search.{judge}
 use Rattle.theory.specs.totals.Totals.{verdict_place}
 use Rattle.theory.specs.feeding.Meaning.{Meaning, is_refusal}
 use Rattle.theory.specs.feeding.Feeding.{answers_from, event_record}
-use Rattle.requests.specs.swapping.Unrelated.{Names, names, sharing, MayShare, may_share, Premise, two-acts, actors-differ, names-no-actor, names-no-same, no-semaphore, no_flag, no-variable, none_owned, Holds, first_misses, second_misses}
+use Rattle.requests.specs.swapping.Unrelated.{Names, names, sharing, MayShare, may_share, Premise, two_acts, actors_differ, names_no_actor, names_no_same, no_semaphore, no_flag, no_variable, none_owned, Holds, first_misses, second_misses}
 use Rattle.requests.specs.swapping.Compared.{Accepted, none_left, and_accepted, Said, refused, taken, judged, known}
 use Rattle.requests.specs.swapping.Examples.{Related, logged, exchanged, new_place, told_at, Changes, AllChange, EachNeeded, related, Pair, AllUnrelated, unrelated_pairs, AllMissed, missed_pairs, holding, EitherOrder, HeldPairs, NumbersShift}
 use Rattle.theory.proofs.basics.Reflects.{fails, equal, passed}
@@ -41,24 +41,24 @@ abbrev both_name : Series → Op → ℕ → Op → ℕ → Bool
 both_name x o n p m = is_of x o && (is_of x p && eqb n m)
 
 abbrev holds_of_acts : Premise → Op → ℕ → ℕ → Op → ℕ → ℕ → Bool
-holds_of_acts two-acts o t n p u m = true
-holds_of_acts actors-differ o t n p u m = not (eqb t u)
-holds_of_acts names-no-actor o t n p u m = not (is_of task o && eqb n u) && not (is_of task p && eqb m t)
-holds_of_acts names-no-same o t n p u m = not (both_name task o n p m)
-holds_of_acts no-semaphore o t n p u m = not (both_name semaphore o n p m)
+holds_of_acts two_acts o t n p u m = true
+holds_of_acts actors_differ o t n p u m = not (eqb t u)
+holds_of_acts names_no_actor o t n p u m = not (is_of task o && eqb n u) && not (is_of task p && eqb m t)
+holds_of_acts names_no_same o t n p u m = not (both_name task o n p m)
+holds_of_acts no_semaphore o t n p u m = not (both_name semaphore o n p m)
 holds_of_acts no_flag o t n p u m = not (both_name flag o n p m)
-holds_of_acts no-variable o t n p u m = not (both_name variable o n p m) || (o is p && sharing o)
+holds_of_acts no_variable o t n p u m = not (both_name variable o n p m) || (o is p && sharing o)
 holds_of_acts none_owned o t n p u m = not (is_of profile o) && not (is_of profile p)
 
 -- with a mark among the two, and whether the other is no `owned`
 abbrev holds_of_mark : Premise → Bool → Bool
-holds_of_mark two-acts b = false
-holds_of_mark actors-differ b = true
-holds_of_mark names-no-actor b = true
-holds_of_mark names-no-same b = true
-holds_of_mark no-semaphore b = true
+holds_of_mark two_acts b = false
+holds_of_mark actors_differ b = true
+holds_of_mark names_no_actor b = true
+holds_of_mark names_no_same b = true
+holds_of_mark no_semaphore b = true
 holds_of_mark no_flag b = true
-holds_of_mark no-variable b = true
+holds_of_mark no_variable b = true
 holds_of_mark none_owned b = b
 
 abbrev holds_test : Premise → Event → Event → Bool
@@ -112,25 +112,25 @@ module _ (o : Op) (t n : ℕ) (p : Op) (u m : ℕ) where
   or_else false b h d = absurd (d tt)
 
   acts_hold : (q : Premise) → T (holds_of_acts q o t n p u m) → Holds q (act o t n) (act p u m)
-  acts_hold two-acts h = an_act (an_act no_events)
-  acts_hold actors-differ h = λ x a b. passed (fails (equal t u)) h (sym (actor_is a) ∙ actor_is b)
-  acts_hold names-no-actor h = λ x. let (a, b) = split (not (is_of task o && eqb n u)) (not (is_of task p && eqb m t)) h in (not_task x a, not_task x b)
-  acts_hold names-no-same h = λ x. not_both task x h
-  acts_hold no-semaphore h = λ x. not_both semaphore x h
+  acts_hold two_acts h = an_act (an_act no_events)
+  acts_hold actors_differ h = λ x a b. passed (fails (equal t u)) h (sym (actor_is a) ∙ actor_is b)
+  acts_hold names_no_actor h = λ x. let (a, b) = split (not (is_of task o && eqb n u)) (not (is_of task p && eqb m t)) h in (not_task x a, not_task x b)
+  acts_hold names_no_same h = λ x. not_both task x h
+  acts_hold no_semaphore h = λ x. not_both semaphore x h
   acts_hold no_flag h = λ x. not_both flag x h
-  acts_hold no-variable h = λ v a b. may_both (or_else (both_name variable o n p m) (o is p && sharing o) h (λ z. not_both variable v z a b))
+  acts_hold no_variable h = λ v a b. may_both (or_else (both_name variable o n p m) (o is p && sharing o) h (λ z. not_both variable v z a b))
   acts_hold none_owned h = λ k. let (a, b) = split (not (is_of profile o)) (not (is_of profile p)) h in (not_owned k a, not_owned k b)
 
 -- with a mark there is nobody who acts and nothing that is named
 mark_holds : {e f : Event} (x : Bool) → ((t : ℕ) → ActsIn t e → ¬ ActsIn t f) → ((x : Series) (n : ℕ) → Names x n e → ¬ Names x n f) → ((t : ℕ) → Names task t e → ¬ ActsIn t f) → ((t : ℕ) → Names task t f → ¬ ActsIn t e) → (T x → Holds none_owned e f) →
     (q : Premise) → T (holds_of_mark q x) → Holds q e f
-mark_holds x a b c d o two-acts h = absurd h
-mark_holds x a b c d o actors-differ h = a
-mark_holds x a b c d o names-no-actor h = λ t. (c t, d t)
-mark_holds x a b c d o names-no-same h = λ t. b task t
-mark_holds x a b c d o no-semaphore h = λ x. b semaphore x
+mark_holds x a b c d o two_acts h = absurd h
+mark_holds x a b c d o actors_differ h = a
+mark_holds x a b c d o names_no_actor h = λ t. (c t, d t)
+mark_holds x a b c d o names_no_same h = λ t. b task t
+mark_holds x a b c d o no_semaphore h = λ x. b semaphore x
 mark_holds x a b c d o no_flag h = λ x. b flag x
-mark_holds x a b c d o no-variable h = λ v k l. absurd (b variable v k l)
+mark_holds x a b c d o no_variable h = λ v k l. absurd (b variable v k l)
 mark_holds x a b c d o none_owned h = o h
 
 test_holds : (q : Premise) (e f : Event) → T (holds_test q e f) → Holds q e f
@@ -142,29 +142,29 @@ test_holds q (lost mask) (lost mask') h = mark_holds true (λ t a b. no_actor a)
 -- Every premise but one
 
 abbrev premises : List Premise
-premises = two-acts ∷ actors-differ ∷ names-no-actor ∷ names-no-same ∷ no-semaphore ∷ no_flag ∷ no-variable ∷ none_owned ∷ []
+premises = two_acts ∷ actors_differ ∷ names_no_actor ∷ names_no_same ∷ no_semaphore ∷ no_flag ∷ no_variable ∷ none_owned ∷ []
 
 abbrev premise_number : Premise → ℕ
-premise_number two-acts = 0
-premise_number actors-differ = 1
-premise_number names-no-actor = 2
-premise_number names-no-same = 3
-premise_number no-semaphore = 4
+premise_number two_acts = 0
+premise_number actors_differ = 1
+premise_number names_no_actor = 2
+premise_number names_no_same = 3
+premise_number no_semaphore = 4
 premise_number no_flag = 5
-premise_number no-variable = 6
+premise_number no_variable = 6
 premise_number none_owned = 7
 
 abbrev numbered_premise : ℕ → Premise
-numbered_premise k = get_or premises k two-acts
+numbered_premise k = get_or premises k two_acts
 
 premise_numbered : (q : Premise) → numbered_premise (premise_number q) ≡ q
-premise_numbered two-acts = refl
-premise_numbered actors-differ = refl
-premise_numbered names-no-actor = refl
-premise_numbered names-no-same = refl
-premise_numbered no-semaphore = refl
+premise_numbered two_acts = refl
+premise_numbered actors_differ = refl
+premise_numbered names_no_actor = refl
+premise_numbered names_no_same = refl
+premise_numbered no_semaphore = refl
 premise_numbered no_flag = refl
-premise_numbered no-variable = refl
+premise_numbered no_variable = refl
 premise_numbered none_owned = refl
 
 same_premise : (p q : Premise) → eqb (premise_number p) (premise_number q) ≡ true → p ≡ q
@@ -174,14 +174,14 @@ abbrev all_of : (Premise → Bool) → List Premise → Bool
 all_of h [] = true
 all_of h (q ∷ qs) = h q && all_of h qs
 
-all_at : (h : Premise → Bool) (qs : List Premise) → all_of h qs ≡ true → h two-acts ≡ true → (k : ℕ) → h (get_or qs k two-acts) ≡ true
+all_at : (h : Premise → Bool) (qs : List Premise) → all_of h qs ≡ true → h two_acts ≡ true → (k : ℕ) → h (get_or qs k two_acts) ≡ true
 all_at h [] e d k = d
 all_at h (q ∷ qs) e d zero = and_elim_left (h q) (all_of h qs) e
 all_at h (q ∷ qs) e d (suc k) = all_at h qs (and_elim_right (h q) (all_of h qs) e) d k
 
 -- a test that passes at each premise
 each_premise : (h : Premise → Bool) → all_of h premises ≡ true → (q : Premise) → h q ≡ true
-each_premise h e q = subst (λ (p : Premise). h p ≡ true) (premise_numbered q) (all_at h premises e (and_elim_left (h two-acts) _ e) (premise_number q))
+each_premise h e q = subst (λ (p : Premise). h p ≡ true) (premise_numbered q) (all_at h premises e (and_elim_left (h two_acts) _ e) (premise_number q))
 
 -- the two meet it, or it is the one that they may fail
 abbrev met_or : Premise → Event → Event → Premise → Bool
@@ -257,13 +257,13 @@ all_change = rows_change related refl refl refl
 
 -- the rows, each for its premise
 pub each_needed : EachNeeded
-each_needed two-acts = (_, refl, all_change.0)
-each_needed actors-differ = (_, refl, all_change.1.0)
-each_needed names-no-actor = (_, refl, all_change.1.1.0)
-each_needed names-no-same = (_, refl, all_change.1.1.1.1.0)
-each_needed no-semaphore = (_, refl, all_change.1.1.1.1.1.0)
+each_needed two_acts = (_, refl, all_change.0)
+each_needed actors_differ = (_, refl, all_change.1.0)
+each_needed names_no_actor = (_, refl, all_change.1.1.0)
+each_needed names_no_same = (_, refl, all_change.1.1.1.1.0)
+each_needed no_semaphore = (_, refl, all_change.1.1.1.1.1.0)
 each_needed no_flag = (_, refl, all_change.1.1.1.1.1.1.1.0)
-each_needed no-variable = (_, refl, all_change.1.1.1.1.1.1.1.1.0)
+each_needed no_variable = (_, refl, all_change.1.1.1.1.1.1.1.1.0)
 each_needed none_owned = (_, refl, all_change.1.1.1.1.1.1.1.1.1.1.1.1.1.1.1.1.1.0)
 
 -- The pairs
@@ -286,8 +286,8 @@ pairs_unrelated = pairs_met unrelated_pairs refl
 -- with a miss
 pub pairs_missed : AllMissed missed_pairs
 pairs_missed = (
-  record { misses = second_misses; others = others_met_lem no-semaphore (act give 1 3) (act miss 2 3) refl },
-  (record { misses = first_misses; others = others_met_lem no-semaphore (act miss 2 4) (act take 1 4) refl }, tt),
+  record { misses = second_misses; others = others_met_lem no_semaphore (act give 1 3) (act miss 2 3) refl },
+  (record { misses = first_misses; others = others_met_lem no_semaphore (act miss 2 4) (act take 1 4) refl }, tt),
 )
 
 -- Under the profile

@@ -13,7 +13,7 @@ use Rattle.theory.specs.order.Recording.{Op, take, give, start, join, owned, fre
 use Rattle.theory.specs.order.Path.{Step, same_task, gives_takes, sets_looks, starts, joins, rule, Conflict, conflict, Empties, empties}
 use Rattle.theory.specs.acceptance.Owning.{is_owned, Who, nobody, by, next_holder}
 use Rattle.theory.specs.acceptance.Table.{Phase, next_phase}
-use Rattle.requests.specs.swapping.Unrelated.{Names, names, sharing, MayShare, may_share, Premise, two-acts, actors-differ, names-no-actor, names-no-same, no-semaphore, no_flag, no-variable, none_owned, Holds, Unrelated, UnrelatedRecords, OneMisses, first_misses, second_misses, UnrelatedByMiss, MissedRecords}
+use Rattle.requests.specs.swapping.Unrelated.{Names, names, sharing, MayShare, may_share, Premise, two_acts, actors_differ, names_no_actor, names_no_same, no_semaphore, no_flag, no_variable, none_owned, Holds, Unrelated, UnrelatedRecords, OneMisses, first_misses, second_misses, UnrelatedByMiss, MissedRecords}
 use Rattle.theory.proofs.basics.Reflects.{Reflects, right, wrong, equal}
 use Rattle.theory.proofs.acceptance.Owning.{ChangesHolder, by_take, by_give, holder_series}
 use Rattle.theory.proofs.order.Ops.{all, each_op, Role, a_take, a_give, a_look, a_set, a_start, a_join, plain, role, same_op, keeps_phases, access_series}
@@ -25,10 +25,10 @@ pub data TwoActs : Event → Event → Type 0 where
 
 pub record Independent (e f : Event) : Type 0 where
   pub both : TwoActs e f
-  pub actors : Holds actors-differ e f
-  pub actor_unnamed : Holds names-no-actor e f
-  pub no_task : Holds names-no-same e f
-  pub variables : Holds no-variable e f
+  pub actors : Holds actors_differ e f
+  pub actor_unnamed : Holds names_no_actor e f
+  pub no_task : Holds names_no_same e f
+  pub variables : Holds no_variable e f
   pub unowned : is_owned e ≡ false
   pub other_unowned : is_owned f ≡ false
   pub holders : (s : ℕ) → ChangesHolder s e → ¬ ChangesHolder s f
@@ -61,7 +61,7 @@ either_way z =
 acts_of : {e f : Event} → Unmarked (e ∷ (f ∷ [])) → TwoActs e f
 acts_of (an_act (an_act no_events)) = two
 
-no_step : {e f : Event} → Holds actors-differ e f → Holds names-no-actor e f → Holds no_flag e f → ((s : ℕ) → ChangesHolder s e → ¬ ChangesHolder s f) → ¬ Step e f
+no_step : {e f : Event} → Holds actors_differ e f → Holds names_no_actor e f → Holds no_flag e f → ((s : ℕ) → ChangesHolder s e → ¬ ChangesHolder s f) → ¬ Step e f
 no_step a n l h same_task = a _ acts acts
 no_step a n l h gives_takes = h _ by_give by_take
 no_step a n l h sets_looks = l _ (names refl) (names refl)
@@ -79,26 +79,26 @@ is_unowned (lost mask) d = refl
 
 -- from the premises but the one about semaphores
 abbrev other : Premise → Bool
-other two-acts = true
-other actors-differ = true
-other names-no-actor = true
-other names-no-same = true
-other no-semaphore = false
+other two_acts = true
+other actors_differ = true
+other names_no_actor = true
+other names_no_same = true
+other no_semaphore = false
 other no_flag = true
-other no-variable = true
+other no_variable = true
 other none_owned = true
 
 independent_by : {e f : Event} → ((q : Premise) → T (other q) → Holds q e f) → ((s : ℕ) → ChangesHolder s e → ¬ ChangesHolder s f) → Independent e f
 independent_by {e} {f} met h =
-    let a : Holds actors-differ e f = met actors-differ tt in
-    let n : Holds names-no-actor e f = met names-no-actor tt in
+    let a : Holds actors_differ e f = met actors_differ tt in
+    let n : Holds names_no_actor e f = met names_no_actor tt in
     let l : Holds no_flag e f = met no_flag tt in
     record {
-      both = acts_of (met two-acts tt);
+      both = acts_of (met two_acts tt);
       actors = a;
       actor_unnamed = n;
-      no_task = met names-no-same tt;
-      variables = met no-variable tt;
+      no_task = met names_no_same tt;
+      variables = met no_variable tt;
       unowned = is_unowned e (λ k. (met none_owned tt k).0);
       other_unowned = is_unowned f (λ k. (met none_owned tt k).1);
       holders = h;
@@ -112,7 +112,7 @@ of_semaphore {s} (by_take {t}) = names (holder_series {s = s} {t = t} by_take)
 of_semaphore {s} (by_give {t}) = names (holder_series {s = s} {t = t} by_give)
 
 pub unrelated_independent : {e f : Event} → Unrelated e f → Independent e f
-unrelated_independent z = independent_by (λ q h. z.holds q) (λ s a b. z.holds no-semaphore s (of_semaphore a) (of_semaphore b))
+unrelated_independent z = independent_by (λ q h. z.holds q) (λ s a b. z.holds no_semaphore s (of_semaphore a) (of_semaphore b))
 
 -- so is a miss of those that have its semaphore
 pub missed_independent : {e f : Event} → UnrelatedByMiss e f → Independent e f

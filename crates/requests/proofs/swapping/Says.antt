@@ -108,4 +108,4 @@ module _ {paired : Event → ℕ → Bool} where
   line_moved i (these {x = r} {y = q} z) (said_next a (said_next b m)) (said_next b' (said_next a' m')) (suc zero) = rw (said_longer (i.independent r q z) b' b)
   line_moved {es = es} i (these {x = r} {y = q} z) (said_next a (said_next b m)) (said_next b' (said_next a' m')) (suc (suc k)) = rw (all_swapped (swapped_last es (i.independent r q z)) m m')
   line_moved i (later s) (said_next a m) (said_next a' m') zero = rw (said_once a a')
-  line_moved i (later s) (said_next a m) (said_next a' m') (suc k) = line_moved i s m m' k
+  line_moved {es = es} i (later {x = x} s) (said_next a m) (said_next a' m') (suc k) = line_moved {es = es ++ (event_of x ∷ [])} i s m m' k

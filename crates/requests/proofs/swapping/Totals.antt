@@ -2,13 +2,13 @@
 use mathlib.Core.Path.{◌≡◌, refl, sym, ◌∙◌}
 use mathlib.Core.Bool.{Bool, true, false, ◌&&◌}
 use mathlib.Core.Logic.{◌↔◌}
-use mathlib.Core.List.{List, [], ◌∷◌, map}
+use mathlib.Core.List.{List, [], ◌∷◌, ◌++◌, map}
 use Prim.Native.Nat.{ℕ, ◌+◌, ◌<◌}
 use native.Mathlib.Omega.{arith}
 use lib.Dec.{eqb}
 use Rattle.theory.specs.declared.record.Record.{Record}
 use Rattle.theory.specs.order.Limits.{variables}
-use Rattle.theory.specs.order.Recording.{Event}
+use Rattle.theory.specs.order.Recording.{Event, event_of}
 use Rattle.theory.specs.verdicts.Verdict.{Verdict, Race}
 use Rattle.theory.specs.basics.Turns.{indicator}
 use Rattle.theory.specs.feeding.Meaning.{Meaning, refuses, takes, judges, meaning}
@@ -37,7 +37,7 @@ module _ (weight : Line → ℕ) where
   sum_moved {es = es} i (these {x = r} {y = q} y) (said_next a (said_next b m)) (said_next b' (said_next a' m')) =
       let z = i.independent r q y in
       rw (said_longer (either_way z) a a', ← said_longer z b' b, all_swapped (swapped_last es z) m m') (omega arith)
-  sum_moved i (later s) (said_next a m) (said_next a' m') = rw (said_once a a', sum_moved i s m m')
+  sum_moved {es = es} i (later {x = x} s) (said_next a m) (said_next a' m') = rw (said_once a a', sum_moved {es = es ++ (event_of x ∷ [])} i s m m')
 
 -- Totals as such sums
 

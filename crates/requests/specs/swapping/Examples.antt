@@ -10,7 +10,7 @@ use Rattle.theory.specs.verdicts.Verdict.{Race, Clear, Doubt}
 use Rattle.theory.specs.verdicts.Search.{Finding}
 use Rattle.theory.specs.verdicts.Examples.{◌∶◌with◌, w0, w1, r0, r1, b0, b1}
 use Rattle.theory.specs.feeding.Feeding.{answers_from, event_record, verdicts_of}
-use Rattle.requests.specs.swapping.Unrelated.{Premise, two-acts, actors-differ, names-no-actor, names-no-same, no-semaphore, no_flag, no-variable, none_owned, Holds, Unrelated, UnrelatedByMiss}
+use Rattle.requests.specs.swapping.Unrelated.{Premise, two_acts, actors_differ, names_no_actor, names_no_same, no_semaphore, no_flag, no_variable, none_owned, Holds, Unrelated, UnrelatedByMiss}
 use Rattle.requests.specs.swapping.Swaps.{Swapped, these, later, moved}
 use Rattle.requests.specs.swapping.Compared.{Accepted, Said, refused, taken, judged, lines_among}
 
@@ -86,34 +86,34 @@ abbrev pub related : List Related
 related =
     -- a loss mark, which names only the task that does not act in the other: what was lost may have taken what is given before it, and not what is
     -- given after it
-    example_row two-acts (act start 0 1 ∷ w0 ∷ []) (act give 0 4) (lost 2) (w1 ∷ []) 4 (doubt 0) (race 0)
+    example_row two_acts (act start 0 1 ∷ w0 ∷ []) (act give 0 4) (lost 2) (w1 ∷ []) 4 (doubt 0) (race 0)
     -- the same task acts: it gives what it has written, or writes once it has given
-    ∷ example_row actors-differ (act start 0 1 ∷ []) w0 (act give 0 4) (act take 1 4 ∷ w1 ∷ []) 4 clear (race 0)
+    ∷ example_row actors_differ (act start 0 1 ∷ []) w0 (act give 0 4) (act take 1 4 ∷ w1 ∷ []) 4 clear (race 0)
     -- one names the task that acts in the other: before its start a task may not act
-    ∷ example_row names-no-actor [] (act start 0 1) w1 [] 1 clear (refused 6)
+    ∷ example_row names_no_actor [] (act start 0 1) w1 [] 1 clear (refused 6)
     -- nor once it is joined
-    ∷ example_row names-no-actor (act start 0 1 ∷ []) w1 (act join 0 1) [] 1 clear (refused 6)
+    ∷ example_row names_no_actor (act start 0 1 ∷ []) w1 (act join 0 1) [] 1 clear (refused 6)
     -- both name the same task: one that was not started is not joined
-    ∷ example_row names-no-same (act start 0 2 ∷ []) (act start 0 1) (act join 2 1) [] 2 taken (refused 9)
+    ∷ example_row names_no_same (act start 0 2 ∷ []) (act start 0 1) (act join 2 1) [] 2 taken (refused 9)
     -- a semaphore in common: a take acquires what was given before it
-    ∷ example_row no-semaphore (act start 0 1 ∷ w0 ∷ []) (act give 0 4) (act take 1 4) (w1 ∷ []) 4 clear (race 0)
+    ∷ example_row no_semaphore (act start 0 1 ∷ w0 ∷ []) (act give 0 4) (act take 1 4) (w1 ∷ []) 4 clear (race 0)
     -- and under the profile it needs a free one
-    ∷ example_row no-semaphore (act owned 0 0 ∷ act start 0 1 ∷ act take 0 4 ∷ []) (act give 0 4) (act take 1 4) [] 4 taken (refused 16)
+    ∷ example_row no_semaphore (act owned 0 0 ∷ act start 0 1 ∷ act take 0 4 ∷ []) (act give 0 4) (act take 1 4) [] 4 taken (refused 16)
     -- a flag in common: a look acquires what was set before it
     ∷ example_row no_flag (act start 0 1 ∷ w0 ∷ []) (act set 0 3) (act look 1 3) (w1 ∷ []) 4 clear (race 0)
     -- a variable in common: of two writes the later one is a Race
-    ∷ example_row no-variable (act start 0 1 ∷ []) w0 w1 [] 1 clear (race 1)
+    ∷ example_row no_variable (act start 0 1 ∷ []) w0 w1 [] 1 clear (race 1)
     -- of a read and a write, in either order
-    ∷ example_row no-variable (act start 0 1 ∷ []) r0 w1 [] 1 clear (race 1)
-    ∷ example_row no-variable (act start 0 1 ∷ []) w0 r1 [] 1 clear (race 1)
+    ∷ example_row no_variable (act start 0 1 ∷ []) r0 w1 [] 1 clear (race 1)
+    ∷ example_row no_variable (act start 0 1 ∷ []) w0 r1 [] 1 clear (race 1)
     -- of a bump and a read, in either order, and of a bump and a write
-    ∷ example_row no-variable (act start 0 1 ∷ []) b0 r1 [] 1 clear (race 1)
-    ∷ example_row no-variable (act start 0 1 ∷ []) r0 b1 [] 1 clear (race 1)
-    ∷ example_row no-variable (act start 0 1 ∷ []) b0 w1 [] 1 clear (race 1)
+    ∷ example_row no_variable (act start 0 1 ∷ []) b0 r1 [] 1 clear (race 1)
+    ∷ example_row no_variable (act start 0 1 ∷ []) r0 b1 [] 1 clear (race 1)
+    ∷ example_row no_variable (act start 0 1 ∷ []) b0 w1 [] 1 clear (race 1)
     -- a fresh empties the history of what stands before it
-    ∷ example_row no-variable (act start 0 1 ∷ []) w0 (act fresh 1 5) (w1 ∷ []) 3 clear (race 0)
-    ∷ example_row no-variable (act start 0 1 ∷ []) r0 (act fresh 1 5) (w1 ∷ []) 3 clear (race 0)
-    ∷ example_row no-variable (act start 0 1 ∷ []) b0 (act fresh 1 5) (w1 ∷ []) 3 clear (race 0)
+    ∷ example_row no_variable (act start 0 1 ∷ []) w0 (act fresh 1 5) (w1 ∷ []) 3 clear (race 0)
+    ∷ example_row no_variable (act start 0 1 ∷ []) r0 (act fresh 1 5) (w1 ∷ []) 3 clear (race 0)
+    ∷ example_row no_variable (act start 0 1 ∷ []) b0 (act fresh 1 5) (w1 ∷ []) 3 clear (race 0)
     -- an `owned`: who has taken before it holds nothing after it
     ∷ example_row none_owned (act start 0 1 ∷ []) (act owned 0 0) (act take 1 4) (act give 1 4 ∷ []) 3 taken (refused 16)
     -- and who has not taken may give before it

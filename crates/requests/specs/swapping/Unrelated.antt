@@ -16,23 +16,23 @@ pub data MayShare : Event → Event → Type 0 where
 
 -- the premises, by name, and what each says of two records
 pub data Premise : Type 0 where
-  two-acts actors-differ names-no-actor names-no-same no-semaphore no_flag no-variable none_owned : Premise
+  two_acts actors_differ names_no_actor names_no_same no_semaphore no_flag no_variable none_owned : Premise
 
 abbrev pub Holds : Premise → Event → Event → Type 0
 -- "neither is a loss mark"
-Holds two-acts e f = Unmarked (e ∷ (f ∷ []))
+Holds two_acts e f = Unmarked (e ∷ (f ∷ []))
 -- "different tasks act"
-Holds actors-differ e f = (t : ℕ) → ActsIn t e → ¬ ActsIn t f
+Holds actors_differ e f = (t : ℕ) → ActsIn t e → ¬ ActsIn t f
 -- "neither names a task that acts in .. the other"
-Holds names-no-actor e f = (t : ℕ) → (Names task t e → ¬ ActsIn t f) × (Names task t f → ¬ ActsIn t e)
+Holds names_no_actor e f = (t : ℕ) → (Names task t e → ¬ ActsIn t f) × (Names task t f → ¬ ActsIn t e)
 -- "neither names a task that .. is named by the other"
-Holds names-no-same e f = (t : ℕ) → Names task t e → ¬ Names task t f
+Holds names_no_same e f = (t : ℕ) → Names task t e → ¬ Names task t f
 -- "they have no semaphore .. in common"
-Holds no-semaphore e f = (s : ℕ) → Names semaphore s e → ¬ Names semaphore s f
+Holds no_semaphore e f = (s : ℕ) → Names semaphore s e → ¬ Names semaphore s f
 -- "no .. flag .. in common"
 Holds no_flag e f = (x : ℕ) → Names flag x e → ¬ Names flag x f
 -- "no .. variable in common, except two reads or two bumps"
-Holds no-variable e f = (v : ℕ) → Names variable v e → Names variable v f → MayShare e f
+Holds no_variable e f = (v : ℕ) → Names variable v e → Names variable v f → MayShare e f
 -- "a swap as in F-11 never moves it": neither is an `owned`
 Holds none_owned e f = (n : ℕ) → (¬ Names profile n e) × (¬ Names profile n f)
 
@@ -52,7 +52,7 @@ pub data OneMisses : Event → Event → Type 0 where
 
 pub record UnrelatedByMiss (e f : Event) : Type 0 where
   pub misses : OneMisses e f
-  pub others : (q : Premise) → q ≢ no-semaphore → Holds q e f
+  pub others : (q : Premise) → q ≢ no_semaphore → Holds q e f
 
 abbrev pub MissedRecords : Record → Record → Type 0
 MissedRecords r q = UnrelatedByMiss (event_of r) (event_of q)

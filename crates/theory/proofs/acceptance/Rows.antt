@@ -19,7 +19,7 @@ use Rattle.theory.proofs.basics.Reflects.{Reflects, right, wrong, equal}
 
 -- Rows that do not apply
 
--- where `anyBelow` fails, the test fails at each number below n
+-- where `any_below` fails, the test fails at each number below n
 pub none_below : (n : ℕ) (p : ℕ → Bool) → any_below n p ≡ false → (k : ℕ) → k < n → p k ≡ false
 unfolding turns
 none_below zero p e k h = absurd (omega arith)

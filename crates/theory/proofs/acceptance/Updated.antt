@@ -67,8 +67,8 @@ module _ (k task on : ℕ) (control : List ℕ) (p : Proper k task on) where
       decided (wrong _) (wrong _) (wrong _) (wrong _) (wrong _) = as_before
 
   -- the size of the table stays
-  pub after-length : length (control_after k task on control) ≡ length control
-  after-length = length-set (updated k task on control) count_at _ ∙ rewritten_length updated_rewrites
+  pub after_length : length (control_after k task on control) ≡ length control
+  after_length = length-set (updated k task on control) count_at _ ∙ rewritten_length updated_rewrites
 
   -- and so does what acceptance does not look at
   pub updated_elsewhere : (i : ℕ) → acceptance_cells ≤ i → get_or (control_after k task on control) i 0 ≡ get_or control i 0

@@ -21,7 +21,7 @@ use Rattle.theory.proofs.basics.Reflects.{Reflects, right, wrong, by_test, is_tr
 use Rattle.theory.proofs.order.Ops.{each_op, no_mark, op_of_kind, other_tests, on_series, access_on}
 use Rattle.theory.proofs.acceptance.Standings.{same_refusal}
 use Rattle.theory.proofs.tables.MaskBits.{mask_bit}
-use Rattle.theory.proofs.feeding.Simulation.{Shape, an_act, a_mark, shape_of, after-all, clocks_simulate, sets_simulate}
+use Rattle.theory.proofs.feeding.Simulation.{Shape, an_act, a_mark, shape_of, after_all_lem, clocks_simulate, sets_simulate}
 use Rattle.theory.proofs.feeding.Paths.{clock_paths, set_paths}
 
 -- Accesses
@@ -78,10 +78,10 @@ pub record AsTested {S : Type 0} (x : Reckoning S) (rs : List Record) (r : Recor
 
 module _ (rs : List Record) (r : Record) (e : refusal (recording rs) r ≡ 0) (q : accesses r.kind ≡ true) where
   pub clocks_tested : AsTested clock_reckoning rs r
-  clocks_tested = record { told = rw (same_refusal (after-all clocks_simulate [] fresh_state rs clocks_simulate.begins).base.control_exact r, e, q) }
+  clocks_tested = record { told = rw (same_refusal (after_all_lem clocks_simulate [] fresh_state rs clocks_simulate.begins).base.control_exact r, e, q) }
 
   pub sets_tested : AsTested set_reckoning rs r
-  sets_tested = record { told = rw (same_refusal (after-all sets_simulate [] fresh_sets rs sets_simulate.begins).base.control_exact r, e, q) }
+  sets_tested = record { told = rw (same_refusal (after_all_lem sets_simulate [] fresh_sets rs sets_simulate.begins).base.control_exact r, e, q) }
 
 -- so they say of each task what the tests say
 bit_test : (p : ℕ → Bool) {m : ℕ} {Q : Type 0} (u : ℕ) → u < tasks → m ≡ mask_of p → T (p u) ↔ Q → T (bit m u) ↔ Q

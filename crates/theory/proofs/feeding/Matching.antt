@@ -24,7 +24,7 @@ use Rattle.theory.specs.feeding.Paths.{clock_reckoning, set_reckoning, left_by, 
 use Rattle.theory.proofs.order.Ops.{no_mark, op_of_kind}
 use Rattle.theory.proofs.tables.Bits.{mask_ext}
 use Rattle.theory.proofs.acceptance.Standings.{same_refusal}
-use Rattle.theory.proofs.feeding.Simulation.{after-all, clocks_simulate, sets_simulate}
+use Rattle.theory.proofs.feeding.Simulation.{after_all_lem, clocks_simulate, sets_simulate}
 use Rattle.theory.proofs.feeding.Paths.{clock_paths, set_paths}
 use Rattle.theory.proofs.feeding.Asked.{access_alone, AccessShape, an_access, access_shape, clocks_tested, sets_tested}
 
@@ -72,10 +72,10 @@ module _ (by-clocks : ExactPaths clock_reckoning) (by-sets : ExactPaths set_reck
   same_apart r = decided (refusal (recording rs) r) refl (accesses r.kind) refl
     where
       clocks_refuse : control_refusal (left_by clock_reckoning rs).control r ≡ refusal (recording rs) r
-      clocks_refuse = same_refusal (after-all clocks_simulate [] fresh_state rs clocks_simulate.begins).base.control_exact r
+      clocks_refuse = same_refusal (after_all_lem clocks_simulate [] fresh_state rs clocks_simulate.begins).base.control_exact r
 
       sets_refuse : control_refusal (left_by set_reckoning rs).control r ≡ refusal (recording rs) r
-      sets_refuse = same_refusal (after-all sets_simulate [] fresh_sets rs sets_simulate.begins).base.control_exact r
+      sets_refuse = same_refusal (after_all_lem sets_simulate [] fresh_sets rs sets_simulate.begins).base.control_exact r
 
       decided : (n : ℕ) → refusal (recording rs) r ≡ n → (b : Bool) → accesses r.kind ≡ b → apart_by_clocks (left_by clock_reckoning rs) r ≡ apart_by_sets (left_by set_reckoning rs) r
       decided (suc n) e b q = rw (clocks_refuse, sets_refuse, e)
@@ -115,9 +115,9 @@ fresh_beside : Beside fresh_state fresh_sets
 unfolding fresh_state fresh_sets
 fresh_beside = record { control = refl; last = refl }
 
-pub after-one-more : {S : Type 0} (c : Checker S) (s : S) (rs : List Record) (r : Record) → after_all c s (rs ++ (r ∷ [])) ≡ c.next (after_all c s rs) r
-after-one-more c s [] r = refl
-after-one-more c s (x ∷ rs) r = after-one-more c (c.next s x) rs r
+pub after_one_more : {S : Type 0} (c : Checker S) (s : S) (rs : List Record) (r : Record) → after_all c s (rs ++ (r ∷ [])) ≡ c.next (after_all c s rs) r
+after_one_more c s [] r = refl
+after_one_more c s (x ∷ rs) r = after_one_more c (c.next s x) rs r
 
 module _ (by-clocks : ExactPaths clock_reckoning) (by-sets : ExactPaths set_reckoning) where
   same_answers : (before rest : List Record) → Beside (left_by clock_reckoning before) (left_by set_reckoning before) → replies by_clocks (left_by clock_reckoning before) rest ≡ replies by_sets (left_by set_reckoning before) rest
@@ -125,8 +125,8 @@ module _ (by-clocks : ExactPaths clock_reckoning) (by-sets : ExactPaths set_reck
   same_answers before (r ∷ rest) x =
       let (a, y) = beside_step (left_by clock_reckoning before) (left_by set_reckoning before) r x (same_apart by-clocks by-sets before r) in
       ap₂ (λ (a : Answer) (l : List Answer). a ∷ l) a
-      (rw (after-one-more by_clocks fresh_state before r, after-one-more by_sets fresh_sets before r) at
-      (same_answers (before ++ (r ∷ [])) rest (rw (after-one-more by_clocks fresh_state before r, after-one-more by_sets fresh_sets before r) y)))
+      (rw (after_one_more by_clocks fresh_state before r, after_one_more by_sets fresh_sets before r) at
+      (same_answers (before ++ (r ∷ [])) rest (rw (after_one_more by_clocks fresh_state before r, after_one_more by_sets fresh_sets before r) y)))
 
   pub paths_match : ReckoningsMatch
   paths_match rs = record { answers = same_answers [] rs fresh_beside; paths = same_apart by-clocks by-sets rs }

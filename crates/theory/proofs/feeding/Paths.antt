@@ -35,7 +35,7 @@ use Rattle.theory.proofs.verdicts.Examples.{ends_middle}
 use Rattle.theory.proofs.history.Slots.{InSlot, in_slot, Frees, frees, ExactHistory, slot_one, clash_access}
 use Rattle.theory.proofs.history.Numbers.{Ranged, asker_below, asker_op, latest_below}
 use Rattle.theory.proofs.tables.Reckoned.{acts_reach, TellsApart, clock_tells, set_tells}
-use Rattle.theory.proofs.feeding.Simulation.{Shape, an_act, a_mark, shape_of, Represents, RepresentsSets, Simulates, after-all, clocks_simulate, sets_simulate}
+use Rattle.theory.proofs.feeding.Simulation.{Shape, an_act, a_mark, shape_of, Represents, RepresentsSets, Simulates, after_all_lem, clocks_simulate, sets_simulate}
 
 through : {P Q R : Type 0} → P ↔ Q → R ↔ Q → P ↔ R
 through a b = (λ p. b.1 (a.0 p), λ r. a.1 (b.0 r))
@@ -322,7 +322,7 @@ module _ {S : Type 0} {x : Reckoning S} {es : List Event} {s : S} (y : Exactly x
 
 module _ {S : Type 0} {x : Reckoning S} {R : List Event → S → Type 0} (simulates : Simulates x.checker R) (exactly : (es : List Event) (s : S) → R es s → Exactly x es s) where
   represents : (rs : List Record) → R (recording rs) (left_by x rs)
-  represents rs = after-all simulates [] x.checker.fresh rs simulates.begins
+  represents rs = after_all_lem simulates [] x.checker.fresh rs simulates.begins
 
   next_exactly : (rs : List Record) (r : Record) → refusal (recording rs) r ≡ 0 → Exactly x (recording rs ++ (event_of r ∷ [])) (x.checker.next (left_by x rs) r)
   next_exactly rs r e =

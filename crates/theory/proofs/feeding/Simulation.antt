@@ -236,9 +236,9 @@ fed_to {c = c} x es s (r ∷ rs) h =
     let (e, y) = x.steps es s r h in
     rw (e, fed_to x (append_unless es r (refusal es r)) (c.next s r) rs y)
 
-pub after-all : {S : Type 0} {c : Checker S} {R : List Event → S → Type 0} → Simulates c R → (es : List Event) (s : S) (rs : List Record) → R es s → R (extended es rs) (after_all c s rs)
-after-all x es s [] h = h
-after-all {c = c} x es s (r ∷ rs) h = after-all x (append_unless es r (refusal es r)) (c.next s r) rs (x.steps es s r h).1
+pub after_all_lem : {S : Type 0} {c : Checker S} {R : List Event → S → Type 0} → Simulates c R → (es : List Event) (s : S) (rs : List Record) → R es s → R (extended es rs) (after_all c s rs)
+after_all_lem x es s [] h = h
+after_all_lem {c = c} x es s (r ∷ rs) h = after_all_lem x (append_unless es r (refusal es r)) (c.next s r) rs (x.steps es s r h).1
 
 -- Clocks and sets are such
 

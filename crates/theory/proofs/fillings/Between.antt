@@ -24,6 +24,7 @@ occurs_behind (g ∷ gs) o = rw suc-add (next (occurs_behind gs o))
 
 ends_filled : {F : ℕ → List Event → Type 0} {es fs mid : List Event} {k : ℕ} {o : Op} {t n : ℕ} (c : Filled F es fs) → Ends es k mid (act o t n) →
     (mid' : List Event) × Ends fs (place c k) mid' (act o t n) × Filled F mid mid'
+ends_filled done d = elim d [ ]
 ends_filled (keep c) ends = ([], ends, done)
 ends_filled (keep c) (onward d) = let (mid', d', c') = ends_filled c d in (_, onward d', keep c')
 ends_filled (fill {gs = gs} x c) (onward d) = let (mid', d', c') = ends_filled c d in (gs ++ mid', ends_behind gs d', fill x c')
@@ -38,6 +39,8 @@ pub record FilledBetween (F : ℕ → List Event → Type 0) (fs : List Event) (
 
 pub filled_between : {F : ℕ → List Event → Type 0} {es fs before mid : List Event} {i k : ℕ} {o p : Op} {t u n m : ℕ} (c : Filled F es fs) →
     Ends es k before (act p u m) → Occurs before i (act o t n) mid → FilledBetween F fs (place c i) (place c k) (act o t n) (act p u m) mid
+filled_between done d o = elim d [ ]
+filled_between (keep c) ends o = elim o [ ]
 filled_between (keep c) (onward d) first =
     let (mid', d', c') = ends_filled c d in
     record { before' = _; mid' = mid'; to = onward d'; from = first; filled = c' }
@@ -88,6 +91,7 @@ module _ (g : ℕ → List Event) (fillers : (mask : ℕ) → Every (Filler mask
 
 -- an arrived record stands behind all that comes before it, filled in
 place_behind : {g : ℕ → List Event} {es fs : List Event} {i : ℕ} {e : Event} (c : Filled (Is g) es fs) → At es i e → place c i ≡ length (fill_with g (take i es))
+place_behind done a = elim a [ ]
 place_behind (keep c) here = refl
 place_behind (keep c) (there a) = ap suc (place_behind c a)
 place_behind (fill is c) here = refl

@@ -30,6 +30,7 @@ leads_survives done p = p
 leads_survives (keep c) (over p) = over (leads_survives c p)
 leads_survives (keep c) (via s p) = via s (leads_survives c p)
 leads_survives (fill {gs = gs} x c) (over p) = over_list gs (leads_survives c p)
+leads_survives (fill x c) (via s p) = elim s [ ]
 
 -- a path needs no mark
 pub leads_as_arrived : {mid mid' : List Event} {e f : Event} → Filled (Is nothing) mid mid' → Leads e mid' f → Leads e mid f

@@ -41,10 +41,12 @@ at_occurs (onward d) here h = (_, first)
 at_occurs (onward d) (there a) h = let (mid, o) = at_occurs d a (le_of_suc-le-suc h) in (mid, next o)
 
 pub occurs_at : {es before mid : List Event} {i k : ℕ} {e f : Event} → Ends es k before f → Occurs before i e mid → At es i e
+occurs_at ends o = elim o [ ]
 occurs_at (onward d) first = here
 occurs_at (onward d) (next o) = there (occurs_at d o)
 
 pub occurs_before : {es before mid : List Event} {i k : ℕ} {e f : Event} → Ends es k before f → Occurs before i e mid → i < k
+occurs_before ends o = elim o [ ]
 occurs_before (onward d) first = suc-le-suc zero-le
 occurs_before (onward d) (next o) = suc-le-suc (occurs_before d o)
 
@@ -112,9 +114,11 @@ first_leads (onward d) (more {j = suc zero} s p) = via (to_last (Step _) ends (a
 first_leads (onward d) (more {j = suc (suc j)} s p) = over (first_leads d (more (step_out s) (path_on (path_back (path_back p)))))
 
 pub leads_path : {e f : Event} {es before mid : List Event} {i k : ℕ} → Ends es k before f → Occurs before i e mid → Leads e mid f → HappensBefore es i k
+leads_path ends o p = elim o [ ]
 leads_path (onward d) first p = leads_first d p
 leads_path (onward d) (next o) p = path_on (leads_path d o p)
 
 pub path_leads : {e f : Event} {es before mid : List Event} {i k : ℕ} → Ends es k before f → Occurs before i e mid → HappensBefore es i k → Leads e mid f
+path_leads ends o p = elim o [ ]
 path_leads (onward d) first p = first_leads d p
 path_leads (onward d) (next o) p = path_leads d o (path_back p)

@@ -79,6 +79,7 @@ none_every [] n = no_more
 none_every (e ∷ es) n = and_more (λ p. n (this p)) (none_every es (λ s. n (further s)))
 
 pub every_none : {P : Event → Type 0} {es : List Event} → Every (λ e. ¬ P e) es → ¬ Some P es
+every_none no_more s = elim s [ ]
 every_none (and_more n r) (this p) = n p
 every_none (and_more n r) (further s) = every_none r s
 
@@ -86,6 +87,11 @@ pub none_test : {P : Event → Type 0} {b : Event → Bool} → ((e : Event) →
 none_test r es = same_as (none_every es) every_none (fails (some_test r es))
 
 -- Steps
+
+-- an event is an act, and no mark
+abbrev is_act : Event → Bool
+is_act (act o t n) = true
+is_act (lost mask) = false
 
 -- the five lines of "Order" as cases, in the order of the test
 abbrev Cases : Op → ℕ → ℕ → Op → ℕ → ℕ → Type 0
@@ -110,6 +116,14 @@ step_cases sets_looks = inl (inl (inr ((refl, refl), refl)))
 step_cases starts = inl (inr (refl, refl))
 step_cases joins = inr (refl, refl)
 
+-- a step comes to an act
+comes_to_act : {e f : Event} → Step e f → T (is_act f)
+comes_to_act same_task = tt
+comes_to_act gives_takes = tt
+comes_to_act sets_looks = tt
+comes_to_act starts = tt
+comes_to_act joins = tt
+
 pub step_test : (e f : Event) → Reflects (Step e f) (steps e f)
 step_test (act o t n) (act p u m) =
     same_as (cases_step o p t u n m) step_cases
@@ -118,7 +132,7 @@ step_test (act o t n) (act p u m) =
     (either (either (equal t u) (both (both (same_op o give) (same_op p take)) (equal n m))) (both (both (same_op o set) (same_op p look)) (equal n m)))
     (both (same_op o start) (equal n u)))
     (both (same_op p join) (equal t m)))
-step_test (act o t n) (lost mask) = wrong (λ s. elim s [ ])
+step_test (act o t n) (lost mask) = wrong (λ s. comes_to_act s)
 step_test (lost mask) (act p u m) = wrong (λ s. elim s [ ])
 step_test (lost mask) (lost mask') = wrong (λ s. elim s [ ])
 
@@ -175,12 +189,16 @@ conflict_test (act o t n) (lost mask) = wrong (λ s. elim s [ ])
 conflict_test (lost mask) (act p u m) = wrong (λ s. elim s [ ])
 conflict_test (lost mask) (lost mask') = wrong (λ s. elim s [ ])
 
+-- and so does what empties a history
+empties_for_act : {e f : Event} → Empties e f → T (is_act f)
+empties_for_act emptying = tt
+
 pub empties_test : (e f : Event) → Reflects (Empties e f) (empties e f)
 empties_test (act o t v) (act p u w) = same_as (λ c. rw (c.0, c.1) emptying) parts (both (same_op o fresh) (equal v w))
   where
     parts : {o p : Op} {t u v w : ℕ} → Empties (act o t v) (act p u w) → (o ≡ fresh) × (v ≡ w)
     parts emptying = (refl, refl)
-empties_test (act o t n) (lost mask) = wrong (λ s. elim s [ ])
+empties_test (act o t n) (lost mask) = wrong (λ c. empties_for_act c)
 empties_test (lost mask) (act p u m) = wrong (λ s. elim s [ ])
 empties_test (lost mask) (lost mask') = wrong (λ s. elim s [ ])
 

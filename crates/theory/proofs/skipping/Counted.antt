@@ -33,7 +33,7 @@ use Rattle.theory.proofs.acceptance.Accepted.{fits_of}
 use Rattle.theory.proofs.acceptance.Owning.{who_none}
 use Rattle.theory.proofs.acceptance.ControlTable.{ExactControl}
 use Rattle.theory.proofs.acceptance.Standings.{gave_same, same_refusal}
-use Rattle.theory.proofs.feeding.Simulation.{Shape, an_act, a_mark, shape_of, after-all, clocks_simulate}
+use Rattle.theory.proofs.feeding.Simulation.{Shape, an_act, a_mark, shape_of, after_all_lem, clocks_simulate}
 use Rattle.theory.proofs.totals.Kept.{CountsSo, clocks_keep, sets_keep, fresh_control_cell}
 
 -- Which takes are skipped
@@ -61,7 +61,7 @@ moves_as : {es : List Event} {control : List ℕ} {r : Record} → ExactControl 
 moves_as {r = r} x h = ap (λ (b : Bool). cond b (kind Op.miss) r.kind) (skips_same x h)
 
 pub clocks_skip_these : SkipsThese
-clocks_skip_these rs r e = moves_as (after-all clocks_simulate [] fresh_state rs clocks_simulate.begins).base.control_exact (shape_of (recording rs) r e)
+clocks_skip_these rs r e = moves_as (after_all_lem clocks_simulate [] fresh_state rs clocks_simulate.begins).base.control_exact (shape_of (recording rs) r e)
 
 -- The count of a recording
 

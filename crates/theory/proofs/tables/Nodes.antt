@@ -170,7 +170,7 @@ acquired_read o t n joins = by_role (role o)
 pub plain_acquired : {o : Op} → Plain o → (t n : ℕ) → acquired_node o t n ≡ due t
 plain_acquired x t n = rw (x.not_take, x.not_look, x.not_join)
 
-pub joined_in : {o : Op} {t n : ℕ} → Acquires (acted n) (act o t n) → n < size_of (series o) → n < tasks
+pub joined_in : {o : Op} {t n m : ℕ} → Acquires (acted m) (act o t n) → n < size_of (series o) → n < tasks
 joined_in by_join l = l
 
 pub releases_cases : {o : Op} {t n : ℕ} {p : Node} → Releases (act o t n) p → (p ≡ due t) ⊎ ((p ≡ acted t) ⊎ (p ≡ released_node o t n))

@@ -23,7 +23,7 @@ use Rattle.theory.specs.totals.Totals.{races_at, total_at, verdict_place, total,
 use Rattle.theory.specs.totals.Counting.{counts, is_race}
 use Rattle.theory.proofs.basics.Reflects.{Reflects, right, wrong, equal, by_test, both, is_true}
 use Rattle.theory.proofs.order.Ops.{no_mark, event_act, access_on, on_series}
-use Rattle.theory.proofs.acceptance.Updated.{after-length, updated_elsewhere}
+use Rattle.theory.proofs.acceptance.Updated.{after_length, updated_elsewhere}
 use Rattle.theory.proofs.acceptance.ControlTable.{ExactControl}
 use Rattle.theory.proofs.tables.Counters.{Room, one_more_lem, raise_length, raise_same, raise_other}
 use Rattle.theory.proofs.feeding.Simulation.{Shape, an_act, a_mark}
@@ -122,7 +122,7 @@ bool_false {b} n = decided (by_test b)
     decided (wrong m) = refl
 
 noted_by : {es : List Event} {control : List ℕ} (k task on : ℕ) → ExactControl es control → Proper k task on → Noted control (control_after k task on control)
-noted_by {control = control} k task on x p = record { size = after-length k task on control p ∙ x.size; same = updated_elsewhere k task on control p }
+noted_by {control = control} k task on x p = record { size = after_length k task on control p ∙ x.size; same = updated_elsewhere k task on control p }
 
 module _ {es : List Event} {control : List ℕ} (x : ExactControl es control) where
   pub moved_by_lem : {r : Record} → Shape es r → Moved control (totalled (accepted_answer es (event_of r)) r.on (control_after r.kind r.task r.on control)) r (accepted_answer es (event_of r))

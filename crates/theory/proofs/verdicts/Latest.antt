@@ -3,7 +3,7 @@
 use mathlib.Core.Path.{◌≡◌, refl, sym, ap, subst}
 use mathlib.Core.Bool.{Bool}
 use mathlib.Core.Logic.{◌↔◌}
-use mathlib.Core.List.{List, ◌∷◌}
+use mathlib.Core.List.{List, [], ◌∷◌}
 use Prim.Native.Nat.{ℕ, zero, suc, ◌-◌, ◌≤◌, ◌<◌}
 use lib.ListN.{take}
 use native.Mathlib.Nat.{le_of_suc-le-suc, not-suc-le-zero}
@@ -50,6 +50,7 @@ ends_take (onward {x = x} d) = ap (λ (es : List Event). x ∷ es) (ends_take d)
 
 -- what stands between the two is what stands after the one, before the other
 between_after : {es before after : List Event} {i k : ℕ} {e f : Event} → Ends es k before f → Occurs before i e after → between es i k ≡ after
+between_after ends o = elim o [ ]
 between_after (onward {k = k} d) first = let e : suc k - 1 ≡ k = omega arith in rw e (ends_take d)
 between_after (onward {k = k} d) (next {i = i} o) = let e : suc k - suc (suc i) ≡ k - suc i = omega arith in rw e (between_after d o)
 
@@ -109,6 +110,7 @@ final_next : {t i : ℕ} {e f : Event} {es : List Event} → Final t f es i → 
 final_next a = record { x = a.x; after = a.after; occurs = next a.occurs; against = a.against; none = a.none }
 
 final_exists : {t i : ℕ} {e f : Event} (es : List Event) {after : List Event} → Occurs es i e after → Against t e after f → (j : ℕ) × Final t f es j
+final_exists [] o a = elim o [ ]
 final_exists (e ∷ es) (next o) a = let (j, l) = final_exists es o a in (suc j, final_next l)
 final_exists {t} {f = f} (e ∷ es) first a = decided (again_test t f es) (λ i x after o b. final_exists es o b)
   where

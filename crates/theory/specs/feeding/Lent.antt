@@ -1,6 +1,6 @@
 -- How contracts name lent memory: what it holds when a function begins and when it returns, and the tables of a running state as one state.
 use Rattle.std.specs.Prelude.{ℕ, List}
-use Rattle.std.specs.Borrow.{Bor}
+use Rattle.std.specs.Borrow.{MutBor}
 use denote.Triple.Both.{Both}
 use Rattle.theory.specs.declared.state.State.{State}
 use Rattle.theory.specs.declared.state.SetState.{SetState}
@@ -11,7 +11,7 @@ Twice X = Both X X
 
 -- a parameter that is lent, as a contract has it
 abbrev pub Lent : Type 0 → Type 0
-Lent X = Twice (Bor X)
+Lent X = Twice (MutBor X)
 
 -- what it holds
 abbrev pub seen : {X : Type 0} → Lent X → Twice X
