@@ -12,7 +12,7 @@ use crate::refusals::{common_refusal, refusal_of};
 use theory::{COUNT, Control, Record, RecordNumber};
 
 // The number of the row that refuses the record, or 0, and then its record number and the kind by which it moves the clocks.
-#[derive(Drop)]
+#[derive(Clone, Copy)]
 pub struct Admitted {
     pub refused: u32,
     pub number: RecordNumber,

@@ -1,4 +1,6 @@
 // Acceptance: which records are refused, by which row of the refusal table, and what an accepted one does to the control table.
+#![tactic(auto)]
+
 mod admission;
 mod control;
 mod refusals;

@@ -1,5 +1,7 @@
 // Small functions of numbers that acceptance, the reckonings and the walk over a list share: tests, bits of a word, kinds of access, rows of a table
 // and the records of a lent list. Each is right for every number that it may be handed.
+#![tactic(auto)]
+
 mod accesses;
 mod bits;
 mod bools;
