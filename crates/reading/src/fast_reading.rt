@@ -9,7 +9,7 @@ use crate::words::four;
 use theory::TASKS;
 
 // The four bytes after the first four of ` task=T`, as one number, and how many digits the task has.
-#[derive(Drop)]
+#[derive(Clone, Copy)]
 pub(crate) struct Ending {
     pub(crate) task: u32,
     pub(crate) bytes: u64,

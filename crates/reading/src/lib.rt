@@ -1,4 +1,6 @@
 // The reading of lines: those of a text as records, and those of the file of accepted faults as entries. It knows nothing of the checker.
+#![tactic(auto)]
+
 mod decimal;
 mod entry_form;
 mod fast_reading;

@@ -6,7 +6,7 @@ ghost use Rattle.text.specs.Reading.{line_at, next_at};
 use crate::short::line_taken;
 use text::Parsed;
 
-#[derive(Drop)]
+#[derive(Clone, Copy)]
 pub struct LineReader<'a> {
     text: &'a [u8],
     at: usize,

@@ -28,7 +28,7 @@ fn one_or_two(b: u8, end: u8) -> usize
 }
 
 // The number of a field, and how many bytes the field has; 0 where nothing is known of it.
-#[derive(Drop)]
+#[derive(Clone, Copy)]
 struct Field {
     value: u32,
     len: usize,
@@ -81,7 +81,7 @@ fn on_at(s: &[u8], p: usize) -> Field
 }
 
 // What a short line says, and the place after it. A loss mark says nothing: it is no short line.
-#[derive(Drop)]
+#[derive(Clone, Copy)]
 struct Short {
     kind: u8,
     task: u32,
@@ -142,7 +142,7 @@ fn short_line(s: &[u8], p: usize) -> Short
 }
 
 // What the line at a place says, and the place after it and its LF.
-#[derive(Drop)]
+#[derive(Clone, Copy)]
 pub(crate) struct LineTaken {
     pub parsed: Parsed,
     pub next: usize,

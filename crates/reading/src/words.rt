@@ -147,7 +147,7 @@ fn op_bytes(o: &[u8; 8]) -> usize
 }
 
 // An op by its kind, with its opening as one number, and how many bytes of that are the op's.
-#[derive(Drop)]
+#[derive(Clone, Copy)]
 pub(crate) struct Opening {
     pub(crate) kind: u8,
     pub(crate) bytes: u64,
