@@ -2,7 +2,7 @@
 // the recording as it arrived. Empty for a record that is no access or would be refused.
 ghost use Rattle.std.specs.Prelude.{◌≡◌};
 ghost use Rattle.theory.specs.feeding.Step.{apart_by_clocks, apart_by_sets};
-ghost use Rattle.theory.specs.feeding.Lent.{tables, set_tables};
+ghost use Rattle.theory.specs.feeding.Lent.{state_of, set_state_of};
 
 use crate::clocks::clock_masks;
 use crate::masks::empty_masks;
@@ -19,7 +19,7 @@ pub fn apart_by_clocks(
     fullclocks: &Clocks,
     r: Record,
 ) -> Masks
-    ensures { result ≡ apart_by_clocks (tables control last clocks fullclocks).entry r }
+    ensures { result ≡ apart_by_clocks (state_of control.now last.now clocks.now fullclocks.now) r }
 {
     let refused = refusal(control, r);
     if refused != 0 {
@@ -40,7 +40,7 @@ pub fn apart_by_sets(
     fullsets: &Sets,
     r: Record,
 ) -> Masks
-    ensures { result ≡ apart_by_sets (set_tables control last sets fullsets).entry r }
+    ensures { result ≡ apart_by_sets (set_state_of control.now last.now sets.now fullsets.now) r }
 {
     let refused = refusal(control, r);
     if refused != 0 {

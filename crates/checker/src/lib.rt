@@ -1,4 +1,6 @@
 // The order checker below the text layer, over basics and acceptance: each function proved against a definition of crates/theory or crates/requests.
+#![tactic(auto)]
+
 mod asking;
 mod clocks;
 mod entries;

@@ -35,7 +35,7 @@ pub(crate) fn empty_masks() -> Masks
 }
 
 // The masks of an access as words: the lower half of each is the mask, and the word is 0 only where that is.
-#[derive(Drop)]
+#[derive(Clone, Copy)]
 pub(crate) struct Words {
     pub(crate) full: u32,
     pub(crate) arrived: u32,

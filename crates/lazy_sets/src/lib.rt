@@ -1,4 +1,6 @@
 // The lazy reckoning: the sets worked out for the access that ends a list of records, and only as far as they are needed.
+#![tactic(auto)]
+
 mod columns;
 mod following;
 mod lazy;
