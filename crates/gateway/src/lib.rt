@@ -1,5 +1,6 @@
-// One running state, lent whole by a host program in C; include/order.h has the same function for C. It is an archive of its own: in one
-// with `order_feed` the step would have two callers, and the compiler would no longer make it part of either.
+// One running state, lent whole by a host program in C; include/order.h has the same function for C, and `gateway_c` makes it an archive.
+#![tactic(auto)]
+
 ghost use Rattle.std.specs.Prelude.{◌≡◌};
 ghost use Rattle.theory.specs.feeding.Step.{answer_numbers, record_of, step_of};
 
@@ -15,8 +16,7 @@ fn write_answer(a: Answer, answer: &mut [u32; 3])
 }
 
 // Feeds a record to the running state and writes the answer as three numbers. The state is copied there and back: `order_feed` is faster.
-#[unsafe(no_mangle)]
-pub extern "C" fn order_step(state: &mut State, kind: u8, task: u32, on: u32, answer: &mut [u32; 3])
+pub fn order_step(state: &mut State, kind: u8, task: u32, on: u32, answer: &mut [u32; 3])
     ensures { let stepped = step_of state.old (record_of kind task on) in
         (state.new ≡ stepped.state) × (answer.new ≡ answer_numbers stepped.answer) }
 {

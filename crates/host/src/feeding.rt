@@ -31,8 +31,7 @@ pub fn answer_numbers(a: Answer) -> [u32; 3]
 }
 
 // Makes the lent tables those of a fresh state.
-#[unsafe(no_mangle)]
-pub extern "C" fn order_begin(
+pub fn order_begin(
     control: &mut Control,
     last: &mut History,
     clocks: &mut Clocks,
@@ -44,8 +43,7 @@ pub extern "C" fn order_begin(
 }
 
 // Feeds a record to the running state and writes the answer as three numbers.
-#[unsafe(no_mangle)]
-pub extern "C" fn order_feed(
+pub fn order_feed(
     control: &mut Control,
     last: &mut History,
     clocks: &mut Clocks,
@@ -63,8 +61,7 @@ pub extern "C" fn order_feed(
 }
 
 // Makes the lent tables those of a fresh state of the sets.
-#[unsafe(no_mangle)]
-pub extern "C" fn order_sets_begin(
+pub fn order_sets_begin(
     control: &mut Control,
     last: &mut History,
     sets: &mut Sets,
@@ -76,8 +73,7 @@ pub extern "C" fn order_sets_begin(
 }
 
 // Feeds a record to the sets and writes the answer as three numbers.
-#[unsafe(no_mangle)]
-pub extern "C" fn order_sets_feed(
+pub fn order_sets_feed(
     control: &mut Control,
     last: &mut History,
     sets: &mut Sets,

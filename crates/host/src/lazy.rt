@@ -7,8 +7,7 @@ use lazy_sets::lazily;
 
 // Writes the answer for a list of records, each its kind, its task and its number: the refusal of its first refused record or 0, the tasks
 // that have a pair with the access that ends it, those from whose access a path leads here, and the records walked.
-#[unsafe(no_mangle)]
-pub extern "C" fn order_lazy(list: &[[u32; 3]], answer: &mut [u64; 4])
+pub fn order_lazy(list: &[[u32; 3]], answer: &mut [u64; 4])
     ensures { let a = lazily (map record_in list.now) in answer.new ≡ a.refused ∷ a.pairs ∷ a.paths ∷ a.walked ∷ [] }
 {
     let a = lazily(list);

@@ -1,5 +1,6 @@
-// The functions for a host in C that keeps a running state. They are an archive of their own: in one with `order_report` the step would
-// have two callers, and the compiler would no longer make it part of the loop over lines.
+// The functions for a host in C that keeps a running state. `host_c` makes them an archive.
+#![tactic(auto)]
+
 mod feeding;
 mod lazy;
 mod settling;
@@ -8,4 +9,4 @@ mod totals;
 pub use feeding::{answer_numbers, order_begin, order_feed, order_sets_begin, order_sets_feed};
 pub use lazy::order_lazy;
 pub use settling::order_settle;
-pub use totals::{order_any_race, order_totals};
+pub use totals::{order_any_race, order_skipped, order_totals};

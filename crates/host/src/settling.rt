@@ -7,8 +7,7 @@ use checker::settle;
 
 // Writes the answer for a list of records, each its kind, its task and its number, and a home set: the refusal of the first refused record or 0,
 // and 0 for neither yes nor no, 1 for no, 2 for yes.
-#[unsafe(no_mangle)]
-pub extern "C" fn order_settle(list: &[[u32; 3]], home: u16, answer: &mut [u32; 2])
+pub fn order_settle(list: &[[u32; 3]], home: u16, answer: &mut [u32; 2])
     ensures { let a = settles home (map record_in list.now) in answer.new ≡ a.refused ∷ a.forced ∷ [] }
 {
     let a = settle(list, home);

@@ -10,8 +10,7 @@ use theory::Control;
 
 // Writes how many accesses of a variable were Clear, Race and Doubt so far, and returns 1. Where there is no such variable it returns 0, and
 // the memory is as it was.
-#[unsafe(no_mangle)]
-pub extern "C" fn order_totals(control: &Control, v: u32, totals: &mut [u32; 3]) -> u32
+pub fn order_totals(control: &Control, v: u32, totals: &mut [u32; 3]) -> u32
     ensures { let t = totals_of control.now v in
         (result ≡ indicator t.known) × (totals.new ≡ cond t.known (t.clear ∷ t.race ∷ t.doubt ∷ []) totals.old) }
 {
@@ -24,16 +23,14 @@ pub extern "C" fn order_totals(control: &Control, v: u32, totals: &mut [u32; 3])
 }
 
 // Returns 1 where any access was a Race so far, and 0 where none was.
-#[unsafe(no_mangle)]
-pub extern "C" fn order_any_race(control: &Control) -> u32
+pub fn order_any_race(control: &Control) -> u32
     ensures { result ≡ indicator (any_race control.now) }
 {
     if any_race(control) { 1 } else { 0 }
 }
 
 // Returns how many takes were skipped so far.
-#[unsafe(no_mangle)]
-pub extern "C" fn order_skipped(control: &Control) -> u32
+pub fn order_skipped(control: &Control) -> u32
     ensures { result ≡ skipped_in control.now }
 {
     skipped(control)

@@ -1,6 +1,7 @@
 // A recording that comes in pieces, and the file of accepted faults ahead of it, for a host program in C that keeps what is between them;
-// include/order.h has the same functions for C. It is an archive of its own: in one with `order_feed` the step would have two callers, and the
-// compiler would no longer make it part of either.
+// include/order.h has the same functions for C, and `pieces_c` makes them an archive.
+#![tactic(auto)]
+
 ghost use Rattle.std.specs.Prelude.{◌≡◌, cond, ◌-◌, ◌^◌, length};
 ghost use Rattle.std.proofs.lemmas.List.Edits.{sets as written};
 ghost use Rattle.theory.specs.feeding.Lent.{tables};
@@ -17,8 +18,7 @@ use theory::{Clocks, Control, History};
 // bytes written. Where the memory has under 64 bytes for each byte of the piece, or the lent numbers are none that a piece leaves, nothing
 // is changed, and 64 one-bits are returned. A text begins with fresh tables and progress 0, 0; a rest without LF at its end is answered by
 // one piece more, of LF alone.
-#[unsafe(no_mangle)]
-pub extern "C" fn order_piece(
+pub fn order_piece(
     piece: &[u8],
     report: &mut [u8],
     held: &mut [u8; HELD_MOST],
@@ -53,8 +53,7 @@ pub extern "C" fn order_piece(
 
 // The same for a piece of the file of accepted faults, into the control table; the report memory has what is said for its refused lines. Held
 // bytes and progress are of that file alone. It is read with fresh tables, ahead of the recording.
-#[unsafe(no_mangle)]
-pub extern "C" fn order_entries(
+pub fn order_entries(
     piece: &[u8],
     report: &mut [u8],
     held: &mut [u8; HELD_MOST],

@@ -1,14 +1,13 @@
 -- What a line says of a verdict. Assumes nothing.
-use mathlib.Core.Path.{◌≡◌, refl, sym, ap, subst, ◌∙◌}
-use mathlib.Core.Bool.{Bool, true, false, cond, not}
+use mathlib.Core.Path.{◌≡◌, refl, sym, ap, subst}
+use mathlib.Core.Bool.{Bool, true, false, cond}
 use mathlib.Core.List.{List, ◌++◌}
+use mathlib.Core.Logic.{◌≢◌}
 use Prim.Native.Nat.{ℕ, ◌≤◌}
 use native.Mathlib.Omega.{arith}
-use lib.Dec.{T, eqb, lit≤}
+use lib.Dec.{eqb, lit≤}
 use lib.ListN.{length, get_or}
-use denote.Enum.Declared.{tag_of}
-use mir.Val.{has_key}
-use types.Run.{OneOf, miss}
+use Rattle.theory.specs.declared.numbers.RecordNumber.{RecordNumber}
 use Rattle.theory.specs.declared.answer.Answer.{Answer}
 use Rattle.theory.specs.declared.answer.Answer.TheVariants.{Refused, Accepted, Clear, Race, Doubt}
 use Rattle.requests.specs.declared.excuse.Excuse.{Excuse}
@@ -16,7 +15,6 @@ use Rattle.theory.specs.declared.record.Record.{Record}
 use Rattle.requests.specs.entries.Table.{entry_count, excuse_of, tables_excuse}
 use Rattle.theory.specs.feeding.Meaning.{meaning}
 use Rattle.theory.specs.feeding.Step.{answer_numbers}
-use Rattle.theory.specs.contracts.answer.Answer.{the_type}
 use Rattle.text.specs.Bytes.{little}
 use Rattle.text.specs.Printing.{bytes}
 use Rattle.text.specs.ReportLines.{access_line, race_word, report_line, excused_for, partner_in}
@@ -38,16 +36,21 @@ told_so verdict rest j number partner e l b = (
 
 -- By the case of an answer
 
-case_tag : (a : Answer) → get_or (answer_numbers a) 0 0 ≡ tag_of the_type a
-case_tag (Refused n) = refl
-case_tag (Accepted n) = refl
-case_tag (Clear n) = refl
-case_tag (Race n w) = refl
-case_tag (Doubt n w) = refl
+-- what is no Race has another case
+pub no_race_case : (a : Answer) → ((n w : RecordNumber) → a ≢ Race n w) → get_or (answer_numbers a) 0 0 ≢ 3
+no_race_case (Refused n) f e = absurd (omega (arith, e))
+no_race_case (Accepted n) f e = absurd (omega (arith, e))
+no_race_case (Clear n) f e = absurd (omega (arith, e))
+no_race_case (Race n w) f e = f n w refl
+no_race_case (Doubt n w) f e = absurd (omega (arith, e))
 
--- an arm for the cases ks alone
-pub not_case : (a : Answer) (ks : List ℕ) (k : ℕ) → T (not (has_key ks k)) → OneOf ks (tag_of the_type a) → get_or (answer_numbers a) 0 0 ≡ k → ⊥
-not_case a ks k h o e = miss ks k h (subst (OneOf ks) (sym (case_tag a) ∙ e) o)
+-- what is neither refused nor merely accepted is a verdict
+pub judged_case : (a : Answer) → ((n : ℕ) → a ≢ Refused n) → ((n : RecordNumber) → a ≢ Accepted n) → 2 ≤ get_or (answer_numbers a) 0 0
+judged_case (Refused n) f g = absurd (f n refl)
+judged_case (Accepted n) f g = absurd (g n refl)
+judged_case (Clear n) f g = omega arith
+judged_case (Race n w) f g = omega arith
+judged_case (Doubt n w) f g = omega arith
 
 -- by document 01, from the answer's three numbers
 abbrev pub plainly : ℕ → ℕ → ℕ → VerdictTold

@@ -35,7 +35,7 @@ pub(crate) fn put_parsed(
 }
 
 // How far a text is answered: the lines so far, and the next place in the report.
-#[derive(Drop)]
+#[derive(Clone, Copy)]
 pub(crate) struct Reached {
     pub lines: u64,
     pub at: usize,

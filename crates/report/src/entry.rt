@@ -1,4 +1,4 @@
-// The C entry: a text and report memory in, the count of bytes written out.
+// The C entry: a text and report memory in, the count of bytes written out. `report_c` makes it an archive.
 ghost use Rattle.std.specs.Prelude.{◌≡◌, ◌≤◌, ◌*◌, length};
 ghost use Rattle.text.specs.Lines.{line_room, lines_of};
 ghost use Rattle.text.specs.Wrote.{Wrote};
@@ -40,8 +40,7 @@ const TOO_SMALL: u64 = u64::MAX;
 
 // The report of a text into lent memory, from a fresh state: the count of bytes written, or 64 one-bits where the memory has under 64
 // bytes for each line of the text; it is then untouched. Bytes after the written ones stay.
-#[unsafe(no_mangle)]
-pub extern "C" fn order_report(text: &[u8], report: &mut [u8]) -> u64
+pub fn order_report(text: &[u8], report: &mut [u8]) -> u64
     ensures { (result ≡ returned_count text.now report.old)
         × (report.new ≡ memory_of text.now report.old) }
 {

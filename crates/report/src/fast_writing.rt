@@ -8,7 +8,7 @@ use crate::writing::put_plain_number;
 use reading::little_endian;
 
 // The first number that a record number's digits do not hold: ten to the power RECORD_DIGITS, written out, as constants have no powers. With a
-// greater one `put_number` does not meet what `number_word` requires, which is said by `recordDigits`.
+// greater one `put_number` does not meet what `number_word` requires, which is said by `record_digits`.
 const TOO_LONG: u32 = 10_000_000;
 
 // The bytes of a number, the first counting least.

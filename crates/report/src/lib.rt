@@ -1,4 +1,6 @@
 // The text layer above the order checker: lines in, report lines out. It relies on the promises of the checker and of the reading of lines only.
+#![tactic(auto)]
+
 mod answering;
 mod entries;
 mod entry;

@@ -17,7 +17,7 @@ use theory::{Answer, Clocks, Control, ENTRIES, History, Record};
 
 // What an accepted access's line says of its verdict: the access's record number, `=` and the verdict's word as eight bytes, how many of them these are,
 // and the partner's record number.
-#[derive(Drop)]
+#[derive(Clone, Copy)]
 pub(crate) struct VerdictTold {
     pub(crate) number: u32,
     pub(crate) word: u64,
