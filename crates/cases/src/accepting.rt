@@ -26,50 +26,61 @@ fn apart() -> Clocks {
 }
 
 // Its partner by document 01 is given as 11, that of task 1, whatever the record is.
-fn ask(control: &Control, kind: u8, task: u32, on: u32) {
+fn ask(rt: &impl Print, control: &Control, kind: u8, task: u32, on: u32) {
     let last = written();
     let fullclocks = apart();
-    tell_excuse(checker::excuse(
-        control,
-        &last,
-        &fullclocks,
-        record(kind, task, on),
-        RecordNumber(11),
-    ));
+    tell_excuse(
+        rt,
+        checker::excuse(
+            control,
+            &last,
+            &fullclocks,
+            record(kind, task, on),
+            RecordNumber(11),
+        ),
+    );
 }
 
-fn tell_room(control: &Control) {
+fn tell_room(rt: &impl Print, control: &Control) {
     if checker::entries_full(control) {
-        line(b"full");
+        line(rt, b"full");
     } else {
-        line(b"room");
+        line(rt, b"room");
     }
 }
 
-fn take(control: &mut Control, v: u32, low: u32, high: u32, accepted: bool) {
+fn take(rt: &impl Print, control: &mut Control, v: u32, low: u32, high: u32, accepted: bool) {
     if checker::enter(control, v, low, high, accepted) {
-        line(b"taken in");
+        line(rt, b"taken in");
     } else {
-        line(b"left out");
+        line(rt, b"left out");
     }
 }
 
 // An entry, and the Race of a write by task 3 after it.
-fn after(control: &mut Control, name: &[u8], v: u32, low: u32, high: u32, accepted: bool) {
-    line(name);
-    take(control, v, low, high, accepted);
-    ask(control, WRITE, 3, 5);
+fn after(
+    rt: &impl Print,
+    control: &mut Control,
+    name: &[u8],
+    v: u32,
+    low: u32,
+    high: u32,
+    accepted: bool,
+) {
+    line(rt, name);
+    take(rt, control, v, low, high, accepted);
+    ask(rt, control, WRITE, 3, 5);
 }
 
 // Other records, beside the same entries.
-fn others(control: &Control) {
-    line(b"the other task acts");
-    ask(control, WRITE, 1, 5);
-    ask(control, WRITE, 7, 5);
-    line(b"no access, no such task, no such variable");
-    ask(control, START, 3, 5);
-    ask(control, WRITE, 16, 5);
-    ask(control, WRITE, 3, 64);
+fn others(rt: &impl Print, control: &Control) {
+    line(rt, b"the other task acts");
+    ask(rt, control, WRITE, 1, 5);
+    ask(rt, control, WRITE, 7, 5);
+    line(rt, b"no access, no such task, no such variable");
+    ask(rt, control, START, 3, 5);
+    ask(rt, control, WRITE, 16, 5);
+    ask(rt, control, WRITE, 3, 64);
 }
 
 // An entry that replaces another is counted too.
@@ -79,23 +90,24 @@ fn replaced(control: &mut Control) {
     }
 }
 
-fn most() {
-    line(b"199 entries");
+fn most(rt: &impl Print) {
+    line(rt, b"199 entries");
     let s = checker::fresh();
     let mut control = s.control;
     replaced(&mut control);
-    tell_room(&control);
-    after(&mut control, b"200", 5, 3, 7, true);
-    tell_room(&control);
-    after(&mut control, b"201", 5, 3, 7, false);
+    tell_room(rt, &control);
+    after(rt, &mut control, b"200", 5, 3, 7, true);
+    tell_room(rt, &control);
+    after(rt, &mut control, b"201", 5, 3, 7, false);
 }
 
-pub(crate) fn entries() {
+pub(crate) fn entries(rt: &impl Print) {
     let s = checker::fresh();
     let mut control = s.control;
-    line(b"no entries");
-    ask(&control, WRITE, 3, 5);
+    line(rt, b"no entries");
+    ask(rt, &control, WRITE, 3, 5);
     after(
+        rt,
         &mut control,
         b"accepted for another variable",
         6,
@@ -103,11 +115,12 @@ pub(crate) fn entries() {
         3,
         true,
     );
-    after(&mut control, b"one of two accepted", 5, 1, 3, true);
-    after(&mut control, b"all accepted", 5, 3, 7, true);
-    others(&control);
-    after(&mut control, b"open again", 5, 3, 7, false);
+    after(rt, &mut control, b"one of two accepted", 5, 1, 3, true);
+    after(rt, &mut control, b"all accepted", 5, 3, 7, true);
+    others(rt, &control);
+    after(rt, &mut control, b"open again", 5, 3, 7, false);
     after(
+        rt,
         &mut control,
         b"an entry of no such variable",
         64,
@@ -115,7 +128,7 @@ pub(crate) fn entries() {
         7,
         true,
     );
-    after(&mut control, b"of no such task", 5, 16, 7, true);
-    after(&mut control, b"of no such other task", 5, 3, 16, true);
-    most();
+    after(rt, &mut control, b"of no such task", 5, 16, 7, true);
+    after(rt, &mut control, b"of no such other task", 5, 3, 16, true);
+    most(rt);
 }

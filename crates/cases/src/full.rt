@@ -43,8 +43,8 @@ pub(crate) fn row_5(n: usize) -> Record {
     }
 }
 
-pub(crate) fn tell_row_5(n: usize, a: Answer) {
+pub(crate) fn tell_row_5(rt: &impl Print, n: usize, a: Answer) {
     if SILENT <= n {
-        tell_numbered(a);
+        tell_numbered(rt, a);
     }
 }

@@ -23,38 +23,38 @@ fn clocks(whole: u32, at: usize, entry: u32) -> Clocks
     cells
 }
 
-fn tell_joined(a: Acquired) {
+fn tell_joined(rt: &impl Print, a: Acquired) {
     if !a.known {
-        line(b"none");
+        line(rt, b"none");
         return;
     }
     if a.newer {
-        line(b"newer");
+        line(rt, b"newer");
     } else {
-        line(b"none newer");
+        line(rt, b"none newer");
     }
 }
 
-fn run_joining(name: &[u8], whole: u32, at: usize, entry: u32)
+fn run_joining(rt: &impl Print, name: &[u8], whole: u32, at: usize, entry: u32)
     requires { at < tasks }
 {
-    line(name);
+    line(rt, name);
     let mut cells = clocks(whole, at, entry);
-    tell_joined(checker::acquire(&mut cells, 1, 4));
-    tell_entry(cells[TASK]);
-    tell_entry(cells[TASK + 7]);
-    tell_entry(cells[TASK + 15]);
+    tell_joined(rt, checker::acquire(&mut cells, 1, 4));
+    tell_entry(rt, cells[TASK]);
+    tell_entry(rt, cells[TASK + 7]);
+    tell_entry(rt, cells[TASK + 15]);
 }
 
-pub(crate) fn joins() {
-    run_joining(b"equal clocks", 5, 0, 5);
-    run_joining(b"an older clock", 4, 7, 3);
-    run_joining(b"newer in one entry", 4, 7, 6);
-    run_joining(b"newer in the last", 5, 15, 6);
-    run_joining(b"newer in the first", 0, 0, 6);
-    line(b"no such task, no such semaphore");
+pub(crate) fn joins(rt: &impl Print) {
+    run_joining(rt, b"equal clocks", 5, 0, 5);
+    run_joining(rt, b"an older clock", 4, 7, 3);
+    run_joining(rt, b"newer in one entry", 4, 7, 6);
+    run_joining(rt, b"newer in the last", 5, 15, 6);
+    run_joining(rt, b"newer in the first", 0, 0, 6);
+    line(rt, b"no such task, no such semaphore");
     let mut cells = clocks(9, 0, 9);
-    tell_joined(checker::acquire(&mut cells, 16, 4));
-    tell_joined(checker::acquire(&mut cells, 1, 32));
-    tell_entry(cells[TASK]);
+    tell_joined(rt, checker::acquire(&mut cells, 16, 4));
+    tell_joined(rt, checker::acquire(&mut cells, 1, 32));
+    tell_entry(rt, cells[TASK]);
 }

@@ -1,4 +1,6 @@
 // Feeds the recordings of document 01 to the order checker and prints each answer. The file `stdout` has what document 01 says.
+#![tactic(auto)]
+
 mod accepting;
 mod asking;
 mod edges;
@@ -12,23 +14,23 @@ mod telling;
 mod text;
 mod walks;
 
-fn main() {
-    recordings::short();
-    recordings::lossy();
-    recordings::longer();
-    recordings::renewed();
-    recordings::missed();
-    recordings::bumped();
-    recordings::owned();
-    recordings::whole();
-    recordings::refused();
-    edges::rows();
-    edges::first_row();
-    edges::series();
-    edges::huge();
-    edges::masks();
-    joining::joins();
-    accepting::entries();
-    walks::lists();
-    recordings::full();
+fn main(rt: HostRuntime) {
+    recordings::short(&rt);
+    recordings::lossy(&rt);
+    recordings::longer(&rt);
+    recordings::renewed(&rt);
+    recordings::missed(&rt);
+    recordings::bumped(&rt);
+    recordings::owned(&rt);
+    recordings::whole(&rt);
+    recordings::refused(&rt);
+    edges::rows(&rt);
+    edges::first_row(&rt);
+    edges::series(&rt);
+    edges::huge(&rt);
+    edges::masks(&rt);
+    joining::joins(&rt);
+    accepting::entries(&rt);
+    walks::lists(&rt);
+    recordings::full(&rt);
 }

@@ -5,7 +5,7 @@ use crate::text;
 use theory::{Answer, Record};
 
 // The records of the text, told without their numbers or with them; one record; the recordings of full.rt.
-#[derive(Drop)]
+#[derive(Clone, Copy)]
 pub(crate) enum Source {
     Text,
     Numbered,
@@ -33,10 +33,10 @@ pub(crate) fn nth(source: Source, text: &[u8], n: usize) -> Record {
 }
 
 // Prints the answer to the n-th record as its source wants it.
-pub(crate) fn tell_nth(source: Source, n: usize, a: Answer) {
+pub(crate) fn tell_nth(rt: &impl Print, source: Source, n: usize, a: Answer) {
     match source {
-        Source::Numbered => tell_numbered(a),
-        Source::Row5 => tell_row_5(n, a),
-        _ => tell(a),
+        Source::Numbered => tell_numbered(rt, a),
+        Source::Row5 => tell_row_5(rt, n, a),
+        _ => tell(rt, a),
     }
 }

@@ -1,17 +1,26 @@
-// An open file in pieces, standard input or another: each read brings a block, which is handed out piece by piece. No contract can say what came;
-// which part of its block each piece is, is proved.
+// What a reader brings, standard input or a file, in pieces: each read brings a block, which is handed out piece by piece. No contract can say what
+// came; which part of its block each piece is, is proved. And the arguments of a program.
+#![tactic(auto)]
+
+mod arguments;
+
 ghost use Rattle.std.specs.Prelude.{◌≡◌, true, false, ◌<◌, ◌≤◌, length};
+ghost use Rattle.input.specs.Prefix.{IsPrefixLen};
 ghost use Rattle.input.specs.Pieces.{furthest, after_lf, piece_at, ending_piece, last_piece, ended, is_left, next_of};
 
-use libc::STDERR_FILENO;
+pub use arguments::{argument, is_given};
+use std::io::{Read, Write};
 
 // A piece has so many bytes at most.
 pub const PIECE: usize = 4096;
 
+// So many bytes a program asks of one read.
+pub const BLOCK: usize = 65_536;
+
 const LF: u8 = b'\n';
 
 // Where a piece stands in its block, how many bytes of that were read, and whether there may be more input.
-#[derive(Drop)]
+#[derive(Clone, Copy)]
 pub struct Span {
     pub from: usize,
     pub end: usize,
@@ -113,16 +122,35 @@ fn is_left(was: Span, block: &[u8]) -> bool
     was.len <= block.len()
 }
 
+// Reads the next block, and says how many bytes came: none at the end of the input, and none where the read failed, which is said first.
+fn read_block<R: Read, W: Write>(
+    input: &mut R,
+    block: &mut [u8],
+    failed: &[u8],
+    errors: &mut W,
+) -> usize
+    ensures { IsPrefixLen result block.new }
+{
+    match input.read(block) {
+        Ok(n) => n,
+        Err(_) => {
+            let _ = errors.write_all(failed);
+            0
+        }
+    }
+}
+
 // The piece after another, from the next block where that one is used up. A read may bring less than a block; none at all is the end of the input, and
-// one that fails says so, by the words for it, and is the end as well. `begun` says whether a line has begun, which the end of the input ends. What a
-// read brought is known by `more` and `len` alone; where a part of the block is left, there is none, and the block stays as it is.
-pub fn next_piece(
-    fd: i32,
+// one that fails says so on `errors`, by the words for it, and is the end as well. `begun` says whether a line has begun, which the end of the input
+// ends. What a read brought is known by `more` and `len` alone; where a part of the block is left, there is none, and the block stays as it is.
+pub fn next_piece<R: Read, W: Write>(
+    input: &mut R,
     block: &mut [u8],
     was: Span,
     lines: bool,
     begun: bool,
     failed: &[u8],
+    errors: &mut W,
 ) -> Span
     ensures value { result ≡ next_of was lines begun block.new result.more result.len }
     ensures block_unchanged { (is_left was block.old ≡ true → block.new ≡ block.old)
@@ -132,11 +160,7 @@ pub fn next_piece(
     if is_left(was, block) {
         return piece_at(block, was.end, was.len, lines);
     }
-    let got = libc::read(fd, block);
-    if got < 0 {
-        io::write_all(STDERR_FILENO, failed);
-    }
-    let n = io::count(got, block);
+    let n = read_block(input, block, failed, errors);
     if n == 0 {
         return last_piece(block, begun);
     }

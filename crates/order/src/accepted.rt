@@ -1,11 +1,16 @@
 // The file of accepted faults, ahead of the recording.
 use crate::running::run;
-use libc::{ENOENT, STDERR_FILENO};
+use std::fs::File;
+use std::io::{ErrorKind, Write};
+use std::rt::Files;
 use theory::{Clocks, Control, History};
 
 // Takes its entries into the control table, and writes what is said for the refused ones. Where there is no such file that is as an empty one;
 // one that cannot be opened or read is said.
-pub(crate) fn take_entries(
+pub(crate) fn take_entries<R: Files, O: Write, E: Write>(
+    rt: &R,
+    stdout: &mut O,
+    stderr: &mut E,
     out: &mut [u8],
     held: &mut [u8],
     block: &mut [u8],
@@ -14,10 +19,11 @@ pub(crate) fn take_entries(
     clocks: &mut Clocks,
     fullclocks: &mut Clocks,
 ) {
-    let file = os::open_read(b"accepted.txt");
-    if 0 <= file {
-        run(
-            file,
+    match File::open(rt, "accepted.txt") {
+        Ok(mut file) => run(
+            &mut file,
+            stdout,
+            stderr,
             true,
             b"order: accepted.txt cannot be read\n",
             out,
@@ -27,10 +33,11 @@ pub(crate) fn take_entries(
             last,
             clocks,
             fullclocks,
-        );
-        return;
-    }
-    if os::errno() != ENOENT {
-        io::write_all(STDERR_FILENO, b"order: accepted.txt cannot be read\n");
+        ),
+        Err(e) => {
+            if e.kind() != ErrorKind::NotFound {
+                let _ = stderr.write_all(b"order: accepted.txt cannot be read\n");
+            }
+        }
     }
 }

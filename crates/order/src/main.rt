@@ -1,19 +1,21 @@
 // The program `order`: a recording on standard input, its report on standard output, in fixed memory whatever the input. The faults that a planner
 // has accepted come first, from the file accepted.txt where the program is started. `entries_piece` and `report_piece` are proved; here is
 // only what moves the bytes.
+#![tactic(auto)]
+
 mod accepted;
 mod output;
 mod running;
 
 use accepted::take_entries;
 use checker::begin;
-use libc::STDIN_FILENO;
+use input::BLOCK;
 use output::OUT;
 use report::HELD_MOST;
 use running::run;
 use theory::{CLOCK_CELLS, CONTROL_CELLS, HISTORY_CELLS};
 
-fn main() {
+fn main(rt: HostRuntime) {
     let mut control = [0u32; CONTROL_CELLS];
     let mut last = [0u32; HISTORY_CELLS];
     let mut clocks = [0u32; CLOCK_CELLS];
@@ -21,8 +23,14 @@ fn main() {
     begin(&mut control, &mut last, &mut clocks, &mut fullclocks);
     let mut out = [0u8; OUT];
     let mut held = [0u8; HELD_MOST];
-    let mut block = io::large_buffer();
+    let mut block = [0u8; BLOCK];
+    let mut recording = rt.stdin();
+    let mut stdout = rt.stdout();
+    let mut stderr = rt.stderr();
     take_entries(
+        &rt,
+        &mut stdout,
+        &mut stderr,
         &mut out,
         &mut held,
         &mut block,
@@ -32,7 +40,9 @@ fn main() {
         &mut fullclocks,
     );
     run(
-        STDIN_FILENO,
+        &mut recording,
+        &mut stdout,
+        &mut stderr,
         false,
         b"order: the input cannot be read\n",
         &mut out,

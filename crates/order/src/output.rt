@@ -1,7 +1,7 @@
 // The report on its way to standard output.
 use input::PIECE;
-use libc::STDOUT_FILENO;
 use report::{LINE_ROOM, REFUSED};
+use std::io::Write;
 use text::Progress;
 
 // So much of the report of one read waits at most before it is written.
@@ -11,12 +11,12 @@ const WAITING: usize = 65_536;
 pub(crate) const OUT: usize = WAITING + LINE_ROOM * PIECE;
 
 // Writes what waits. Once the output is closed, `at` stands past the memory, so that nothing more is taken in or written.
-fn write_out(out: &[u8], now: Progress) -> Progress {
+fn write_out<O: Write>(stdout: &mut O, out: &[u8], now: Progress) -> Progress {
     let n = now.at;
     if out.len() < n {
         return now;
     }
-    let written = io::write_all(STDOUT_FILENO, &out[..n]);
+    let written = stdout.write_all(&out[..n]).is_ok();
     let at = if written { 0 } else { REFUSED };
     Progress {
         lines: now.lines,
@@ -26,9 +26,14 @@ fn write_out(out: &[u8], now: Progress) -> Progress {
 }
 
 // Writes what waits once it is a block, and before the next read: more input may be long in coming.
-pub(crate) fn write_ready(out: &[u8], now: Progress, read_next: bool) -> Progress {
+pub(crate) fn write_ready<O: Write>(
+    stdout: &mut O,
+    out: &[u8],
+    now: Progress,
+    read_next: bool,
+) -> Progress {
     if now.at < WAITING && !read_next {
         return now;
     }
-    write_out(out, now)
+    write_out(stdout, out, now)
 }

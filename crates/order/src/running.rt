@@ -1,7 +1,8 @@
-// An open file to its end: the file of accepted faults, or the recording.
+// What a reader brings to its end: the file of accepted faults, or the recording.
 use crate::output::write_ready;
 use input::{next_piece, no_piece};
 use report::{REFUSED, entries_piece, report_piece};
+use std::io::{Read, Write};
 use text::Progress;
 use theory::{Clocks, Control, History};
 
@@ -24,8 +25,10 @@ fn answer(
 }
 
 // Piece by piece. What is said is written before the next read: more input may be long in coming.
-pub(crate) fn run(
-    fd: i32,
+pub(crate) fn run<I: Read, O: Write, E: Write>(
+    input: &mut I,
+    stdout: &mut O,
+    stderr: &mut E,
     entries: bool,
     failed: &[u8],
     out: &mut [u8],
@@ -46,7 +49,7 @@ pub(crate) fn run(
     let mut more = true;
     let mut turns = u64::MAX;
     while turns > 0 && more {
-        piece = next_piece(fd, block, piece, false, now.held > 0, failed);
+        piece = next_piece(input, block, piece, false, now.held > 0, failed, stderr);
         let from = piece.from;
         let end = piece.end;
         let answered = answer(
@@ -60,7 +63,7 @@ pub(crate) fn run(
             clocks,
             fullclocks,
         );
-        now = write_ready(out, answered, end == piece.len);
+        now = write_ready(stdout, out, answered, end == piece.len);
         more = piece.more && now.at < REFUSED;
         turns -= 1;
     }

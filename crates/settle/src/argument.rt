@@ -3,12 +3,14 @@ ghost use Rattle.std.specs.Prelude.{◌≡◌, ◌<◌, ◌^◌};
 ghost use Rattle.theory.specs.order.Limits.{tasks};
 ghost use Rattle.settle.specs.Argument.{bit_of, task_in, says_none};
 
+use input::{argument, is_given};
 use reading::{DIGITS, read_decimal};
+use std::rt::Env;
 use text::Number;
 use theory::TASKS;
 
 // The tasks that are named, and whether nothing else is.
-#[derive(Drop)]
+#[derive(Clone, Copy)]
 pub(crate) struct NamedTasks {
     pub home: u32,
     pub good: bool,
@@ -62,9 +64,9 @@ fn says_none(w: &[u8]) -> bool
 }
 
 // The set with one argument more: one that names no task spoils it.
-fn with_argument(so_far: NamedTasks, i: usize) -> NamedTasks {
+fn with_argument<R: Env>(rt: &R, so_far: NamedTasks, i: usize) -> NamedTasks {
     let mut word = [0u8; DIGITS];
-    let n = os::arg(i, &mut word);
+    let n = argument(rt, i, &mut word);
     let bit = task_in(&word[..n]);
     NamedTasks {
         home: so_far.home | bit,
@@ -73,23 +75,26 @@ fn with_argument(so_far: NamedTasks, i: usize) -> NamedTasks {
 }
 
 // The word `none` is the only argument.
-fn none_alone() -> bool {
+fn none_alone<R: Env>(rt: &R) -> bool {
     let mut word = [0u8; DIGITS];
-    let n = os::arg(1, &mut word);
-    os::arg_count() == 2 && says_none(&word[..n])
+    let n = argument(rt, 1, &mut word);
+    is_given(rt, 1) && !is_given(rt, 2) && says_none(&word[..n])
 }
 
 // The set of all arguments.
-pub(crate) fn home_of() -> NamedTasks {
+pub(crate) fn home_of<R: Env>(rt: &R) -> NamedTasks {
     let mut named = NamedTasks {
         home: 0,
         good: true,
     };
-    if none_alone() {
+    if none_alone(rt) {
         return named;
     }
-    for i in 1..os::arg_count() {
-        named = with_argument(named, i);
+    for i in 1..usize::MAX {
+        if !is_given(rt, i) {
+            return named;
+        }
+        named = with_argument(rt, named, i);
     }
     named
 }

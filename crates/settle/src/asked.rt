@@ -3,8 +3,9 @@ ghost use Rattle.std.specs.Prelude.{◌≡◌, cond, ◌+◌, ◌^◌, ◌-◌, 
 
 use crate::lines::{ROOM, nothing_read, read_on, said, without_lf};
 use checker::{feed_home, fresh};
-use libc::STDOUT_FILENO;
+use input::BLOCK;
 use requests::{NEITHER, NO, Settled};
+use std::io::{Read, Write};
 
 // What is known after a line: where none has ended, what was known before.
 fn known(ended: usize, a: Settled, before: Settled) -> Settled
@@ -24,33 +25,35 @@ fn counted(lines: u64, ended: usize) -> u64
 }
 
 // Writes the answer, or the refusal of the line that was the last to be read.
-fn show(a: Settled, lines: u64) {
+fn show<O: Write>(stdout: &mut O, a: Settled, lines: u64) {
     if a.refused != 0 {
-        io::write_all(STDOUT_FILENO, b"line=");
-        io::print_decimal(STDOUT_FILENO, lines);
-        io::write_all(STDOUT_FILENO, b" refused=");
-        io::print_decimal(STDOUT_FILENO, a.refused as u64);
-        io::write_all(STDOUT_FILENO, b"\n");
+        let row = a.refused;
+        let _ = writeln!(stdout, "line={lines} refused={row}");
         return;
     }
     if a.forced == NEITHER {
-        io::write_all(STDOUT_FILENO, b"settle=neither\n");
+        let _ = stdout.write_all(b"settle=neither\n");
         return;
     }
     if a.forced == NO {
-        io::write_all(STDOUT_FILENO, b"settle=no\n");
+        let _ = stdout.write_all(b"settle=no\n");
         return;
     }
-    io::write_all(STDOUT_FILENO, b"settle=yes\n");
+    let _ = stdout.write_all(b"settle=yes\n");
 }
 
 // Reads the recording up to its end or its first refused line, and answers.
-pub(crate) fn answer(home: u16) {
+pub(crate) fn answer<I: Read, O: Write, E: Write>(
+    input: &mut I,
+    stdout: &mut O,
+    stderr: &mut E,
+    home: u16,
+) {
     let s = fresh();
     let mut control = s.control;
     let mut last = s.last;
     let mut cells = s.clocks;
-    let mut block = io::large_buffer();
+    let mut block = [0u8; BLOCK];
     let mut line = [0u8; ROOM];
     let mut at = nothing_read();
     let mut told = Settled {
@@ -62,7 +65,7 @@ pub(crate) fn answer(home: u16) {
     let mut more = true;
     let mut turns = u64::MAX;
     while turns > 0 && more {
-        at = read_on(&mut block, &mut line, at);
+        at = read_on(input, stderr, &mut block, &mut line, at);
         let n = without_lf(at.ended);
         let r = said(&line[..n]);
         let a = feed_home(&mut control, &mut last, &mut cells, home, r);
@@ -71,5 +74,5 @@ pub(crate) fn answer(home: u16) {
         more = at.piece.more && told.refused == 0;
         turns -= 1;
     }
-    show(told, lines);
+    show(stdout, told, lines);
 }

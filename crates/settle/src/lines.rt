@@ -5,9 +5,9 @@ ghost use Rattle.text.specs.Stream.{held_most};
 ghost use Rattle.settle.specs.Line.{record_or};
 
 use input::{Span, next_piece, no_piece};
-use libc::STDIN_FILENO;
 use reading::parse_line;
 use report::HELD_MOST;
+use std::io::{Read, Write};
 use text::Parsed;
 use theory::{KINDS, Record};
 
@@ -18,7 +18,7 @@ pub(crate) const ROOM: usize = HELD_MOST + 1;
 
 // How far the input is read: the piece, how much is held of a line that has begun, and of a line that has just ended how long it is with its LF; 0
 // where none has.
-#[derive(Drop)]
+#[derive(Clone, Copy)]
 pub(crate) struct Reading {
     pub piece: Span,
     pub held: usize,
@@ -66,17 +66,24 @@ fn hold(line: &mut [u8], n: usize, bytes: &[u8]) -> usize
 }
 
 // Reads one piece more. A line that ends in it stands in `line` then, with its LF.
-pub(crate) fn read_on(block: &mut [u8], line: &mut [u8], was: Reading) -> Reading
+pub(crate) fn read_on<I: Read, E: Write>(
+    input: &mut I,
+    stderr: &mut E,
+    block: &mut [u8],
+    line: &mut [u8],
+    was: Reading,
+) -> Reading
     requires { (was.held ≤ held_most) × (held_most < length line.old) }
     ensures { (result.held ≤ held_most) × (result.ended ≤ held_most + 1) }
 {
     let piece = next_piece(
-        STDIN_FILENO,
+        input,
         block,
         was.piece,
         true,
         0 < was.held,
         b"settle: the input cannot be read\n",
+        stderr,
     );
     let from = piece.from;
     let end = piece.end;

@@ -1,5 +1,7 @@
 // The program `settle`: a recording on standard input. With a home set, whether the lost records of its tasks could settle the access that ends the
 // recording; without one, each Doubt with the single tasks that could settle it alone, and how many each of them could.
+#![tactic(auto)]
+
 mod argument;
 mod asked;
 mod lines;
@@ -8,29 +10,37 @@ mod table;
 mod tally;
 
 use argument::home_of;
-use libc::STDERR_FILENO;
+use input::is_given;
+use std::io::Write;
 use theory::TASKS;
 
 // So many sets of tasks there are.
 const HOMES: u32 = 1 << TASKS;
 
 // Says how the program is called.
-fn say_usage() {
-    io::write_all(
-        STDERR_FILENO,
+fn say_usage<E: Write>(stderr: &mut E) {
+    let _ = stderr.write_all(
         b"settle: the arguments are task numbers, 0 to 15, or the one word none: settle [none | TASK..] <RECORDING\n",
     );
 }
 
-fn main() {
-    if os::arg_count() < 2 {
-        table::tabulate();
+fn main(rt: HostRuntime) {
+    let mut recording = rt.stdin();
+    let mut stdout = rt.stdout();
+    let mut stderr = rt.stderr();
+    if !is_given(&rt, 1) {
+        table::tabulate(&mut recording, &mut stdout, &mut stderr);
         return;
     }
-    let named = home_of();
+    let named = home_of(&rt);
     if !named.good {
-        say_usage();
+        say_usage(&mut stderr);
         return;
     }
-    asked::answer((named.home % HOMES) as u16);
+    asked::answer(
+        &mut recording,
+        &mut stdout,
+        &mut stderr,
+        (named.home % HOMES) as u16,
+    );
 }

@@ -3,11 +3,11 @@ ghost use Rattle.std.specs.Prelude.{[], ◌∷◌, ◌+◌, ◌*◌, ◌<◌, �
 ghost use Rattle.theory.specs.order.Limits.{tasks};
 ghost use Rattle.text.specs.Printing.{decimal};
 ghost use Rattle.text.specs.Wrote.{Wrote};
-ghost use Rattle.io.specs.Counts.{IsPrefixLen};
+ghost use Rattle.input.specs.Prefix.{IsPrefixLen};
 ghost use Rattle.settle.specs.Table.{comma_task, named_below};
 
 use crate::tally::{ALL, Tallies, has};
-use libc::STDOUT_FILENO;
+use std::io::Write;
 use theory::TASKS;
 
 // Room for the tasks of a mask: a comma and at most two digits each.
@@ -61,23 +61,30 @@ fn put_tasks(out: &mut [u8], mask: u16) -> usize
 }
 
 // Writes the tasks that could settle a Doubt alone, at the end of its line.
-fn show_alone(mask: u16) -> bool {
+fn show_alone<O: Write>(stdout: &mut O, mask: u16) -> bool {
     if mask == 0 {
-        return io::write_all(STDOUT_FILENO, b" alone=none\n");
+        return stdout.write_all(b" alone=none\n").is_ok();
     }
     let mut out = [0u8; TASKS_ROOM];
     let n = put_tasks(&mut out, mask);
     if n == 0 {
         return false;
     }
-    io::write_all(STDOUT_FILENO, b" alone=");
-    io::write_all(STDOUT_FILENO, &out[1..n]);
-    io::write_all(STDOUT_FILENO, b"\n")
+    let _ = stdout.write_all(b" alone=");
+    let _ = stdout.write_all(&out[1..n]);
+    stdout.write_all(b"\n").is_ok()
 }
 
 // Writes what the report has for a line, up to a place: all of it where the line was refused, and a Doubt with the tasks that could settle it alone.
 // Says whether it could be written.
-pub(crate) fn show_line(report: &[u8], to: usize, refused: bool, doubt: bool, mask: u16) -> bool {
+pub(crate) fn show_line<O: Write>(
+    stdout: &mut O,
+    report: &[u8],
+    to: usize,
+    refused: bool,
+    doubt: bool,
+    mask: u16,
+) -> bool {
     if to == 0 {
         return true;
     }
@@ -85,39 +92,36 @@ pub(crate) fn show_line(report: &[u8], to: usize, refused: bool, doubt: bool, ma
         return true;
     }
     if refused {
-        return io::write_all(STDOUT_FILENO, &report[..to]);
+        return stdout.write_all(&report[..to]).is_ok();
     }
     if doubt {
-        io::write_all(STDOUT_FILENO, &report[..to - 1]);
-        return show_alone(mask);
+        let _ = stdout.write_all(&report[..to - 1]);
+        return show_alone(stdout, mask);
     }
     true
 }
 
 // Writes a number and LF.
-fn show_number(n: u32) {
-    io::print_decimal(STDOUT_FILENO, n as u64);
-    io::write_all(STDOUT_FILENO, b"\n");
+fn show_number<O: Write>(stdout: &mut O, n: u32) {
+    let _ = writeln!(stdout, "{n}");
 }
 
 // Writes how many Doubts a task could settle alone, where it could any.
-fn show_task(t: u32, n: u32) {
+fn show_task<O: Write>(stdout: &mut O, t: u32, n: u32) {
     if n == 0 {
         return;
     }
-    io::write_all(STDOUT_FILENO, b"task=");
-    io::print_decimal(STDOUT_FILENO, t as u64);
-    io::write_all(STDOUT_FILENO, b" settles=");
-    show_number(n);
+    let _ = write!(stdout, "task={t} settles=");
+    show_number(stdout, n);
 }
 
 // The same for each task, and how many Doubts there were.
-pub(crate) fn show_counts(tallies: &Tallies) {
+pub(crate) fn show_counts<O: Write>(stdout: &mut O, tallies: &Tallies) {
     let mut t: u32 = 0;
     while t < TASKS {
-        show_task(t, tallies[t as usize]);
+        show_task(stdout, t, tallies[t as usize]);
         t += 1;
     }
-    io::write_all(STDOUT_FILENO, b"doubts=");
-    show_number(tallies[ALL]);
+    let _ = stdout.write_all(b"doubts=");
+    show_number(stdout, tallies[ALL]);
 }

@@ -3,7 +3,9 @@ use crate::lines::{ROOM, nothing_read, read_on, said, without_lf};
 use crate::showing::{show_counts, show_line};
 use crate::tally::{TALLIES, tally};
 use checker::{alone, begin, feed_homes, totals_of};
+use input::BLOCK;
 use report::{HELD_MOST, LINE_ROOM, REFUSED, report_piece};
+use std::io::{Read, Write};
 use text::Progress;
 use theory::{CLOCK_CELLS, COLUMNS, CONTROL_CELLS, COUNT, HISTORY_CELLS};
 
@@ -11,7 +13,7 @@ use theory::{CLOCK_CELLS, COLUMNS, CONTROL_CELLS, COUNT, HISTORY_CELLS};
 const REPORT: usize = LINE_ROOM * ROOM;
 
 // Reads the recording line by line. Each line is asked about, fed to the tables of the tasks, and then reported.
-pub(crate) fn tabulate() {
+pub(crate) fn tabulate<I: Read, O: Write, E: Write>(input: &mut I, stdout: &mut O, stderr: &mut E) {
     let mut control = [0u32; CONTROL_CELLS];
     let mut last = [0u32; HISTORY_CELLS];
     let mut clocks = [0u32; CLOCK_CELLS];
@@ -21,7 +23,7 @@ pub(crate) fn tabulate() {
     let mut tallies = [0u32; TALLIES];
     let mut report = [0u8; REPORT];
     let mut held = [0u8; HELD_MOST];
-    let mut block = io::large_buffer();
+    let mut block = [0u8; BLOCK];
     let mut line = [0u8; ROOM];
     let mut at = nothing_read();
     let mut lines: u64 = 0;
@@ -29,7 +31,7 @@ pub(crate) fn tabulate() {
     let mut more = true;
     let mut turns = u64::MAX;
     while turns > 0 && more {
-        at = read_on(&mut block, &mut line, at);
+        at = read_on(input, stderr, &mut block, &mut line, at);
         let ended = at.ended;
         let n = without_lf(ended);
         let r = said(&line[..n]);
@@ -54,12 +56,19 @@ pub(crate) fn tabulate() {
         );
         let doubt = doubts < totals_of(&control, r.on).doubt;
         tally(&mut tallies, doubt, mask);
-        let written = show_line(&report, read.at, count == control[COUNT], doubt, mask);
+        let written = show_line(
+            stdout,
+            &report,
+            read.at,
+            count == control[COUNT],
+            doubt,
+            mask,
+        );
         lines = read.lines;
         more = at.piece.more && written && read.at < REFUSED;
         turns -= 1;
     }
     if turns > 0 {
-        show_counts(&tallies);
+        show_counts(stdout, &tallies);
     }
 }

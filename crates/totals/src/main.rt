@@ -1,5 +1,7 @@
 // The program `totals`: a recording on standard input, a table of the verdicts on each variable on standard output, at its end and, if a number is
 // given, after every so many accepted records.
+#![tactic(auto)]
+
 mod argument;
 mod running;
 mod showing;
@@ -8,19 +10,24 @@ mod table;
 
 use argument::every_of;
 use checker::begin;
-use input::PIECE;
-use libc::STDERR_FILENO;
+use input::{BLOCK, PIECE, argument, is_given};
 use reading::DIGITS;
 use report::{HELD_MOST, LINE_ROOM, REFUSED};
 use running::run;
 use showing::show;
+use std::io::{Read, Write};
 use theory::{CLOCK_CELLS, CONTROL_CELLS, HISTORY_CELLS};
 
 // Memory for the report of a piece, which is thrown away: the totals are what the records leave in the control table.
 const REPORT: usize = LINE_ROOM * PIECE;
 
 // Runs over the recording from fresh tables, and writes the table of its end.
-fn tabulate(every: u32) {
+fn tabulate<I: Read, O: Write, E: Write>(
+    input: &mut I,
+    stdout: &mut O,
+    stderr: &mut E,
+    every: u32,
+) {
     let mut control = [0u32; CONTROL_CELLS];
     let mut last = [0u32; HISTORY_CELLS];
     let mut clocks = [0u32; CLOCK_CELLS];
@@ -28,8 +35,11 @@ fn tabulate(every: u32) {
     begin(&mut control, &mut last, &mut clocks, &mut fullclocks);
     let mut report = [0u8; REPORT];
     let mut held = [0u8; HELD_MOST];
-    let mut block = io::large_buffer();
+    let mut block = [0u8; BLOCK];
     let ended = run(
+        input,
+        stdout,
+        stderr,
         every,
         &mut report,
         &mut held,
@@ -40,34 +50,33 @@ fn tabulate(every: u32) {
         &mut fullclocks,
     );
     if ended.at < REFUSED {
-        show(&control, every);
+        show(stdout, &control, every);
     }
 }
 
 // Says how the program is called.
-fn say_usage() {
-    io::write_all(
-        STDERR_FILENO,
-        b"totals: there is one argument at most, a number from 1 to 99999\n",
-    );
-    io::write_all(STDERR_FILENO, b"usage: totals [N] <RECORDING\n");
-    io::write_all(
-        STDERR_FILENO,
+fn say_usage<E: Write>(stderr: &mut E) {
+    let _ = stderr.write_all(b"totals: there is one argument at most, a number from 1 to 99999\n");
+    let _ = stderr.write_all(b"usage: totals [N] <RECORDING\n");
+    let _ = stderr.write_all(
         b"A table of verdicts at the end, and after every N accepted records.\n",
     );
 }
 
-fn main() {
-    if os::arg_count() < 2 {
-        tabulate(0);
+fn main(rt: HostRuntime) {
+    let mut recording = rt.stdin();
+    let mut stdout = rt.stdout();
+    let mut stderr = rt.stderr();
+    if !is_given(&rt, 1) {
+        tabulate(&mut recording, &mut stdout, &mut stderr, 0);
         return;
     }
     let mut word = [0u8; DIGITS];
-    let n = os::arg(1, &mut word);
+    let n = argument(&rt, 1, &mut word);
     let every = every_of(&word[..n]);
-    if every == 0 || os::arg_count() > 2 {
-        say_usage();
+    if every == 0 || is_given(&rt, 2) {
+        say_usage(&mut stderr);
         return;
     }
-    tabulate(every);
+    tabulate(&mut recording, &mut stdout, &mut stderr, every);
 }

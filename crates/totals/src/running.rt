@@ -1,14 +1,17 @@
 // The recording to its end, line by line, with the tables that are due on the way.
 use crate::showing::show_due;
 use input::{next_piece, no_piece};
-use libc::STDIN_FILENO;
 use report::{REFUSED, report_piece};
+use std::io::{Read, Write};
 use text::Progress;
 use theory::{COUNT, Clocks, Control, History};
 
 // Piece by piece, in each of which at most one line ends. A table is written as soon as it is due: more input may be long in coming. `at` of what is
 // returned is `REFUSED` where it broke off before the end.
-pub(crate) fn run(
+pub(crate) fn run<I: Read, O: Write, E: Write>(
+    input: &mut I,
+    stdout: &mut O,
+    stderr: &mut E,
     every: u32,
     report: &mut [u8],
     held: &mut [u8],
@@ -29,12 +32,13 @@ pub(crate) fn run(
     let mut turns = u64::MAX;
     while turns > 0 && more {
         piece = next_piece(
-            STDIN_FILENO,
+            input,
             block,
             piece,
             true,
             now.held > 0,
             b"totals: the input cannot be read\n",
+            stderr,
         );
         let from = piece.from;
         let end = piece.end;
@@ -49,7 +53,7 @@ pub(crate) fn run(
             clocks,
             fullclocks,
         );
-        now = show_due(control, every, before, read);
+        now = show_due(stdout, control, every, before, read);
         more = piece.more && now.at < REFUSED;
         turns -= 1;
     }

@@ -3,16 +3,16 @@ ghost use Rattle.std.specs.Prelude.{◌-◌, ◌^◌, ◌≡◌, cond, ltb};
 ghost use Rattle.totals.specs.Argument.{table_due};
 
 use crate::table::{TABLE, put_shown};
-use libc::STDOUT_FILENO;
 use report::REFUSED;
+use std::io::Write;
 use text::Progress;
 use theory::{COUNT, Control};
 
 // Writes the table, as one of several where some are asked for on the way. Says whether it could be written.
-pub(crate) fn show(control: &Control, every: u32) -> bool {
+pub(crate) fn show<O: Write>(stdout: &mut O, control: &Control, every: u32) -> bool {
     let mut out = [0u8; TABLE + 1];
     let n = put_shown(&mut out, control, every > 0);
-    io::write_all(STDOUT_FILENO, &out[..n])
+    stdout.write_all(&out[..n]).is_ok()
 }
 
 // A table is due: a record was accepted, and their count is a multiple of what was asked for.
@@ -40,9 +40,15 @@ fn next_place(at: usize, written: bool) -> usize
 }
 
 // Writes a table if one is due after a piece in which at most one line ended, so many records having been accepted before it.
-pub(crate) fn show_due(control: &Control, every: u32, before: u32, now: Progress) -> Progress {
+pub(crate) fn show_due<O: Write>(
+    stdout: &mut O,
+    control: &Control,
+    every: u32,
+    before: u32,
+    now: Progress,
+) -> Progress {
     let written = if is_due(every, before, control[COUNT]) {
-        show(control, every)
+        show(stdout, control, every)
     } else {
         true
     };

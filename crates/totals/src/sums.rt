@@ -4,7 +4,7 @@ ghost use Rattle.totals.specs.Table.{Small, nothing_yet, added, all_of};
 
 use theory::Totals;
 
-#[derive(Drop)]
+#[derive(Clone, Copy)]
 pub(crate) struct Sums {
     pub clear: u64,
     pub race: u64,

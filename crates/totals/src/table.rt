@@ -1,7 +1,7 @@
 // The table of totals, written into lent memory. Each function writes at a place and returns the place after what it wrote.
 ghost use Rattle.std.specs.Prelude.{◌+◌, ◌*◌, ◌-◌, ◌<◌, ◌≤◌, max, ◌≡◌, length, get_or};
 ghost use Rattle.theory.specs.order.Limits.{variables};
-ghost use Rattle.io.specs.Counts.{IsPrefixLen};
+ghost use Rattle.input.specs.Prefix.{IsPrefixLen};
 ghost use Rattle.text.specs.Wrote.{Wrote};
 ghost use Rattle.totals.specs.Table.{Small, line, sums_below, padded, right_aligned, count_columns, variable_line, lines_below, table_of, room, skipped_line, shown_of};
 
@@ -93,7 +93,7 @@ fn put_variable(out: &mut [u8], at: usize, v: u32, t: Totals) -> usize
 }
 
 // The place after what was written, and the sums.
-#[derive(Drop)]
+#[derive(Clone, Copy)]
 struct WroteSums {
     to: usize,
     sums: Sums,
