@@ -1,6 +1,6 @@
-/* The order checker for a host program in C. Link the archives whose functions are used: `rt staticlib NAME` writes libNAME.a, where NAME is
- * report (order_report), host (a running state and the sets, fed record by record, their totals and skipped takes; order_lazy, order_settle),
- * gateway (order_step) or pieces (order_piece, order_entries). */
+/* The order checker for a host program in C. Link the archives whose functions are used: `tools/archives NAME` proves and compiles
+ * crates/NAME_c, and writes target/staticlib/libNAME.a, where NAME is report (order_report), host (a running state and the sets, fed record by
+ * record, their totals and skipped takes; order_lazy, order_settle), gateway (order_step) or pieces (order_piece, order_entries). */
 #ifndef ORDER_H
 #define ORDER_H
 
@@ -125,7 +125,7 @@ static inline uint32_t order_state_skipped(const struct order_state *s) {
 }
 
 /* The same as order_state_feed by one call that is lent the whole state. It copies the state there and back, 27 kilobytes, so that a record
- * takes 49 to 118 times as long (medians: some 1,600 ns against 32 in a mixed recording of 16 tasks, and against 14 for accesses of one
+ * took 49 to 118 times as long with the older kit (medians: some 1,600 ns against 32 in a mixed recording of 16 tasks, and against 14 for accesses of one
  * task); the two may be mixed. Needs libgateway.a. */
 void order_step(struct order_state *s, uint8_t kind, uint32_t task, uint32_t on, uint32_t answer[3]);
 

@@ -1,7 +1,7 @@
 /* A host in C that has a recording in memory and asks about each of its accesses with `order_lazy`: which tasks have a pair with it, for
  * which of them a path leads here, and how many records were walked to see that.
  *
- *     rt staticlib host
+ *     tools/archives host
  *     cc -o target/lazy samples/lazy.c target/staticlib/libhost.a && target/lazy */
 #include <stdio.h>
 

@@ -1,6 +1,6 @@
 /* A host in C that keeps one running state, feeds it the records of a deck as they come, and reads the totals at any moment.
  *
- *     rt staticlib host
+ *     tools/archives host
  *     cc -o target/watch samples/watch.c target/staticlib/libhost.a && target/watch */
 #include <stdio.h>
 
