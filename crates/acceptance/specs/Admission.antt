@@ -1,12 +1,14 @@
 -- What a record comes to by the refusal that it gets. Contracts speak of it, and no claim does.
-use Rattle.std.specs.Prelude.{ℕ, zero, suc, List}
+use Rattle.std.specs.Prelude.{ℕ, zero, suc, List, Result, Ok, Err}
+use Rattle.theory.specs.declared.refusal.Refusal.{Refusal}
+use Rattle.theory.specs.acceptance.Refusals.{numbered_row}
 use Rattle.theory.specs.feeding.Step.{record_number}
 use Rattle.acceptance.specs.declared.admission.Admitted.{Admitted}
 
--- refused with its number, or accepted with its record number and the kind by which it moves the clocks
-abbrev pub admitted_as : ℕ → ℕ → ℕ → Admitted
-admitted_as zero number moves = record { refused = 0; number = record_number number; moves = moves }
-admitted_as (suc n) number moves = record { refused = suc n; number = record_number 0; moves = 0 }
+-- refused by the row of that number, or accepted with its record number and the kind by which it moves the clocks
+abbrev pub admitted_as : ℕ → ℕ → ℕ → Result Admitted Refusal
+admitted_as zero number moves = Ok (record { number = record_number number; moves = moves })
+admitted_as (suc n) number moves = Err (numbered_row (suc n))
 
 -- what an accepted record leaves, and what was there before where it is refused
 abbrev pub unless : ℕ → List ℕ → List ℕ → List ℕ

@@ -9,62 +9,40 @@ ghost use Rattle.acceptance.specs.Admission.{admitted_as, unless};
 
 use crate::control::{clock_kind, count, note};
 use crate::refusals::{common_refusal, refusal_of};
-use theory::{COUNT, Control, Record, RecordNumber};
+use theory::{COUNT, Control, Record, RecordNumber, Refusal};
 
-// The number of the row that refuses the record, or 0, and then its record number and the kind by which it moves the clocks.
+// An accepted record's number, and the kind by which it moves the clocks.
 #[derive(Clone, Copy)]
 pub struct Admitted {
-    pub refused: u32,
     pub number: RecordNumber,
     pub moves: u8,
 }
 
-fn not_admitted(refused: u32) -> Admitted
-    ensures { result ≡ record { refused = refused; number = record { 0 = 0 }; moves = 0 } }
-{
-    let number = RecordNumber(0);
-    Admitted {
-        refused,
-        number,
-        moves: 0,
-    }
-}
-
 // Any record. A refused one leaves the table as it was. The three numbers come by themselves and not as a record, which would be copied here by wider
 // loads than the caller's stores: a processor waits for those.
-pub fn admit(control: &mut Control, kind: u8, task: u32, on: u32) -> Admitted
+#[tactic(auto, using(theory::proofs::acceptance::Accepted::accepts))]
+pub fn admit(control: &mut Control, kind: u8, task: u32, on: u32) -> Result<Admitted, Refusal>
     ensures { let c = seen control in let n = control_refusal c.entry (record_of kind task on) in
         (result ≡ admitted_as n (next_number c.entry) (clock_kind c.entry kind task on))
         × (c.exit ≡ unless n (control_after kind task on c.entry) c.entry) }
 {
-    let refused = refusal_of(control, kind, task, on);
-    if refused != 0 {
-        return not_admitted(refused);
-    }
+    refusal_of(control, kind, task, on)?;
     let number = RecordNumber(control[COUNT] + 1);
     let moves = clock_kind(control, kind, task, on);
     note(control, kind, task, on);
-    Admitted {
-        refused: 0,
-        number,
-        moves,
-    }
+    Ok(Admitted { number, moves })
 }
 
 // An act that only the rows of every act can refuse, and that is counted and no more: its number is outside its series or not.
-pub fn admit_plain(control: &mut Control, r: Record, outside: bool) -> Admitted
+pub fn admit_plain(control: &mut Control, r: Record, outside: bool) -> Result<Admitted, Refusal>
     ensures { let c = seen control in let n = first_row (common_rows (control_standing c.entry) r.task outside) in
         (result ≡ admitted_as n (next_number c.entry) r.kind) × (c.exit ≡ unless n (counted c.entry) c.entry) }
 {
-    let refused = common_refusal(control, r.task, outside);
-    if refused != 0 {
-        return not_admitted(refused);
-    }
+    common_refusal(control, r.task, outside)?;
     let number = RecordNumber(control[COUNT] + 1);
     count(control);
-    Admitted {
-        refused: 0,
+    Ok(Admitted {
         number,
         moves: r.kind,
-    }
+    })
 }

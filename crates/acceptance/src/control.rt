@@ -6,12 +6,13 @@ ghost use Rattle.theory.specs.acceptance.Table.{Proper};
 ghost use Rattle.theory.specs.feeding.Step.{clock_kind, fresh_control};
 ghost use Rattle.theory.specs.acceptance.Control.{live_in, unseen_in, count_at, count_in, under_in, held_in, holds_in, gave_in, skipped_in, acceptance_cells, counted, taken_by, given_by, control_after};
 
-use basics::{both, raise};
+use basics::raise;
 use theory::{
     CONTROL_CELLS, COUNT, Control, GIVE, GIVERS, HOLDERS, JOIN, MISS, OWNED, PROFILE, SKIPPED,
     START, Semaphore, TAKE, Task,
 };
 
+// Phases, and what stands for the profile and for no holder, are numbers and no enums: they are cells of the table, which a host in C may lend.
 const UNSEEN: u32 = 0;
 
 const LIVE: u32 = 1;
@@ -62,7 +63,7 @@ pub(crate) fn is_held(control: &Control, s: Semaphore) -> bool
     FREE < control[HOLDERS + s.0 as usize]
 }
 
-// The task is its holder.
+// The task is its holder. This and `gave` are one comparison each, by the words of the definitions; one over where the cells begin would be a third.
 pub(crate) fn holds(control: &Control, s: Semaphore, t: Task) -> bool
     requires { (s.0 < semaphores) × (t.0 < tasks) }
     ensures { result ≡ holds_in control.now s.0 t.0 }
@@ -85,7 +86,7 @@ pub(crate) fn clock_kind(control: &Control, kind: u8, task: u32, on: u32) -> u8
 {
     match kind {
         TAKE => {
-            if both(is_under(control), gave(control, Semaphore(on), Task(task))) {
+            if is_under(control) & gave(control, Semaphore(on), Task(task)) {
                 return MISS;
             }
             TAKE
@@ -99,7 +100,7 @@ pub(crate) fn count(control: &mut Control)
     requires { count_in control.old < records }
     ensures { control.new ≡ counted control.old }
 {
-    control[COUNT] = control[COUNT] + 1;
+    control[COUNT] += 1;
 }
 
 // One more accepted record, by which a cell gets a value: a phase, a holder, a giver, or the profile.
@@ -112,18 +113,16 @@ fn note_value(control: &mut Control, i: usize, value: u32)
 }
 
 // One more accepted record, a take. Under the profile its task is the holder, and it is counted if it is skipped.
+#[tactic(auto, using(theory::proofs::tables::Counters::raise_other))]
 fn note_take(control: &mut Control, s: Semaphore, t: Task)
     requires { (s.0 < semaphores) × (t.0 < tasks) × (count_in control.old < records) }
     ensures { control.new ≡ counted (taken_by t.0 s.0 control.old) }
 {
     if !is_under(control) {
-        count(control);
-        return;
+        return count(control);
     }
     if gave(control, s, t) {
         raise(control, SKIPPED);
-        note_value(control, HOLDERS + s.0 as usize, t.0 + 1);
-        return;
     }
     note_value(control, HOLDERS + s.0 as usize, t.0 + 1);
 }
@@ -135,8 +134,7 @@ fn note_give(control: &mut Control, s: Semaphore, t: Task)
 {
     if is_under(control) {
         control[HOLDERS + s.0 as usize] = FREE;
-        note_value(control, GIVERS + s.0 as usize, t.0 + 1);
-        return;
+        return note_value(control, GIVERS + s.0 as usize, t.0 + 1);
     }
     count(control);
 }

@@ -7,4 +7,4 @@ mod refusals;
 
 pub use admission::{Admitted, admit, admit_plain};
 pub use control::{fresh_control, is_under, skipped};
-pub use refusals::{no_flag, no_semaphore, no_variable, refusal};
+pub use refusals::{beyond, refusal};

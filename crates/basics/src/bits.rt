@@ -15,7 +15,7 @@ const WIDTH: u32 = WORD_BITS as u32;
 pub fn weight(k: u32) -> u32
     ensures { (k < word_bits → result ≡ 2 ^ k) × (result < 2 ^ word_bits) × (result ≡ 2 ^ (k % word_bits)) }
 {
-    1 << (k % WIDTH)
+    1u32.wrapping_shl(k)
 }
 
 // All bits of a word but that one.
@@ -29,10 +29,7 @@ pub fn all_but(k: u32) -> u32
 pub fn has_bit(word: u32, k: u32) -> bool
     ensures { result ≡ bit word k }
 {
-    if k < WIDTH {
-        return (word >> k) % 2 == 1;
-    }
-    false
+    k < WIDTH && (word >> k) % 2 == 1
 }
 
 // The lower half of a word, as a mask.
@@ -46,5 +43,5 @@ pub fn lower_half(x: u32) -> u16
 pub fn lowest(mask: u16) -> Task
     ensures { ((mask ≡ 0 → ⊥) → result.0 ≡ lowest_task mask) × (result.0 < tasks) × (result.0 ≡ lowest_task mask % tasks) }
 {
-    Task(u16::trailing_zeros(mask) % TASKS)
+    Task(mask.trailing_zeros() % TASKS)
 }

@@ -11,9 +11,9 @@ mod rows;
 
 pub use accesses::{ask_at, clashes, conflict, is_access};
 pub use bits::{MASKS, all_but, has_bit, lower_half, lowest, weight};
-pub use bools::{both, either, picked};
+pub use bools::picked;
 pub use lists::record_at;
-pub use numbers::{greater, one_more, raise};
+pub use numbers::{one_more, raise};
 pub use rows::{
     acquired_row, acted_after, hands_over, is_release, object_row, passes_on, released_row,
     semaphore_row, task_row,

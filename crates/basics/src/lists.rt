@@ -9,23 +9,18 @@ use theory::{KINDS, Record};
 fn kind_of(k: u32) -> u8
     ensures { result ≡ clipped_kind k }
 {
-    if k < KINDS as u32 { k as u8 } else { KINDS }
+    k.min(KINDS as u32) as u8
 }
 
-// The record at a place of the list; past its end all three numbers are 0.
+// The record at a place of the list; past its end all three numbers are 0. By the place, since that is promised of every place; so the loops over a list go
+// by place too.
 pub fn record_at(list: &[[u32; 3]], i: usize) -> Record
     ensures { result ≡ clipped (record_in (get_or list.now i [])) }
 {
-    if list.len() <= i {
-        return Record {
-            kind: 0,
-            task: 0,
-            on: 0,
-        };
-    }
+    let [kind, task, on] = list.get(i).copied().unwrap_or([0; 3]);
     Record {
-        kind: kind_of(list[i][0]),
-        task: list[i][1],
-        on: list[i][2],
+        kind: kind_of(kind),
+        task,
+        on,
     }
 }

@@ -3,6 +3,7 @@ ghost use Rattle.std.specs.Prelude.{◌≡◌, cond};
 ghost use Rattle.theory.proofs.tables.HandOver.{hands_over, passes_on, releases, object_row};
 ghost use Rattle.theory.specs.tables.Rows.{task_row, semaphore_row, flag_row, acquired_row, released_row};
 
+use crate::bools::picked;
 use theory::{
     FIRST_FLAG, FIRST_SEMAPHORE, Flag, GIVE, JOIN, LOOK, SET, START, Semaphore, TAKE, Task,
 };
@@ -11,17 +12,6 @@ pub fn task_row(t: Task) -> usize
     ensures { result ≡ task_row t.0 }
 {
     t.0 as usize
-}
-
-// The row of the one task or of the other.
-fn either_row(first: bool, one: Task, other: Task) -> usize
-    ensures { result ≡ cond first (task_row one.0) (task_row other.0) }
-{
-    if first {
-        task_row(one)
-    } else {
-        task_row(other)
-    }
 }
 
 pub fn semaphore_row(s: Semaphore) -> usize
@@ -43,7 +33,7 @@ pub fn acquired_row(kind: u8, task: Task, on: u32, joins: bool) -> usize
     match kind {
         TAKE => semaphore_row(Semaphore(on)),
         LOOK => flag_row(Flag(on)),
-        _ => either_row(joins, Task(on), task),
+        _ => task_row(picked(joins, Task(on), task)),
     }
 }
 
@@ -63,24 +53,14 @@ pub fn released_row(kind: u8, task: Task, on: u32) -> usize
 pub fn hands_over(kind: u8) -> bool
     ensures { result ≡ hands_over kind }
 {
-    match kind {
-        TAKE => true,
-        GIVE => true,
-        LOOK => true,
-        SET => true,
-        _ => false,
-    }
+    matches!(kind, TAKE | GIVE | LOOK | SET)
 }
 
 // Whether order comes from another row by an act of a kind, or goes to one: by these, a start and a join.
 pub fn passes_on(kind: u8) -> bool
     ensures { result ≡ passes_on kind }
 {
-    match kind {
-        START => true,
-        JOIN => true,
-        _ => hands_over(kind),
-    }
+    matches!(kind, START | JOIN) || hands_over(kind)
 }
 
 // The row of its semaphore or flag.
@@ -88,8 +68,7 @@ pub fn object_row(kind: u8, on: u32) -> usize
     ensures { result ≡ object_row kind on }
 {
     match kind {
-        LOOK => flag_row(Flag(on)),
-        SET => flag_row(Flag(on)),
+        LOOK | SET => flag_row(Flag(on)),
         _ => semaphore_row(Semaphore(on)),
     }
 }
@@ -98,16 +77,12 @@ pub fn object_row(kind: u8, on: u32) -> usize
 pub fn is_release(kind: u8) -> bool
     ensures { result ≡ releases kind }
 {
-    match kind {
-        GIVE => true,
-        SET => true,
-        _ => false,
-    }
+    matches!(kind, GIVE | SET)
 }
 
 // Whether a task has acted, as a number, after a mark that names it or does not.
 pub fn acted_after(named: bool, before: u32) -> u32
     ensures { result ≡ cond named 1 before }
 {
-    if named { 1 } else { before }
+    picked(named, 1, before)
 }

@@ -42,26 +42,20 @@ fn ask(rt: &impl Print, control: &Control, kind: u8, task: u32, on: u32) {
 }
 
 fn tell_room(rt: &impl Print, control: &Control) {
-    if checker::entries_full(control) {
-        line(rt, b"full");
-    } else {
-        line(rt, b"room");
-    }
+    let full = checker::entries_full(control);
+    line(rt, if full { "full" } else { "room" });
 }
 
 fn take(rt: &impl Print, control: &mut Control, v: u32, low: u32, high: u32, accepted: bool) {
-    if checker::enter(control, v, low, high, accepted) {
-        line(rt, b"taken in");
-    } else {
-        line(rt, b"left out");
-    }
+    let taken_in = checker::enter(control, v, low, high, accepted);
+    line(rt, if taken_in { "taken in" } else { "left out" });
 }
 
 // An entry, and the Race of a write by task 3 after it.
 fn after(
     rt: &impl Print,
     control: &mut Control,
-    name: &[u8],
+    name: &str,
     v: u32,
     low: u32,
     high: u32,
@@ -74,10 +68,10 @@ fn after(
 
 // Other records, beside the same entries.
 fn others(rt: &impl Print, control: &Control) {
-    line(rt, b"the other task acts");
+    line(rt, "the other task acts");
     ask(rt, control, WRITE, 1, 5);
     ask(rt, control, WRITE, 7, 5);
-    line(rt, b"no access, no such task, no such variable");
+    line(rt, "no access, no such task, no such variable");
     ask(rt, control, START, 3, 5);
     ask(rt, control, WRITE, 16, 5);
     ask(rt, control, WRITE, 3, 64);
@@ -91,44 +85,42 @@ fn replaced(control: &mut Control) {
 }
 
 fn most(rt: &impl Print) {
-    line(rt, b"199 entries");
-    let s = checker::fresh();
-    let mut control = s.control;
+    line(rt, "199 entries");
+    let mut control = checker::fresh().control;
     replaced(&mut control);
     tell_room(rt, &control);
-    after(rt, &mut control, b"200", 5, 3, 7, true);
+    after(rt, &mut control, "200", 5, 3, 7, true);
     tell_room(rt, &control);
-    after(rt, &mut control, b"201", 5, 3, 7, false);
+    after(rt, &mut control, "201", 5, 3, 7, false);
 }
 
 pub(crate) fn entries(rt: &impl Print) {
-    let s = checker::fresh();
-    let mut control = s.control;
-    line(rt, b"no entries");
+    let mut control = checker::fresh().control;
+    line(rt, "no entries");
     ask(rt, &control, WRITE, 3, 5);
     after(
         rt,
         &mut control,
-        b"accepted for another variable",
+        "accepted for another variable",
         6,
         1,
         3,
         true,
     );
-    after(rt, &mut control, b"one of two accepted", 5, 1, 3, true);
-    after(rt, &mut control, b"all accepted", 5, 3, 7, true);
+    after(rt, &mut control, "one of two accepted", 5, 1, 3, true);
+    after(rt, &mut control, "all accepted", 5, 3, 7, true);
     others(rt, &control);
-    after(rt, &mut control, b"open again", 5, 3, 7, false);
+    after(rt, &mut control, "open again", 5, 3, 7, false);
     after(
         rt,
         &mut control,
-        b"an entry of no such variable",
+        "an entry of no such variable",
         64,
         3,
         7,
         true,
     );
-    after(rt, &mut control, b"of no such task", 5, 16, 7, true);
-    after(rt, &mut control, b"of no such other task", 5, 3, 16, true);
+    after(rt, &mut control, "of no such task", 5, 16, 7, true);
+    after(rt, &mut control, "of no such other task", 5, 3, 16, true);
     most(rt);
 }

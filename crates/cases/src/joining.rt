@@ -2,8 +2,8 @@
 ghost use Rattle.std.specs.Prelude.{◌<◌};
 ghost use Rattle.theory.specs.order.Limits.{tasks};
 
-use crate::telling::{line, tell_entry};
-use theory::{Acquired, CLOCK_CELLS, COLUMNS, Clocks, FIRST_SEMAPHORE};
+use crate::telling::line;
+use theory::{CLOCK_CELLS, COLUMNS, Clocks, FIRST_SEMAPHORE};
 
 // Where the clocks of task 1 and of semaphore 4 begin.
 const TASK: usize = COLUMNS;
@@ -23,19 +23,20 @@ fn clocks(whole: u32, at: usize, entry: u32) -> Clocks
     cells
 }
 
-fn tell_joined(rt: &impl Print, a: Acquired) {
-    if !a.known {
-        line(rt, b"none");
-        return;
-    }
-    if a.newer {
-        line(rt, b"newer");
-    } else {
-        line(rt, b"none newer");
-    }
+fn tell_joined(rt: &impl Print, newer: Option<bool>) {
+    let word = match newer {
+        Some(true) => "newer",
+        Some(false) => "none newer",
+        None => "none",
+    };
+    line(rt, word);
 }
 
-fn run_joining(rt: &impl Print, name: &[u8], whole: u32, at: usize, entry: u32)
+fn tell_entry(rt: &impl Print, n: u32) {
+    let _ = println!(rt; "entry {n}");
+}
+
+fn run_joining(rt: &impl Print, name: &str, whole: u32, at: usize, entry: u32)
     requires { at < tasks }
 {
     line(rt, name);
@@ -47,12 +48,12 @@ fn run_joining(rt: &impl Print, name: &[u8], whole: u32, at: usize, entry: u32)
 }
 
 pub(crate) fn joins(rt: &impl Print) {
-    run_joining(rt, b"equal clocks", 5, 0, 5);
-    run_joining(rt, b"an older clock", 4, 7, 3);
-    run_joining(rt, b"newer in one entry", 4, 7, 6);
-    run_joining(rt, b"newer in the last", 5, 15, 6);
-    run_joining(rt, b"newer in the first", 0, 0, 6);
-    line(rt, b"no such task, no such semaphore");
+    run_joining(rt, "equal clocks", 5, 0, 5);
+    run_joining(rt, "an older clock", 4, 7, 3);
+    run_joining(rt, "newer in one entry", 4, 7, 6);
+    run_joining(rt, "newer in the last", 5, 15, 6);
+    run_joining(rt, "newer in the first", 0, 0, 6);
+    line(rt, "no such task, no such semaphore");
     let mut cells = clocks(9, 0, 9);
     tell_joined(rt, checker::acquire(&mut cells, 16, 4));
     tell_joined(rt, checker::acquire(&mut cells, 1, 32));

@@ -25,10 +25,11 @@ fn kind_of(sign: u8) -> u8 {
     }
 }
 
+// Of a number, and of no task: a mark has none.
 fn digit(b: u8) -> u32 {
     match b {
         b'0'..=b'9' => (b - b'0') as u32,
-        _ => 4_294_967_295,
+        _ => u32::MAX,
     }
 }
 

@@ -7,7 +7,7 @@ fn lent(kind: u8, task: u32, on: u32) -> [u32; 3] {
     [kind as u32, task, on]
 }
 
-fn walk(rt: &impl Print, name: &[u8], list: &[[u32; 3]]) {
+fn walk(rt: &impl Print, name: &str, list: &[[u32; 3]]) {
     line(rt, name);
     tell_pairs(rt, lazy_sets::lazily(list));
 }
@@ -22,7 +22,7 @@ fn joined(rt: &impl Print) {
         lent(JOIN, 2, 1),
         lent(READ, 2, 5),
     ];
-    walk(rt, b"lazy: a join", &acted);
+    walk(rt, "lazy: a join", &acted);
     let idle = [
         lent(START, 0, 2),
         lent(WRITE, 0, 5),
@@ -30,7 +30,7 @@ fn joined(rt: &impl Print) {
         lent(JOIN, 2, 1),
         lent(READ, 2, 5),
     ];
-    walk(rt, b"lazy: a join of a task that never acted", &idle);
+    walk(rt, "lazy: a join of a task that never acted", &idle);
 }
 
 // The acting task's own write spares the walk, and its own bump does not.
@@ -43,24 +43,24 @@ fn spared(rt: &impl Print) {
         lent(WRITE, 1, 5),
         lent(READ, 1, 5),
     ];
-    walk(rt, b"lazy: after an own write", &write);
+    walk(rt, "lazy: after an own write", &write);
     let bump = [
         lent(START, 0, 1),
         lent(BUMP, 0, 5),
         lent(BUMP, 1, 5),
         lent(READ, 1, 5),
     ];
-    walk(rt, b"lazy: after an own bump", &bump);
+    walk(rt, "lazy: after an own bump", &bump);
 }
 
 // What has no pairs: another ending, a refused record, and a number that is no kind's although its low byte is.
 fn without(rt: &impl Print) {
     let other = [lent(START, 0, 1), lent(WRITE, 0, 5), lent(GIVE, 0, 4)];
-    walk(rt, b"lazy: no access at the end", &other);
+    walk(rt, "lazy: no access at the end", &other);
     let refused = [lent(START, 0, 1), lent(WRITE, 2, 5), lent(READ, 0, 5)];
-    walk(rt, b"lazy: refused", &refused);
+    walk(rt, "lazy: refused", &refused);
     let kinds = [lent(START, 0, 1), [256, 0, 5], lent(READ, 0, 5)];
-    walk(rt, b"lazy: kind 256", &kinds);
+    walk(rt, "lazy: kind 256", &kinds);
 }
 
 pub(crate) fn lists(rt: &impl Print) {

@@ -1,15 +1,14 @@
 // The faults that a planner has accepted, in the control table: taken in before a recording is fed, and looked at beside each Race.
-ghost use Rattle.std.specs.Prelude.{◌≡◌, true, ◌<◌, ◌-◌};
-ghost use Rattle.std.specs.Int.Bits.{bit_and};
+ghost use Rattle.std.specs.Prelude.{◌≡◌, true, ◌<◌};
 ghost use Rattle.theory.specs.order.Limits.{tasks, variables, entries};
-ghost use Rattle.theory.specs.order.Recording.{accesses};
 ghost use Rattle.theory.specs.totals.Totals.{control_cells};
 ghost use Rattle.requests.specs.entries.Table.{paired_at, entry_count, marked, pairs, entries_full, entered, pair_in_range, enters, after_entry, access_in_range, open_tasks, excuse_open, tables_excuse};
-ghost use Rattle.theory.proofs.history.Accesses.{OfAccess};
 
-use crate::clocks::clock_mask;
+use crate::access::AccessInRange;
+use crate::clocks::ByClocks;
 use crate::history::latest_number;
-use basics::{all_but, both, is_access, lower_half, lowest, weight};
+use crate::rows::Reckoning;
+use basics::{all_but, is_access, lower_half, lowest, weight};
 use requests::Excuse;
 use theory::{
     COLUMNS, Clocks, Control, ENTRIES, ENTRIES_MOST, History, PAIRED, Record, RecordNumber, TASKS,
@@ -20,7 +19,7 @@ use theory::{
 pub fn entries_full(control: &Control) -> bool
     ensures { result ≡ entries_full control.now }
 {
-    !(control[ENTRIES] < ENTRIES_MOST)
+    control[ENTRIES] >= ENTRIES_MOST
 }
 
 // Where the tasks that are paired with task t for variable v are kept.
@@ -66,53 +65,38 @@ fn enter_pair(control: &mut Control, v: Variable, low: Task, high: Task, accepte
 fn pair_in_range(v: u32, low: u32, high: u32) -> bool
     ensures { result ≡ pair_in_range v low high }
 {
-    both(v < VARIABLES, both(low < TASKS, high < TASKS))
+    v < VARIABLES && low < TASKS && high < TASKS
 }
 
 // Takes an entry in, and answers whether it did: where there is no such variable or task, or no room, nothing is changed.
 pub fn enter(control: &mut Control, v: u32, low: u32, high: u32, accepted: bool) -> bool
     ensures { (result ≡ enters v low high control.old) × (control.new ≡ after_entry v low high accepted control.old) }
 {
-    if both(pair_in_range(v, low, high), !entries_full(control)) {
+    let taken = pair_in_range(v, low, high) && !entries_full(control);
+    if taken {
         enter_pair(control, Variable(v), Task(low), Task(high), accepted);
-        return true;
     }
-    false
-}
-
-// A mask without the tasks of another.
-fn without(mask: u16, others: u16) -> u16
-    ensures { result ≡ mask - bit_and mask others }
-{
-    mask - (mask & others)
+    taken
 }
 
 // The tasks whose latest conflicting access has no path here, however the losses are filled in, and that are not accepted.
-fn open_mask(
-    control: &Control,
-    last: &History,
-    fullclocks: &Clocks,
-    kind: u8,
-    task: Task,
-    v: Variable,
-) -> u16
-    requires { OfAccess kind task.0 v.0 }
-    ensures { result ≡ open_tasks control.now last.now fullclocks.now kind task.0 v.0 }
+fn open_mask(control: &Control, last: &History, fullclocks: &Clocks, access: AccessInRange) -> u16
+    ensures { result ≡ open_tasks control.now last.now fullclocks.now access.kind access.task.0 access.variable.0 }
 {
-    let apart = clock_mask(fullclocks, last, kind, task, v);
-    without(apart, lower_half(control[paired_at(v, task)]))
+    let apart = ByClocks::access_mask(fullclocks, last, access);
+    apart & !lower_half(control[paired_at(access.variable, access.task)])
 }
 
 fn access_in_range(r: Record) -> bool
     ensures { result ≡ access_in_range r }
 {
-    both(is_access(r.kind), both(r.task < TASKS, r.on < VARIABLES))
+    is_access(r.kind) && r.task < TASKS && r.on < VARIABLES
 }
 
-// Known where no task is open; else the partner is that of the lowest open one.
-fn excuse_open(last: &History, kind: u8, v: Variable, mask: u16, partner: RecordNumber) -> Excuse
-    requires { (accesses kind ≡ true) × (v.0 < variables) }
-    ensures { result ≡ excuse_open last.now kind v.0 mask partner.0 }
+// Known where no task is open; else the partner is that of the lowest open one. A Race that is known is printed with its partner, too: both fields of the
+// answer always mean something.
+fn excuse_open(last: &History, access: AccessInRange, mask: u16, partner: RecordNumber) -> Excuse
+    ensures { result ≡ excuse_open last.now access.kind access.variable.0 mask partner.0 }
 {
     if mask == 0 {
         return Excuse {
@@ -122,7 +106,7 @@ fn excuse_open(last: &History, kind: u8, v: Variable, mask: u16, partner: Record
     }
     Excuse {
         known: false,
-        partner: latest_number(last, kind, v, lowest(mask)),
+        partner: latest_number(last, access, lowest(mask)),
     }
 }
 
@@ -137,17 +121,10 @@ pub fn excuse(
 ) -> Excuse
     ensures { result ≡ tables_excuse control.now last.now fullclocks.now r partner.0 }
 {
-    if control[ENTRIES] == 0 {
-        return Excuse {
-            known: false,
-            partner,
-        };
-    }
-    if access_in_range(r) {
-        let kind = r.kind;
-        let v = Variable(r.on);
-        let open = open_mask(control, last, fullclocks, kind, Task(r.task), v);
-        return excuse_open(last, kind, v, open, partner);
+    if control[ENTRIES] != 0 && access_in_range(r) {
+        let access = AccessInRange::of(r);
+        let open = open_mask(control, last, fullclocks, access);
+        return excuse_open(last, access, open, partner);
     }
     Excuse {
         known: false,

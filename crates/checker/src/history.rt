@@ -5,11 +5,12 @@ ghost use Rattle.theory.specs.order.Limits.{tasks, variables};
 ghost use Rattle.theory.specs.order.Recording.{Op, kind as number};
 ghost use Rattle.theory.specs.acceptance.Table.{Proper};
 ghost use Rattle.theory.specs.history.History.{askers, slot, slots, latest_number, with_access, emptied_under, emptied, last_after};
-ghost use Rattle.theory.proofs.history.Accesses.{OfAccess, kept_under};
+ghost use Rattle.theory.proofs.history.Accesses.{kept_under};
 
+use crate::access::AccessInRange;
 use basics::{ask_at, conflict, is_access, picked};
 use theory::{
-    ASKERS, ASKING_WRITE, COLUMNS, FRESH, History, RecordNumber, Task, VARIABLES, Variable,
+    ASKERS, ASKING_WRITE, COLUMNS, FRESH, History, Record, RecordNumber, Task, VARIABLES, Variable,
 };
 
 // Where it is kept what the kind of access with number a asks of task u, for variable v.
@@ -20,12 +21,12 @@ pub(crate) fn slot(a: usize, v: Variable, u: Task) -> usize
     (a * VARIABLES as usize + v.0 as usize) * COLUMNS + u.0 as usize
 }
 
-// The number of task u's latest access to v that conflicts with one of this kind, 0 where there is none.
-pub(crate) fn latest_number(last: &History, kind: u8, v: Variable, u: Task) -> RecordNumber
-    requires { OfAccess kind u.0 v.0 }
-    ensures { result.0 ≡ latest_number last.now kind v.0 u.0 }
+// The number of task u's latest access to the same variable that conflicts with this one, 0 where there is none.
+pub(crate) fn latest_number(last: &History, access: AccessInRange, u: Task) -> RecordNumber
+    requires { u.0 < tasks }
+    ensures { result.0 ≡ latest_number last.now access.kind access.variable.0 u.0 }
 {
-    RecordNumber(last[slot(ask_at(kind), v, u)])
+    RecordNumber(last[slot(ask_at(access.kind), access.variable, u)])
 }
 
 // Where an access of the kind with number `asks` is kept when that with number a is at hand: under a, or, where the two do not clash, under a write
@@ -38,15 +39,12 @@ fn kept_under(asks: usize, a: usize) -> usize
 }
 
 // The history after an access: it is kept under each kind that it clashes with.
-pub(crate) fn keep(last: &mut History, kind: u8, task: Task, v: Variable, number: RecordNumber)
-    requires { OfAccess kind task.0 v.0 }
-    ensures { last.new ≡ with_access kind task.0 v.0 number.0 last.old }
+pub(crate) fn keep(last: &mut History, access: AccessInRange, number: RecordNumber)
+    ensures { last.new ≡ with_access access.kind access.task.0 access.variable.0 number.0 last.old }
 {
-    let asks = ask_at(kind);
-    let mut a = 0;
-    while a < ASKERS {
-        last[slot(kept_under(asks, a), v, task)] = number.0;
-        a += 1;
+    let asks = ask_at(access.kind);
+    for a in 0..ASKERS {
+        last[slot(kept_under(asks, a), access.variable, access.task)] = number.0;
     }
 }
 
@@ -56,10 +54,8 @@ fn empty_under(last: &mut History, v: Variable, a: usize)
     ensures { last.new ≡ emptied_under v.0 a last.old }
 {
     let from = slot(a, v, Task(0));
-    let mut u = 0;
-    while u < COLUMNS {
+    for u in 0..COLUMNS {
         last[from + u] = 0;
-        u += 1;
     }
 }
 
@@ -68,10 +64,8 @@ fn empty(last: &mut History, v: Variable)
     requires { v.0 < variables }
     ensures { last.new ≡ emptied v.0 last.old }
 {
-    let mut a = 0;
-    while a < ASKERS {
+    for a in 0..ASKERS {
         empty_under(last, v, a);
-        a += 1;
     }
 }
 
@@ -80,25 +74,19 @@ pub(crate) fn renew(last: &mut History, kind: u8, on: u32)
     requires { kind ≡ number Op.fresh → on < variables }
     ensures { last.new ≡ cond (eqb kind (number Op.fresh)) (emptied on last.old) last.old }
 {
-    match kind {
-        FRESH => {
-            empty(last, Variable(on));
-            return;
-        }
-        _ => {
-            return;
-        }
+    if kind == FRESH {
+        empty(last, Variable(on));
     }
 }
 
 // The history after any accepted record.
-pub(crate) fn keep_record(last: &mut History, kind: u8, task: Task, on: u32, number: RecordNumber)
-    requires { Proper kind task.0 on }
-    ensures { last.new ≡ last_after kind task.0 on number.0 last.old }
+pub(crate) fn keep_record(last: &mut History, r: Record, number: RecordNumber)
+    requires { Proper r.kind r.task r.on }
+    ensures { last.new ≡ last_after r.kind r.task r.on number.0 last.old }
 {
-    if is_access(kind) {
-        keep(last, kind, task, Variable(on), number);
-        return;
+    if is_access(r.kind) {
+        keep(last, AccessInRange::of(r), number);
+    } else {
+        renew(last, r.kind, r.on);
     }
-    renew(last, kind, on);
 }

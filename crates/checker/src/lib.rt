@@ -1,6 +1,7 @@
 // The order checker below the text layer, over basics and acceptance: each function proved against a definition of crates/theory or crates/requests.
 #![tactic(auto)]
 
+mod access;
 mod asking;
 mod clocks;
 mod entries;
@@ -10,12 +11,14 @@ mod marks;
 mod masks;
 mod moving;
 mod outcome;
+mod rows;
 mod running;
 mod set_steps;
 mod sets;
 mod settling;
 mod state;
 mod stepping;
+mod tables;
 mod totals;
 
 pub use asking::{apart_by_clocks, apart_by_sets};
@@ -26,4 +29,5 @@ pub use set_steps::{set_step, set_step_in_place};
 pub use settling::{alone, feed_home, feed_homes, settle};
 pub use state::{begin, begin_sets, fresh, fresh_sets};
 pub use stepping::{step, step_in_place};
+pub use tables::Tables;
 pub use totals::{any_race, totals_of};

@@ -1,15 +1,14 @@
 // The tasks that are apart from an access, as masks, and the verdict that they make.
-ghost use Rattle.std.specs.Prelude.{◌≡◌, true, cond, ◌||◌, ◌<◌, ◌+◌, ◌*◌, ◌%◌, ◌^◌};
-ghost use Rattle.theory.specs.order.Limits.{tasks, variables};
-ghost use Rattle.theory.specs.order.Recording.{accesses};
+ghost use Rattle.std.specs.Prelude.{◌≡◌, cond, ◌||◌, ◌<◌, ◌+◌, ◌*◌, ◌%◌, ◌^◌};
+ghost use Rattle.theory.specs.order.Limits.{tasks};
 ghost use Rattle.theory.specs.basics.Turns.{indicator};
-ghost use Rattle.theory.specs.tables.Reckonings.{masks_by};
 ghost use Rattle.theory.specs.feeding.Step.{answer_by_masks};
 ghost use Rattle.theory.proofs.tables.Bits.{Halved};
 
+use crate::access::AccessInRange;
 use crate::history::latest_number;
-use basics::{MASKS, either, lower_half, lowest, weight};
-use theory::{Answer, History, Masks, RecordNumber, Task, Variable};
+use basics::{MASKS, lower_half, lowest, picked, weight};
+use theory::{Answer, History, Masks, RecordNumber, Task};
 
 // The lowest bit of a word and that of its upper half.
 const TWICE: u32 = MASKS + 1;
@@ -24,16 +23,6 @@ pub(crate) fn added_weight(b: bool, u: Task) -> u32
     if b { weight(u.0) * TWICE } else { 0 }
 }
 
-// The masks of a record that is no access.
-pub(crate) fn empty_masks() -> Masks
-    ensures { result ≡ masks_by 0 0 }
-{
-    Masks {
-        full: 0,
-        arrived: 0,
-    }
-}
-
 // The masks of an access as words: the lower half of each is the mask, and the word is 0 only where that is.
 #[derive(Clone, Copy)]
 pub(crate) struct Words {
@@ -41,28 +30,15 @@ pub(crate) struct Words {
     pub(crate) arrived: u32,
 }
 
-pub(crate) fn empty_words() -> Words
-    ensures { (result.full ≡ 0) × (result.arrived ≡ 0) }
-{
-    Words {
-        full: 0,
-        arrived: 0,
+impl From<Masks> for Words {
+    fn from(masks: Masks) -> Words
+        ensures { (result.full ≡ masks.full) × (result.arrived ≡ masks.arrived) }
+    {
+        Words {
+            full: masks.full as u32,
+            arrived: masks.arrived as u32,
+        }
     }
-}
-
-pub(crate) fn as_words(masks: Masks) -> Words
-    ensures { (result.full ≡ masks.full) × (result.arrived ≡ masks.arrived) }
-{
-    Words {
-        full: masks.full as u32,
-        arrived: masks.arrived as u32,
-    }
-}
-
-fn either_mask(first: bool, one: u16, other: u16) -> u16
-    ensures { result ≡ cond first one other }
-{
-    if first { one } else { other }
 }
 
 fn race_or_doubt(race: bool, number: RecordNumber, partner: RecordNumber) -> Answer
@@ -78,7 +54,7 @@ fn race_or_doubt(race: bool, number: RecordNumber, partner: RecordNumber) -> Ans
 fn answer_by(race: bool, doubt: bool, number: RecordNumber, partner: RecordNumber) -> Answer
     ensures { result ≡ cond (race || doubt) (cond race (Answer.Race number partner) (Answer.Doubt number partner)) (Answer.Clear number) }
 {
-    if either(race, doubt) {
+    if race | doubt {
         return race_or_doubt(race, number, partner);
     }
     Answer::Clear(number)
@@ -87,16 +63,15 @@ fn answer_by(race: bool, doubt: bool, number: RecordNumber, partner: RecordNumbe
 // The answer to an accepted access. Its partner is looked up whatever the verdict is, so that no branch on the one decides about the other.
 pub(crate) fn judged(
     last: &History,
-    kind: u8,
-    v: Variable,
+    access: AccessInRange,
     number: RecordNumber,
     words: Words,
 ) -> Answer
-    requires { (accesses kind ≡ true) × (v.0 < variables) × Halved words.full × Halved words.arrived }
-    ensures { result ≡ answer_by_masks last.now kind v.0 number.0 (words.full % 2 ^ tasks) (words.arrived % 2 ^ tasks) }
+    requires { Halved words.full × Halved words.arrived }
+    ensures { result ≡ answer_by_masks last.now access.kind access.variable.0 number.0 (words.full % 2 ^ tasks) (words.arrived % 2 ^ tasks) }
 {
     let race = words.full != 0;
-    let mask = either_mask(race, lower_half(words.full), lower_half(words.arrived));
-    let partner = latest_number(last, kind, v, lowest(mask));
+    let mask = picked(race, lower_half(words.full), lower_half(words.arrived));
+    let partner = latest_number(last, access, lowest(mask));
     answer_by(race, words.arrived != 0, number, partner)
 }

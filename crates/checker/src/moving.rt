@@ -6,7 +6,9 @@ ghost use Rattle.theory.specs.fillings.Completion.{arrived, full};
 ghost use Rattle.theory.specs.tables.Reckonings.{next_clocks};
 ghost use Rattle.theory.specs.feeding.Lent.{seen};
 
-use crate::{clocks, marks};
+use crate::clocks::{self, ByClocks};
+use crate::marks::Marking;
+use crate::rows::Reckoning;
 use basics::passes_on;
 use theory::{Clocks, LOST, RecordNumber, Task};
 
@@ -28,8 +30,8 @@ fn act_by_clocks(
     if !passes_on(kind) {
         return;
     }
-    clocks::pass_on(clocks, false, kind, task, on);
-    clocks::pass_on(fullclocks, true, kind, task, on);
+    ByClocks::pass_on(clocks, false, kind, task, on);
+    ByClocks::pass_on(fullclocks, true, kind, task, on);
 }
 
 // A record that is no access, by the clocks: an act, or a mark, which fills in nothing as it arrived.
@@ -46,14 +48,9 @@ pub(crate) fn move_clocks(
         (c.exit ≡ next_clocks arrived kind task.0 on number.0 c.entry)
         × (f.exit ≡ next_clocks full kind task.0 on number.0 f.entry) }
 {
-    match kind {
-        LOST => {
-            marks::mix(fullclocks, on);
-            return;
-        }
-        _ => {
-            act_by_clocks(clocks, fullclocks, kind, task, on, number);
-            return;
-        }
+    if kind == LOST {
+        ByClocks::mix(fullclocks, on);
+    } else {
+        act_by_clocks(clocks, fullclocks, kind, task, on, number);
     }
 }

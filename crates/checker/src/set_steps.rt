@@ -3,36 +3,19 @@ ghost use Rattle.std.specs.Prelude.{◌≡◌, false, ◌≢◌};
 ghost use Rattle.theory.specs.order.Recording.{loss_mark, accesses};
 ghost use Rattle.theory.specs.acceptance.Table.{Fitting, Proper};
 ghost use Rattle.theory.specs.fillings.Completion.{arrived, full};
-ghost use Rattle.theory.specs.tables.Reckonings.{next_sets, set_masks};
+ghost use Rattle.theory.specs.tables.Reckonings.{next_sets};
 ghost use Rattle.theory.specs.feeding.Step.{set_step_of};
 ghost use Rattle.theory.specs.feeding.Lent.{seen, set_tables};
-ghost use Rattle.theory.proofs.history.Accesses.{OfAccess};
 
-use crate::masks::{Words, as_words, empty_words};
-use crate::outcome::accept;
-use crate::sets;
+use crate::access::AccessInRange;
+use crate::marks::Marking;
+use crate::masks::Words;
+use crate::outcome::{accept_access, accept_other};
+use crate::rows::Reckoning;
+use crate::sets::{self, BySets};
 use acceptance::admit;
 use basics::is_access;
-use theory::{Answer, Control, History, LOST, Record, SetState, SetStepped, Sets, Task, Variable};
-
-// The masks of a record as words; those of one that is no access are empty.
-fn set_words(sets: &Sets, fullsets: &Sets, last: &History, r: Record, access: bool) -> Words
-    requires { (access ≡ accesses r.kind) × Proper r.kind r.task r.on }
-    ensures { let m = set_masks sets.now fullsets.now last.now r.kind r.task r.on in
-        (result.full ≡ m.full) × (result.arrived ≡ m.arrived) }
-{
-    if access {
-        return as_words(sets::set_masks(
-            sets,
-            fullsets,
-            last,
-            r.kind,
-            Task(r.task),
-            Variable(r.on),
-        ));
-    }
-    empty_words()
-}
+use theory::{Answer, Control, History, LOST, Record, SetState, SetStepped, Sets, Task};
 
 // An act that is no access passes order on.
 fn act_by_sets(sets: &mut Sets, fullsets: &mut Sets, kind: u8, task: Task, on: u32)
@@ -40,42 +23,32 @@ fn act_by_sets(sets: &mut Sets, fullsets: &mut Sets, kind: u8, task: Task, on: u
     ensures { let s = seen sets in let f = seen fullsets in
         (s.exit ≡ next_sets arrived kind task.0 on s.entry) × (f.exit ≡ next_sets full kind task.0 on f.entry) }
 {
-    sets::note_acted(sets, task);
-    sets::note_acted(fullsets, task);
-    sets::pass_on(sets, false, kind, task, on);
-    sets::pass_on(fullsets, true, kind, task, on);
+    BySets::note_acted(sets, task);
+    BySets::note_acted(fullsets, task);
+    BySets::pass_on(sets, false, kind, task, on);
+    BySets::pass_on(fullsets, true, kind, task, on);
 }
 
 // An access takes its slots anew.
-fn access_by_sets(sets: &mut Sets, fullsets: &mut Sets, kind: u8, task: Task, v: Variable)
-    requires { OfAccess kind task.0 v.0 }
+fn access_by_sets(sets: &mut Sets, fullsets: &mut Sets, access: AccessInRange)
     ensures { let s = seen sets in let f = seen fullsets in
-        (s.exit ≡ next_sets arrived kind task.0 v.0 s.entry) × (f.exit ≡ next_sets full kind task.0 v.0 f.entry) }
+        (s.exit ≡ next_sets arrived access.kind access.task.0 access.variable.0 s.entry)
+        × (f.exit ≡ next_sets full access.kind access.task.0 access.variable.0 f.entry) }
 {
-    sets::own(sets, kind, task, v);
-    sets::own(fullsets, kind, task, v);
+    sets::own(sets, access);
+    sets::own(fullsets, access);
 }
 
-// Any record; a mark fills in nothing as it arrived.
-fn move_sets(sets: &mut Sets, fullsets: &mut Sets, r: Record, access: bool)
-    requires { (access ≡ accesses r.kind) × Proper r.kind r.task r.on }
+// Any other record; a mark fills in nothing as it arrived.
+fn move_sets(sets: &mut Sets, fullsets: &mut Sets, r: Record)
+    requires { (accesses r.kind ≡ false) × Proper r.kind r.task r.on }
     ensures { let s = seen sets in let f = seen fullsets in
         (s.exit ≡ next_sets arrived r.kind r.task r.on s.entry) × (f.exit ≡ next_sets full r.kind r.task r.on f.entry) }
 {
-    if access {
-        access_by_sets(sets, fullsets, r.kind, Task(r.task), Variable(r.on));
-        return;
-    }
-    let kind = r.kind;
-    match kind {
-        LOST => {
-            sets::mix(fullsets, r.on);
-            return;
-        }
-        _ => {
-            act_by_sets(sets, fullsets, kind, Task(r.task), r.on);
-            return;
-        }
+    if r.kind == LOST {
+        BySets::mix(fullsets, r.on);
+    } else {
+        act_by_sets(sets, fullsets, r.kind, Task(r.task), r.on);
     }
 }
 
@@ -89,14 +62,19 @@ pub fn set_step_in_place(
 ) -> Answer
     ensures { let state = set_tables control last sets fullsets in record { state = state.exit; answer = result } ≡ set_step_of state.entry r }
 {
-    let admitted = admit(control, r.kind, r.task, r.on);
-    if admitted.refused != 0 {
-        return Answer::Refused(admitted.refused);
+    let admitted = match admit(control, r.kind, r.task, r.on) {
+        Ok(admitted) => admitted,
+        Err(row) => return Answer::Refused(row),
+    };
+    let number = admitted.number;
+    if is_access(r.kind) {
+        let access = AccessInRange::of(r);
+        let words = Words::from(BySets::access_masks(sets, fullsets, last, access));
+        access_by_sets(sets, fullsets, access);
+        return accept_access(control, last, access, number, words);
     }
-    let access = is_access(r.kind);
-    let words = set_words(sets, fullsets, last, r, access);
-    move_sets(sets, fullsets, r, access);
-    accept(control, last, r, access, admitted.number, words)
+    move_sets(sets, fullsets, r);
+    accept_other(last, r, number)
 }
 
 // The same by value: state and record in, state and answer out.

@@ -2,81 +2,68 @@
 ghost use Rattle.std.specs.Prelude.{◌≡◌, false};
 ghost use Rattle.theory.specs.order.Recording.{accesses};
 ghost use Rattle.theory.specs.feeding.Step.{step_of};
-ghost use Rattle.theory.specs.feeding.Lent.{tables};
+ghost use Rattle.checker.specs.Tables.{SameTables, state_in};
 
 use crate::fast_steps::{step_access, step_hand_over};
-use crate::masks::empty_words;
 use crate::moving::move_clocks;
-use crate::outcome::accept;
+use crate::outcome::accept_other;
+use crate::tables::Tables;
 use acceptance::{admit, is_under};
-use basics::{both, hands_over, is_access};
-use theory::{Answer, Clocks, Control, History, Record, State, Stepped, Task};
+use basics::{hands_over, is_access};
+use theory::{Answer, Record, State, Stepped, Task};
 
 // A record that is no access, of any other kind and none.
-fn step_other(
-    control: &mut Control,
-    last: &mut History,
-    clocks: &mut Clocks,
-    fullclocks: &mut Clocks,
-    r: Record,
-) -> Answer
+fn step_other(tables: &mut Tables<'_>, r: Record) -> Answer
     requires { accesses r.kind ≡ false }
-    ensures { let state = tables control last clocks fullclocks in record { state = state.exit; answer = result } ≡ step_of state.entry r }
+    ensures same { SameTables tables.old tables.new }
+    ensures stepped { record { state = state_in tables.new; answer = result } ≡ step_of (state_in tables.old) r }
 {
-    let admitted = admit(control, r.kind, r.task, r.on);
-    if admitted.refused != 0 {
-        return Answer::Refused(admitted.refused);
-    }
+    let admitted = match admit(tables.control, r.kind, r.task, r.on) {
+        Ok(admitted) => admitted,
+        Err(row) => return Answer::Refused(row),
+    };
     let number = admitted.number;
     move_clocks(
-        clocks,
-        fullclocks,
+        tables.clocks,
+        tables.fullclocks,
         admitted.moves,
         Task(r.task),
         r.on,
         number,
     );
-    accept(control, last, r, false, number, empty_words())
+    accept_other(tables.last, r, number)
 }
 
 // Feeds a record. A refused record leaves every table as it was. An accepted one gets its number; the kind says what its other numbers are:
 // an act has an acting task, and a mark none, but a mask. A take that is skipped is an act as a miss is, and is noted as a take. The two sorts that nearly
 // all records are of come first.
-pub fn step_in_place(
-    control: &mut Control,
-    last: &mut History,
-    clocks: &mut Clocks,
-    fullclocks: &mut Clocks,
-    r: Record,
-) -> Answer
-    ensures { let state = tables control last clocks fullclocks in record { state = state.exit; answer = result } ≡ step_of state.entry r }
+pub fn step_in_place(tables: &mut Tables<'_>, r: Record) -> Answer
+    ensures same { SameTables tables.old tables.new }
+    ensures stepped { record { state = state_in tables.new; answer = result } ≡ step_of (state_in tables.old) r }
 {
     let kind = r.kind;
     if is_access(kind) {
-        return step_access(control, last, clocks, fullclocks, r);
+        return step_access(tables, r);
     }
-    if both(hands_over(kind), !is_under(control)) {
-        return step_hand_over(control, last, clocks, fullclocks, r);
+    if hands_over(kind) & !is_under(tables.control) {
+        return step_hand_over(tables, r);
     }
-    step_other(control, last, clocks, fullclocks, r)
+    step_other(tables, r)
 }
 
 // The same by value: state and record in, state and answer out.
 pub fn step(s: State, r: Record) -> Stepped
     ensures { result ≡ step_of s r }
 {
-    let mut control = s.control;
-    let mut last = s.last;
-    let mut clocks = s.clocks;
-    let mut fullclocks = s.fullclocks;
-    let answer = step_in_place(&mut control, &mut last, &mut clocks, &mut fullclocks, r);
-    Stepped {
-        state: State {
-            control,
-            last,
-            clocks,
-            fullclocks,
+    let mut state = s;
+    let answer = step_in_place(
+        &mut Tables {
+            control: &mut state.control,
+            last: &mut state.last,
+            clocks: &mut state.clocks,
+            fullclocks: &mut state.fullclocks,
         },
-        answer,
-    }
+        r,
+    );
+    Stepped { state, answer }
 }

@@ -1,34 +1,27 @@
 // Totals of verdicts, in the control table: read at any moment, and raised by the step.
-ghost use Rattle.std.specs.Prelude.{◌≡◌, cond, ◌<◌};
+ghost use Rattle.std.specs.Prelude.{◌≡◌, ◌<◌};
 ghost use Rattle.theory.specs.order.Limits.{variables};
-ghost use Rattle.theory.specs.tables.Counters.{one_more};
 ghost use Rattle.theory.specs.totals.Totals.{totals_of, any_race, with_verdict};
 ghost use Rattle.theory.proofs.totals.Counted.{verdict_by};
 
-use basics::{one_more, picked, raise};
+use basics::{picked, raise};
 use theory::{
     CLEAR_TOTALS, Control, DOUBT_TOTALS, RACE_TOTALS, RACES, Totals, VARIABLES, Variable,
 };
 
-// How many accesses of a variable were answered by each verdict so far.
-pub fn totals_of(control: &Control, v: u32) -> Totals
+// How many accesses of a variable were answered by each verdict so far; nothing where there is no such variable.
+pub fn totals_of(control: &Control, v: u32) -> Option<Totals>
     ensures { result ≡ totals_of control.now v }
 {
     if VARIABLES <= v {
-        return Totals {
-            known: false,
-            clear: 0,
-            race: 0,
-            doubt: 0,
-        };
+        return None;
     }
     let place = v as usize;
-    Totals {
-        known: true,
+    Some(Totals {
         clear: control[CLEAR_TOTALS + place],
         race: control[RACE_TOTALS + place],
         doubt: control[DOUBT_TOTALS + place],
-    }
+    })
 }
 
 // Whether any access was a Race so far.
@@ -38,12 +31,6 @@ pub fn any_race(control: &Control) -> bool
     0 < control[RACES]
 }
 
-fn one_more_if(counts: bool, n: u32) -> u32
-    ensures { result ≡ cond counts (one_more n) n }
-{
-    if counts { one_more(n) } else { n }
-}
-
 // The verdict on an access of the variable is counted: a Race, else a Doubt, else Clear. Each total is found by its place, without a branch.
 pub(crate) fn total(control: &mut Control, v: Variable, race: bool, doubt: bool)
     requires { v.0 < variables }
@@ -51,5 +38,5 @@ pub(crate) fn total(control: &mut Control, v: Variable, race: bool, doubt: bool)
 {
     let place = picked(race, RACE_TOTALS, picked(doubt, DOUBT_TOTALS, CLEAR_TOTALS));
     raise(control, place + v.0 as usize);
-    control[RACES] = one_more_if(race, control[RACES]);
+    control[RACES] = control[RACES].saturating_add(race as u32);
 }

@@ -6,20 +6,12 @@ ghost use Rattle.theory.specs.feeding.Step.{answer_numbers, record_of, step_of};
 
 use checker::feed;
 use host::answer_numbers;
-use theory::{Answer, Record, State};
-
-// Writes an answer as three numbers.
-fn write_answer(a: Answer, answer: &mut [u32; 3])
-    ensures { answer.new ≡ answer_numbers a }
-{
-    *answer = answer_numbers(a);
-}
+use theory::{Record, State};
 
 // Feeds a record to the running state and writes the answer as three numbers. The state is copied there and back: `order_feed` is faster.
 pub fn order_step(state: &mut State, kind: u8, task: u32, on: u32, answer: &mut [u32; 3])
     ensures { let stepped = step_of state.old (record_of kind task on) in
         (state.new ≡ stepped.state) × (answer.new ≡ answer_numbers stepped.answer) }
 {
-    let a = feed(state, Record { kind, task, on });
-    write_answer(a, answer);
+    *answer = answer_numbers(feed(state, Record { kind, task, on }));
 }

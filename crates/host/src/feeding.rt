@@ -1,12 +1,13 @@
 // The running state and the sets for a host program in C, which lends the tables. include/order.h has the same functions for C.
 ghost use Rattle.std.specs.Prelude.{◌≡◌};
-ghost use Rattle.theory.specs.feeding.Step.{answer_numbers, record_of, step_of, set_step_of, fresh_state, fresh_sets};
+ghost use Rattle.theory.specs.feeding.Meaning.{refuses};
+ghost use Rattle.theory.specs.feeding.Step.{answer_numbers, three_numbers, record_of, step_of, set_step_of, fresh_state, fresh_sets};
 ghost use Rattle.theory.specs.feeding.Lent.{tables, set_tables};
 
-use checker::{begin, begin_sets, set_step_in_place, step_in_place};
+use checker::{Tables, begin, begin_sets, set_step_in_place, step_in_place};
 use theory::{Answer, Clocks, Control, History, Record, Sets};
 
-// What an answer is, as the first of its numbers.
+// What an answer is, as the first of its numbers: C has these, as include/order.h has them.
 const REFUSED: u32 = 0;
 
 const ACCEPTED: u32 = 1;
@@ -17,12 +18,19 @@ const RACE: u32 = 3;
 
 const DOUBT: u32 = 4;
 
+// A refusal as three numbers, by its number: of any number, also one that no row of the table has.
+pub fn refusal_numbers(number: u32) -> [u32; 3]
+    ensures { result ≡ three_numbers (refuses number) }
+{
+    [REFUSED, number, 0]
+}
+
 // An answer as three numbers: which case it is, the number of the refusal or of the record, and the partner's.
 pub fn answer_numbers(a: Answer) -> [u32; 3]
     ensures { result ≡ answer_numbers a }
 {
     match a {
-        Answer::Refused(n) => [REFUSED, n, 0],
+        Answer::Refused(row) => refusal_numbers(row as u32),
         Answer::Accepted(n) => [ACCEPTED, n.0, 0],
         Answer::Clear(n) => [CLEAR, n.0, 0],
         Answer::Race(n, w) => [RACE, n.0, w.0],
@@ -39,7 +47,12 @@ pub fn order_begin(
 )
     ensures { (tables control last clocks fullclocks).exit ≡ fresh_state }
 {
-    begin(control, last, clocks, fullclocks);
+    begin(&mut Tables {
+        control,
+        last,
+        clocks,
+        fullclocks,
+    });
 }
 
 // Feeds a record to the running state and writes the answer as three numbers.
@@ -56,7 +69,15 @@ pub fn order_feed(
     ensures { let state = tables control last clocks fullclocks in let stepped = step_of state.entry (record_of kind task on) in
         (state.exit ≡ stepped.state) × (answer.new ≡ answer_numbers stepped.answer) }
 {
-    let a = step_in_place(control, last, clocks, fullclocks, Record { kind, task, on });
+    let a = step_in_place(
+        &mut Tables {
+            control,
+            last,
+            clocks,
+            fullclocks,
+        },
+        Record { kind, task, on },
+    );
     *answer = answer_numbers(a);
 }
 

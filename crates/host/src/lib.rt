@@ -6,7 +6,9 @@ mod lazy;
 mod settling;
 mod totals;
 
-pub use feeding::{answer_numbers, order_begin, order_feed, order_sets_begin, order_sets_feed};
+pub use feeding::{
+    answer_numbers, order_begin, order_feed, order_sets_begin, order_sets_feed, refusal_numbers,
+};
 pub use lazy::order_lazy;
 pub use settling::order_settle;
 pub use totals::{order_any_race, order_skipped, order_totals};

@@ -1,23 +1,23 @@
 // The totals of verdicts and the count of skipped takes, for a host program in C. They lie in the control table of a running state, that of the clocks or that of the sets.
-ghost use Rattle.std.specs.Prelude.{◌≡◌, cond, [], ◌∷◌};
+ghost use Rattle.std.specs.Prelude.{◌≡◌, cond, [], ◌∷◌, ltb};
+ghost use Rattle.theory.specs.order.Limits.{variables};
 ghost use Rattle.theory.specs.acceptance.Control.{skipped_in};
 ghost use Rattle.theory.specs.basics.Turns.{indicator};
-ghost use Rattle.theory.specs.totals.Totals.{totals_of, any_race};
+ghost use Rattle.theory.specs.totals.Totals.{totals_in, any_race};
 
 use acceptance::skipped;
 use checker::{any_race, totals_of};
 use theory::Control;
 
-// Writes how many accesses of a variable were Clear, Race and Doubt so far, and returns 1. Where there is no such variable it returns 0, and
+// Writes how many accesses of a variable were Clear, Race and Doubt so far, and returns 1: C has no Option. Where there is no such variable it returns 0, and
 // the memory is as it was.
 pub fn order_totals(control: &Control, v: u32, totals: &mut [u32; 3]) -> u32
-    ensures { let t = totals_of control.now v in
-        (result ≡ indicator t.known) × (totals.new ≡ cond t.known (t.clear ∷ t.race ∷ t.doubt ∷ []) totals.old) }
+    ensures { let known = ltb v variables in let t = totals_in control.now v in
+        (result ≡ indicator known) × (totals.new ≡ cond known (t.clear ∷ t.race ∷ t.doubt ∷ []) totals.old) }
 {
-    let t = totals_of(control, v);
-    if !t.known {
+    let Some(t) = totals_of(control, v) else {
         return 0;
-    }
+    };
     *totals = [t.clear, t.race, t.doubt];
     1
 }
@@ -26,7 +26,7 @@ pub fn order_totals(control: &Control, v: u32, totals: &mut [u32; 3]) -> u32
 pub fn order_any_race(control: &Control) -> u32
     ensures { result ≡ indicator (any_race control.now) }
 {
-    if any_race(control) { 1 } else { 0 }
+    u32::from(any_race(control))
 }
 
 // Returns how many takes were skipped so far.

@@ -3,15 +3,16 @@
 // longer make it part of the loop over lines.
 #![tactic(auto)]
 
-ghost use Rattle.std.specs.Prelude.{◌≡◌, cond, [], ◌∷◌, map};
+ghost use Rattle.std.specs.Prelude.{◌≡◌, cond, [], ◌∷◌, ltb, map};
 ghost use Rattle.requests.specs.following.Following.{record_in};
-ghost use Rattle.requests.specs.lazy.Fold.{lazily};
-ghost use Rattle.requests.specs.settling.Fold.{settles};
+ghost use Rattle.requests.specs.lazy.Fold.{lazily, pairs_numbers};
+ghost use Rattle.requests.specs.settling.Fold.{settles, settling_numbers};
 ghost use Rattle.theory.specs.acceptance.Control.{skipped_in};
 ghost use Rattle.theory.specs.basics.Turns.{indicator};
 ghost use Rattle.theory.specs.feeding.Lent.{tables, set_tables};
 ghost use Rattle.theory.specs.feeding.Step.{answer_numbers, record_of, step_of, set_step_of, fresh_state, fresh_sets};
-ghost use Rattle.theory.specs.totals.Totals.{totals_of, any_race};
+ghost use Rattle.theory.specs.order.Limits.{variables};
+ghost use Rattle.theory.specs.totals.Totals.{totals_in, any_race};
 
 use theory::{Clocks, Control, History, Sets};
 
@@ -81,7 +82,7 @@ pub extern "C" fn order_sets_feed(
 // that have a pair with the access that ends it, those from whose access a path leads here, and the records walked.
 #[unsafe(no_mangle)]
 pub extern "C" fn order_lazy(list: &[[u32; 3]], answer: &mut [u64; 4])
-    ensures { let a = lazily (map record_in list.now) in answer.new ≡ a.refused ∷ a.pairs ∷ a.paths ∷ a.walked ∷ [] }
+    ensures { answer.new ≡ pairs_numbers (lazily (map record_in list.now)) }
 {
     host::order_lazy(list, answer);
 }
@@ -90,7 +91,7 @@ pub extern "C" fn order_lazy(list: &[[u32; 3]], answer: &mut [u64; 4])
 // and 0 for neither yes nor no, 1 for no, 2 for yes.
 #[unsafe(no_mangle)]
 pub extern "C" fn order_settle(list: &[[u32; 3]], home: u16, answer: &mut [u32; 2])
-    ensures { let a = settles home (map record_in list.now) in answer.new ≡ a.refused ∷ a.forced ∷ [] }
+    ensures { answer.new ≡ settling_numbers (settles home (map record_in list.now)) }
 {
     host::order_settle(list, home, answer);
 }
@@ -99,8 +100,8 @@ pub extern "C" fn order_settle(list: &[[u32; 3]], home: u16, answer: &mut [u32; 
 // the memory is as it was.
 #[unsafe(no_mangle)]
 pub extern "C" fn order_totals(control: &Control, v: u32, totals: &mut [u32; 3]) -> u32
-    ensures { let t = totals_of control.now v in
-        (result ≡ indicator t.known) × (totals.new ≡ cond t.known (t.clear ∷ t.race ∷ t.doubt ∷ []) totals.old) }
+    ensures { let known = ltb v variables in let t = totals_in control.now v in
+        (result ≡ indicator known) × (totals.new ≡ cond known (t.clear ∷ t.race ∷ t.doubt ∷ []) totals.old) }
 {
     host::order_totals(control, v, totals)
 }

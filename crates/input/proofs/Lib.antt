@@ -1,3 +1,3 @@
 -- What the functions' proofs share
-pub mod Next
+pub mod Parts
 pub mod Prefix

@@ -9,6 +9,7 @@ ghost use Rattle.input.specs.Prefix.{IsPrefixLen};
 ghost use Rattle.input.specs.Pieces.{furthest, after_lf, piece_at, ending_piece, last_piece, ended, is_left, next_of};
 
 pub use arguments::{argument, is_given};
+use reading::{LF, line_end};
 use std::io::{Read, Write};
 
 // A piece has so many bytes at most.
@@ -17,9 +18,7 @@ pub const PIECE: usize = 4096;
 // So many bytes a program asks of one read.
 pub const BLOCK: usize = 65_536;
 
-const LF: u8 = b'\n';
-
-// Where a piece stands in its block, how many bytes of that were read, and whether there may be more input.
+// Where a piece stands in its block, how many bytes of that were read, and whether there may be more input. No Option: the last piece has bytes too.
 #[derive(Clone, Copy)]
 pub struct Span {
     pub from: usize,
@@ -28,15 +27,25 @@ pub struct Span {
     pub more: bool,
 }
 
-// Before the first piece.
-pub fn no_piece() -> Span
-    ensures { result ≡ record { from = 0; end = 0; len = 0; more = true } }
-{
-    Span {
+impl Span {
+    // Before the first piece.
+    pub const START: Span = Span {
         from: 0,
         end: 0,
         len: 0,
         more: true,
+    };
+
+    // The last piece, of so many bytes.
+    fn last(end: usize) -> Span
+        ensures { result ≡ ending_piece end }
+    {
+        Span {
+            from: 0,
+            end,
+            len: end,
+            more: false,
+        }
     }
 }
 
@@ -45,29 +54,19 @@ fn furthest(from: usize, len: usize) -> usize
     requires { from < len }
     ensures { result ≡ furthest from len }
 {
-    if len - from <= PIECE {
-        len
-    } else {
-        from + PIECE
-    }
+    from.saturating_add(PIECE).min(len)
 }
 
-// After the next LF, if that is not too far.
+// After the next LF, if that is not too far. Where none stands before the last byte, it is after that.
+#[tactic(auto, using(crate::proofs::Parts::index_of_take))]
 fn after_lf(block: &[u8], from: usize, most: usize) -> usize
     requires { (from < most) × (most ≤ length block.now) }
     ensures { result ≡ after_lf block.now from most }
 {
-    let mut e = from;
-    while e < most {
-        if block[e] == LF {
-            return e + 1;
-        }
-        e += 1;
-    }
-    e
+    from + line_end(&block[from..most - 1]) + 1
 }
 
-// The piece that begins at a place of a block; where lines are asked for, it ends after the next LF.
+// The piece that begins at a place of a block; where lines are asked for, it ends after the next LF. A flag asks, as in the clause of `next_piece`.
 fn piece_at(block: &[u8], from: usize, len: usize, lines: bool) -> Span
     requires { (from < len) × (len ≤ length block.now) }
     ensures { (result ≡ piece_at lines block.now from len) × (from < result.end) × (result.end ≤ len) }
@@ -86,43 +85,25 @@ fn piece_at(block: &[u8], from: usize, len: usize, lines: bool) -> Span
     }
 }
 
-// The last piece, of so many bytes.
-fn last_of(end: usize) -> Span
-    ensures { result ≡ ending_piece end }
-{
-    Span {
-        from: 0,
-        end,
-        len: end,
-        more: false,
-    }
-}
-
 // The last piece: LF, where a line has begun that none ends, and else nothing.
 fn last_piece(block: &mut [u8], begun: bool) -> Span
     ensures { (result ≡ last_piece begun block.new) × (block.new ≡ ended begun block.old) }
 {
-    if !begun {
-        return last_of(0);
-    }
-    if block.len() == 0 {
-        return last_of(0);
+    if !begun || block.is_empty() {
+        return Span::last(0);
     }
     block[0] = LF;
-    last_of(1)
+    Span::last(1)
 }
 
 // A part of the block was read and not handed out.
 fn is_left(was: Span, block: &[u8]) -> bool
     ensures { result ≡ is_left was block.now }
 {
-    if was.len <= was.end {
-        return false;
-    }
-    was.len <= block.len()
+    was.end < was.len && was.len <= block.len()
 }
 
-// Reads the next block, and says how many bytes came: none at the end of the input, and none where the read failed, which is said first.
+// Reads the next block, and says how many bytes came: 0 at the end of the input, as `Read` has it, and 0 where the read failed, which is said first.
 fn read_block<R: Read, W: Write>(
     input: &mut R,
     block: &mut [u8],

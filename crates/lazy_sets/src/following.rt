@@ -1,47 +1,34 @@
 // Going over a list of records for the lazy reckoning: each is accepted as the step would, and followed, up to the first that is refused.
-ghost use Rattle.std.specs.Prelude.{◌≡◌, map, ◌≤◌, length, take};
+ghost use Rattle.std.specs.Prelude.{◌≡◌, map};
+ghost use Rattle.theory.specs.acceptance.Refusals.{refusal_in};
 ghost use Rattle.requests.specs.following.Following.{record_in, run_of, followed};
 ghost use Rattle.requests.specs.lazy.Fold.{lazy_after};
-ghost use Rattle.requests.specs.lazy.Lent.{lent};
-ghost use Rattle.theory.proofs.history.Accesses.{OfAccess};
 ghost use Rattle.requests.proofs.lazy.Code.{WithinCount};
+ghost use Rattle.lazy_sets.specs.AsLazy.{as_lazy};
 
-use crate::walking::follow_record;
+use crate::asked::EndingAccess;
+use crate::kept::LazySets;
 use acceptance::admit;
 use basics::record_at;
-use requests::{Counts, Followed, Nodes, Walk};
-use theory::{Control, Record};
+use theory::{Control, Refusal};
 
-// The first records of the list, so many.
-pub(crate) fn follow(
-    list: &[[u32; 3]],
-    upto: usize,
-    q: Record,
-    control: &mut Control,
-    nodes: &mut Nodes,
-    counts: &mut Counts,
-    walk: Walk,
-) -> Followed
-    requires { (upto ≤ length list.now) × OfAccess q.kind q.task q.on × WithinCount control.old walk.walked }
-    ensures { let s = lent nodes counts in run_of result.refused control.new (s.exit result.walk)
-        ≡ followed (lazy_after q) control.old (s.entry walk) (take upto (map record_in list.now)) }
-{
-    let mut kept = walk;
-    let mut i = 0;
-    while i < upto {
-        let r = record_at(list, i);
-        let admitted = admit(control, r.kind, r.task, r.on);
-        if admitted.refused != 0 {
-            return Followed {
-                refused: admitted.refused,
-                walk: kept,
-            };
+impl LazySets {
+    // Where it stopped, the row that refused the record there.
+    pub(crate) fn follow(
+        &mut self,
+        list: &[[u32; 3]],
+        q: EndingAccess,
+        control: &mut Control,
+    ) -> Result<(), Refusal>
+        requires { WithinCount control.old self.old.walk.walked }
+        ensures { run_of (refusal_in result) control.new (as_lazy self.new)
+            ≡ followed (lazy_after q.record) control.old (as_lazy self.old) (map record_in list.now) }
+    {
+        for i in 0..list.len() {
+            let r = record_at(list, i);
+            admit(control, r.kind, r.task, r.on)?;
+            self.follow_record(q, r);
         }
-        kept = follow_record(nodes, counts, kept, q, r);
-        i += 1;
-    }
-    Followed {
-        refused: 0,
-        walk: kept,
+        Ok(())
     }
 }

@@ -1,8 +1,10 @@
 // The lazy reckoning: the sets worked out for the access that ends a list of records, and only as far as they are needed.
 #![tactic(auto)]
 
+mod asked;
 mod columns;
 mod following;
+mod kept;
 mod lazy;
 mod walking;
 

@@ -8,22 +8,19 @@ mod output;
 mod running;
 
 use accepted::take_entries;
-use checker::begin;
+use checker::{Tables, fresh};
 use input::BLOCK;
 use output::OUT;
-use report::HELD_MOST;
-use running::run;
-use theory::{CLOCK_CELLS, CONTROL_CELLS, HISTORY_CELLS};
+use report::{HELD_MOST, report_piece};
+use running::{Memory, run};
 
 fn main(rt: HostRuntime) {
-    let mut control = [0u32; CONTROL_CELLS];
-    let mut last = [0u32; HISTORY_CELLS];
-    let mut clocks = [0u32; CLOCK_CELLS];
-    let mut fullclocks = [0u32; CLOCK_CELLS];
-    begin(&mut control, &mut last, &mut clocks, &mut fullclocks);
-    let mut out = [0u8; OUT];
-    let mut held = [0u8; HELD_MOST];
-    let mut block = [0u8; BLOCK];
+    let mut state = fresh();
+    let mut memory = Memory {
+        out: [0u8; OUT],
+        held: [0u8; HELD_MOST],
+        block: [0u8; BLOCK],
+    };
     let mut recording = rt.stdin();
     let mut stdout = rt.stdout();
     let mut stderr = rt.stderr();
@@ -31,26 +28,28 @@ fn main(rt: HostRuntime) {
         &rt,
         &mut stdout,
         &mut stderr,
-        &mut out,
-        &mut held,
-        &mut block,
-        &mut control,
-        &mut last,
-        &mut clocks,
-        &mut fullclocks,
+        &mut memory,
+        &mut state.control,
     );
     run(
         &mut recording,
         &mut stdout,
         &mut stderr,
-        false,
         b"order: the input cannot be read\n",
-        &mut out,
-        &mut held,
-        &mut block,
-        &mut control,
-        &mut last,
-        &mut clocks,
-        &mut fullclocks,
+        &mut memory,
+        |out, piece, held, begun| {
+            report_piece(
+                out,
+                piece,
+                held,
+                begun,
+                &mut Tables {
+                    control: &mut state.control,
+                    last: &mut state.last,
+                    clocks: &mut state.clocks,
+                    fullclocks: &mut state.fullclocks,
+                },
+            )
+        },
     );
 }

@@ -12,17 +12,12 @@ pub(crate) const OUT: usize = WAITING + LINE_ROOM * PIECE;
 
 // Writes what waits. Once the output is closed, `at` stands past the memory, so that nothing more is taken in or written.
 fn write_out<O: Write>(stdout: &mut O, out: &[u8], now: Progress) -> Progress {
-    let n = now.at;
-    if out.len() < n {
+    let Some(waiting) = out.get(..now.at) else {
         return now;
-    }
-    let written = stdout.write_all(&out[..n]).is_ok();
+    };
+    let written = stdout.write_all(waiting).is_ok();
     let at = if written { 0 } else { REFUSED };
-    Progress {
-        lines: now.lines,
-        held: now.held,
-        at,
-    }
+    Progress { at, ..now }
 }
 
 // Writes what waits once it is a block, and before the next read: more input may be long in coming.

@@ -2,7 +2,7 @@
 // include/order.h has the same functions for C, and `pieces_c` makes them an archive.
 #![tactic(auto)]
 
-ghost use Rattle.std.specs.Prelude.{◌≡◌, cond, ◌-◌, ◌^◌, length};
+ghost use Rattle.std.specs.Prelude.{◌≡◌, cond, [], ◌∷◌, ◌-◌, ◌^◌, length};
 ghost use Rattle.std.proofs.lemmas.List.Edits.{sets as written};
 ghost use Rattle.theory.specs.feeding.Lent.{tables};
 ghost use Rattle.text.specs.Stream.{pending_in, piece_said, piece_kept};
@@ -10,9 +10,29 @@ ghost use Rattle.text.specs.Entries.{entry_reader};
 ghost use Rattle.text.specs.Pieces.{from_memory, fits, said_in, after_piece};
 ghost use Rattle.pieces.specs.Begun.{begun, progress_numbers};
 
+use checker::Tables;
 use report::{HELD_MOST, entries_piece, report_piece};
 use text::Progress;
 use theory::{Clocks, Control, History};
+
+// How far a text was answered before a piece, by the two numbers that a host keeps of it. What is said for the piece begins where the report memory does.
+fn begun(progress: &[u64; 2]) -> Progress
+    ensures { result ≡ begun progress.now }
+{
+    Progress {
+        lines: progress[0],
+        held: progress[1] as usize,
+        at: 0,
+    }
+}
+
+// Keeps how far it was answered after the piece; the count of bytes written, as C has it.
+fn keep(progress: &mut [u64; 2], to: Progress) -> u64
+    ensures { (result ≡ to.at) × (progress.new ≡ to.lines ∷ to.held ∷ []) }
+{
+    *progress = [to.lines, to.held as u64];
+    to.at as u64
+}
 
 // Answers the lines that end in a piece of a text, into the report memory from its start on, and holds what is left. Returns the count of
 // bytes written. Where the memory has under 64 bytes for each byte of the piece, or the lent numbers are none that a piece leaves, nothing
@@ -40,15 +60,19 @@ pub fn order_piece(
         × (state.exit ≡ cond taken after.state state.entry)
         × (held.new ≡ cond taken (written held.old 0 after.held) held.old) }
 {
-    let from = Progress {
-        lines: progress[0],
-        held: progress[1] as usize,
-        at: 0,
-    };
-    let to = report_piece(report, piece, held, from, control, last, clocks, fullclocks);
-    progress[0] = to.lines;
-    progress[1] = to.held as u64;
-    to.at as u64
+    let to = report_piece(
+        report,
+        piece,
+        held,
+        begun(progress),
+        &mut Tables {
+            control,
+            last,
+            clocks,
+            fullclocks,
+        },
+    );
+    keep(progress, to)
 }
 
 // The same for a piece of the file of accepted faults, into the control table; the report memory has what is said for its refused lines. Held
@@ -71,13 +95,6 @@ pub fn order_entries(
         × (control.new ≡ cond taken after.state control.old)
         × (held.new ≡ cond taken (written held.old 0 after.held) held.old) }
 {
-    let from = Progress {
-        lines: progress[0],
-        held: progress[1] as usize,
-        at: 0,
-    };
-    let to = entries_piece(report, piece, held, from, control);
-    progress[0] = to.lines;
-    progress[1] = to.held as u64;
-    to.at as u64
+    let to = entries_piece(report, piece, held, begun(progress), control);
+    keep(progress, to)
 }

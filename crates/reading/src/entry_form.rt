@@ -6,8 +6,8 @@ ghost use Rattle.text.specs.LineForm.{field_of};
 use crate::decimal::read_record_number;
 use crate::parsing::past;
 use crate::scan::place_of;
-use crate::words::{SPACE, field, is_word, starts_with};
-use text::{Entry, EntryLine, Number};
+use crate::words::{SPACE, field};
+use text::Entry;
 use theory::{RECORDS, TASKS, VARIABLES};
 
 // What follows the first k spaces; nothing where there are fewer.
@@ -15,10 +15,8 @@ fn after_spaces(line: &[u8], k: usize) -> &[u8]
     ensures { result.now ≡ after_spaces k line.now }
 {
     let mut at = 0;
-    let mut left = k;
-    while left > 0 {
+    for _space in 0..k {
         at = past(line, place_of(line, at, SPACE));
-        left -= 1;
     }
     &line[at..]
 }
@@ -28,62 +26,45 @@ fn word_after(line: &[u8], k: usize) -> &[u8]
     ensures { result.now ≡ word_after k line.now }
 {
     let rest = after_spaces(line, k);
-    let e = place_of(rest, 0, SPACE);
-    &rest[..e]
+    &rest[..place_of(rest, 0, SPACE)]
 }
 
 // The number of the field that is the word after k spaces.
-fn word_field(line: &[u8], k: usize, name: &[u8]) -> Number
+fn word_field(line: &[u8], k: usize, name: &[u8]) -> Option<u32>
     ensures { result ≡ field_of name.now (word_after k line.now) }
 {
     field(name, word_after(line, k))
 }
 
 // The number of a field `rec=DDDDD` or `rec=DDDDDDD`.
-fn record_number(s: &[u8]) -> Number
+fn record_number(s: &[u8]) -> Option<u32>
     ensures { result ≡ record_field s.now }
 {
-    if starts_with(b"rec=", s) {
-        return read_record_number(&s[4..]);
-    }
-    Number::Nothing
+    read_record_number(s.strip_prefix(b"rec=")?)
 }
 
 // The numbers of an entry are within their ranges.
+#[tactic(auto, unfolding(text::specs::EntryForm::in_range))]
 fn in_range(e: Entry) -> bool
     ensures { result ≡ in_range e }
 {
-    if e.rec == 0 {
-        return false;
-    }
-    if RECORDS < e.rec {
-        return false;
-    }
-    if VARIABLES <= e.var {
-        return false;
-    }
-    if e.high <= e.low {
-        return false;
-    }
-    e.high < TASKS
+    0 < e.rec && e.rec <= RECORDS && e.var < VARIABLES && e.low < e.high && e.high < TASKS
 }
 
 // An entry, if its numbers are within their ranges.
-fn within_range(e: Entry) -> EntryLine
+#[tactic(auto, unfolding(text::specs::EntryForm::within_range))]
+fn within_range(e: Entry) -> Option<Entry>
     ensures { result ≡ within_range e }
 {
-    if in_range(e) {
-        return EntryLine::Entry(e);
-    }
-    EntryLine::Nothing
+    in_range(e).then_some(e)
 }
 
 // The entry of four numbers and the last word, `mark=accepted` or `mark=open`.
-fn marked_entry(rec: u32, var: u32, low: u32, high: u32, mark: &[u8]) -> EntryLine
+fn marked_entry(rec: u32, var: u32, low: u32, high: u32, mark: &[u8]) -> Option<Entry>
     ensures { result ≡ marked_entry rec var low high mark.now }
 {
-    let accepted = is_word(b"mark=accepted", mark);
-    let open = is_word(b"mark=open", mark);
+    let accepted = mark == b"mark=accepted".as_slice();
+    let open = mark == b"mark=open".as_slice();
     if accepted || open {
         return within_range(Entry {
             rec,
@@ -93,24 +74,16 @@ fn marked_entry(rec: u32, var: u32, low: u32, high: u32, mark: &[u8]) -> EntryLi
             accepted,
         });
     }
-    EntryLine::Nothing
+    None
 }
 
 // What a line says as an entry.
-pub fn parse_entry(line: &[u8]) -> EntryLine
+pub fn parse_entry(line: &[u8]) -> Option<Entry>
     ensures { result ≡ entry_of line.now }
 {
-    let Number::Value(rec) = record_number(word_after(line, 0)) else {
-        return EntryLine::Nothing;
-    };
-    let Number::Value(var) = word_field(line, 1, b"var=") else {
-        return EntryLine::Nothing;
-    };
-    let Number::Value(low) = word_field(line, 2, b"low=") else {
-        return EntryLine::Nothing;
-    };
-    let Number::Value(high) = word_field(line, 3, b"high=") else {
-        return EntryLine::Nothing;
-    };
+    let rec = record_number(word_after(line, 0))?;
+    let var = word_field(line, 1, b"var=")?;
+    let low = word_field(line, 2, b"low=")?;
+    let high = word_field(line, 3, b"high=")?;
     marked_entry(rec, var, low, high, after_spaces(line, 4))
 }

@@ -12,7 +12,7 @@ use theory::TASKS;
 #[derive(Clone, Copy)]
 pub(crate) struct Ending {
     pub(crate) task: u32,
-    pub(crate) bytes: u64,
+    pub(crate) bytes: u32,
     pub(crate) len: usize,
 }
 
@@ -23,41 +23,40 @@ fn ended(task: u32) -> Ending
     if task < 10 {
         return Ending {
             task,
-            bytes: four(b"k=0 ", 0) + task as u64 * 65_536,
+            bytes: four(b"k=0 ", 0) + task * 65_536,
             len: 1,
         };
     }
     Ending {
         task,
-        bytes: four(b"k=10", 0) + (task - 10) as u64 * 16_777_216,
+        bytes: four(b"k=10", 0) + (task - 10) * 16_777_216,
         len: 2,
     }
 }
 
-fn from_ten(digits: u64) -> u64
+fn from_ten(digits: u32) -> u32
     ensures { result < 10 }
 {
     if digits < 12_288 { 0 } else { 9 }
 }
 
 // A number below 16 that is the task where four bytes are an ending: both digits, and nine where there are two, the first of which is then 1.
-fn task_slot(bytes: u64) -> u64 {
+fn task_slot(bytes: u32) -> u32 {
     let digits = bytes / 65_536;
     (digits * 257 / 256 + from_ten(digits)) % 16
 }
 
-// The one task that four bytes can end. That it is so is not relied on.
-pub(crate) fn guess_task(bytes: u64) -> Ending
+// The one task that four bytes can end. That it is so is not relied on. As `guess` of the words, and a function for both would have more
+// parameters and clauses than the loop has lines.
+pub(crate) fn guess_task(bytes: u32) -> Ending
     ensures { (result.task < tasks) × (result.bytes ≡ little (task_ending result.task)) × (result.len ≡ length (decimal result.task)) }
 {
     let at = task_slot(bytes);
-    let mut t: u32 = 0;
-    while t < TASKS {
+    for t in 0..TASKS {
         let e = ended(t);
         if task_slot(e.bytes) == at {
             return e;
         }
-        t += 1;
     }
     ended(0)
 }

@@ -13,6 +13,6 @@ mod words;
 pub use decimal::{DIGITS, read_decimal};
 pub use entry_form::parse_entry;
 pub use parsing::parse_line;
-pub use reader::{LineReader, next_record, read_record, reader_at};
+pub use reader::{LineReader, read_record};
 pub use scan::{LF, line_count, line_end};
 pub use words::little_endian;

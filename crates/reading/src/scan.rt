@@ -1,34 +1,23 @@
 // Where a byte stands, and the lines of a text: each is ended by LF, and a non-empty rest without LF is a line too.
-ghost use Rattle.std.specs.Prelude.{◌≡◌, true, cond, ◌+◌, ◌-◌, ◌≤◌, ◌<◌, eqb, ltb, length, drop};
+ghost use Rattle.std.specs.Prelude.{◌≡◌, cond, ◌+◌, ◌-◌, ◌≤◌, ◌<◌, eqb, ◌==◌, length, drop};
+ghost use Rattle.std.specs.List.{position};
 ghost use Rattle.text.specs.Bytes.{index_of};
 ghost use Rattle.text.specs.Lines.{line_end, lines_of, lf_bit, lf_count};
 ghost use Rattle.text.specs.Reading.{line_at, place_after};
 
-pub const LF: u8 = 10;
+pub const LF: u8 = b'\n';
 
 fn one_if_lf(b: u8) -> u8
     ensures { (result ≡ lf_bit b) × (result ≤ 1) }
 {
-    if b == LF { 1 } else { 0 }
+    u8::from(b == LF)
 }
 
-fn met(before: bool, x: u8, b: u8) -> bool
-    ensures { result ≡ cond (eqb x b) true before }
+// The first place of b.
+fn position(part: &[u8], b: u8) -> Option<usize>
+    ensures { result ≡ position (λ x. x == b) part.now }
 {
-    if x == b { true } else { before }
-}
-
-// The part has the byte b. There is no branch on a byte, so that the compiler takes sixteen of them at a time.
-fn has(part: &[u8], b: u8) -> bool
-    ensures { result ≡ ltb (index_of b part.now) (length part.now) }
-{
-    let mut seen = false;
-    let mut i = 0;
-    while i < part.len() {
-        seen = met(seen, part[i], b);
-        i += 1;
-    }
-    seen
+    part.iter().position(|x| *x == b)
 }
 
 // Where the first b stands, from a place on; the length where there is none. Byte by byte.
@@ -36,14 +25,8 @@ fn place_in(text: &[u8], from: usize, b: u8) -> usize
     requires { from ≤ length text.now }
     ensures { (result ≡ from + index_of b (drop from text.now)) × (result ≤ length text.now) }
 {
-    let mut i = from;
-    while i < text.len() {
-        if text[i] == b {
-            return i;
-        }
-        i += 1;
-    }
-    i
+    let rest = &text[from..];
+    from + position(rest, b).unwrap_or(rest.len())
 }
 
 fn still(other: usize, x: u8, b: u8) -> usize
@@ -56,13 +39,11 @@ fn still(other: usize, x: u8, b: u8) -> usize
 fn index_in(part: &[u8], b: u8) -> usize
     ensures { result ≡ index_of b part.now }
 {
-    let mut other: usize = 1;
-    let mut n: usize = 0;
-    let mut i = 0;
-    while i < part.len() {
-        other = still(other, part[i], b);
+    let mut other = 1;
+    let mut n = 0;
+    for x in part {
+        other = still(other, *x, b);
         n += other;
-        i += 1;
     }
     n
 }
@@ -75,7 +56,7 @@ pub(crate) fn place_of(text: &[u8], from: usize, b: u8) -> usize
     if text.len() - from < 24 {
         return place_in(text, from, b);
     }
-    if has(&text[from..from + 16], b) {
+    if text[from..from + 16].contains(&b) {
         return place_in(text, from, b);
     }
     let n = index_in(&text[from + 16..from + 24], b);
@@ -97,11 +78,9 @@ fn lfs_in(part: &[u8]) -> u8
     requires { length part.now ≤ 64 }
     ensures { (result ≡ lf_count part.now) × (result ≤ length part.now) }
 {
-    let mut n: u8 = 0;
-    let mut i = 0;
-    while i < part.len() {
-        n += one_if_lf(part[i]);
-        i += 1;
+    let mut n = 0;
+    for b in part {
+        n += one_if_lf(*b);
     }
     n
 }
@@ -110,49 +89,36 @@ fn lfs_in(part: &[u8]) -> u8
 fn lfs(text: &[u8]) -> usize
     ensures { result ≡ lf_count text.now }
 {
-    let mut n: usize = 0;
-    let mut i: usize = 0;
-    while 64 <= text.len() - i {
-        n += lfs_in(&text[i..i + 64]) as usize;
-        i += 64;
+    let (parts, rest) = text.as_chunks::<64>();
+    let mut n = 0;
+    for part in parts {
+        n += usize::from(lfs_in(part));
     }
-    n + lfs_in(&text[i..]) as usize
+    n + usize::from(lfs_in(rest))
 }
 
 // How many lines a text has: each LF ends one, and a rest after the last LF is one.
 pub fn line_count(text: &[u8]) -> usize
     ensures { result ≡ length (lines_of text.now) }
 {
-    if text.len() == 0 {
-        return 0;
+    match text.last() {
+        None => 0,
+        Some(&LF) => lfs(text),
+        Some(_) => lfs(text) + 1,
     }
-    let n = lfs(text);
-    if text[text.len() - 1] == LF {
-        return n;
-    }
-    n + 1
 }
 
 // The line that begins at a place, without its LF: a part of the text. From the end of the text on it is empty.
 pub(crate) fn line_at(text: &[u8], at: usize) -> &[u8]
     ensures { result.now ≡ line_at text.now at }
 {
-    if text.len() <= at {
-        return &text[text.len()..];
-    }
-    let e = place_of(text, at, LF);
-    &text[at..e]
+    let at = at.min(text.len());
+    &text[at..place_of(text, at, LF)]
 }
 
 // The place after n bytes from a place on and the byte that ends them, or the end of the text.
 pub(crate) fn place_after(text: &[u8], at: usize, n: usize) -> usize
     ensures { result ≡ place_after text.now at n }
 {
-    if text.len() <= at {
-        return text.len();
-    }
-    if text.len() - at <= n {
-        return text.len();
-    }
-    at + n + 1
+    at.saturating_add(n).saturating_add(1).min(text.len())
 }

@@ -1,16 +1,16 @@
 // The words of a line: the op that its first one names, and the fields after it.
-ghost use Rattle.std.specs.Prelude.{◌≡◌, ◌++◌, ◌+◌, ◌≤◌, ◌<◌, length, take, drop};
+ghost use Rattle.std.specs.Prelude.{◌≡◌, ◌++◌, ◌+◌, ◌≤◌, ◌<◌, length, take, drop, IfSome};
 ghost use Rattle.theory.specs.order.Recording.{loss_mark};
-ghost use Rattle.text.specs.Bytes.{up_to, starts_with, is_word, little};
+ghost use Rattle.reading.specs.Places.{IsPlace};
+ghost use Rattle.text.specs.Bytes.{up_to, little};
 ghost use Rattle.text.specs.LineForm.{field_of, named_kind, place_of, words, word_of, op_name, space};
 ghost use Rattle.text.specs.Places.{OpAt, kind_opening, op_bytes};
 
 use crate::decimal::read_decimal;
 use crate::scan::place_of;
-use text::Number;
 use theory::{KINDS, LOST};
 
-pub(crate) const SPACE: u8 = 32;
+pub(crate) const SPACE: u8 = b' ';
 
 // The ops by their kinds, each with what follows it in the first eight bytes of an act: its space, and `task=` as far as there is room.
 // This is the one table of words: a new word is a line here, and one of `words` in crates/text/specs/LineForm.antt.
@@ -30,110 +30,70 @@ const OPENINGS: [[u8; 8]; KINDS as usize] = [
     *b"op=owned",
 ];
 
-// The part starts with the word.
-pub(crate) fn starts_with(word: &[u8], s: &[u8]) -> bool
-    ensures { result ≡ starts_with word.now s.now }
-{
-    if s.len() < word.len() {
-        return false;
-    }
-    let mut i = 0;
-    while i < word.len() {
-        if s[i] != word[i] {
-            return false;
-        }
-        i += 1;
-    }
-    true
-}
-
-// The part is the word.
-pub(crate) fn is_word(word: &[u8], s: &[u8]) -> bool
-    ensures { result ≡ is_word word.now s.now }
-{
-    if s.len() == word.len() {
-        return starts_with(word, s);
-    }
-    false
-}
-
-// The number of the op's word: the kind of its record; the count of the words where it is none of them.
-fn place(s: &[u8]) -> u8
-    ensures { result ≡ place_of words s.now }
+// The kind that a word names, if it is one of the table.
+fn kind_of(word: &[u8]) -> Option<u8>
+    ensures { IsPlace result (place_of words word.now) (length words) }
 {
     let openings = OPENINGS;
-    let mut k: u8 = 0;
-    while k < KINDS {
+    for k in 0..KINDS {
         let o = openings[k as usize];
-        let end = op_bytes(&o);
-        if is_word(&o[3..end], s) {
-            return k;
+        if word == &o[3..op_bytes(&o)] {
+            return Some(k);
         }
-        k += 1;
     }
-    KINDS
+    None
 }
 
-// The kind that a first word `op=W` names; the count of the words where it names none.
-pub(crate) fn kind(s: &[u8]) -> u8
-    ensures { result ≡ named_kind s.now }
+// The kind that a first word `op=W` names.
+fn named_kind(s: &[u8]) -> Option<u8>
+    ensures { IsPlace result (named_kind s.now) (length words) }
 {
-    if starts_with(b"op=", s) {
-        return place(&s[3..]);
-    }
-    KINDS
+    kind_of(s.strip_prefix(b"op=")?)
 }
 
-// The kind that the first word of a line names; the count of the words where it names none. An op whose space is one of the first eight bytes,
-// such as that of a loss mark, is known by them.
-pub(crate) fn op(line: &[u8]) -> u8
-    ensures { result ≡ named_kind (up_to space line.now) }
+// The kind that the first word of a line names. An op whose space is one of the first eight bytes, such as that of a loss mark, is known by them.
+pub(crate) fn op(line: &[u8]) -> Option<u8>
+    ensures { IsPlace result (named_kind (up_to space line.now)) (length words) }
 {
     if 8 <= line.len() {
         let bytes = eight(line, 0);
         let o = guess(bytes);
         if bytes == o.bytes && o.len < 8 {
-            return o.kind;
+            return Some(o.kind);
         }
     }
-    let e = place_of(line, 0, SPACE);
-    kind(&line[..e])
+    named_kind(&line[..place_of(line, 0, SPACE)])
 }
 
-fn wide(b: u8) -> u64
-    ensures { (result ≡ b) × (result < 256) }
+// So many bytes from a place on: the compiler makes one load of eight or of four, and no test, since it sees the length of the part.
+fn bytes_at<const N: usize>(s: &[u8], p: usize) -> [u8; N]
+    requires { p + N ≤ length s.now }
+    ensures { result ≡ take N (drop p s.now) }
 {
-    b as u64
+    s[p..p + N].try_into().unwrap()
 }
 
-// Eight bytes as one number, the first counting least: the compiler makes one load of it.
+// Eight bytes as one number, the first counting least.
 fn eight(s: &[u8], p: usize) -> u64
     requires { p + 8 ≤ length s.now }
     ensures { result ≡ little (take 8 (drop p s.now)) }
 {
-    wide(s[p])
-        + wide(s[p + 1]) * 256
-        + wide(s[p + 2]) * 65_536
-        + wide(s[p + 3]) * 16_777_216
-        + wide(s[p + 4]) * 4_294_967_296
-        + wide(s[p + 5]) * 1_099_511_627_776
-        + wide(s[p + 6]) * 281_474_976_710_656
-        + wide(s[p + 7]) * 72_057_594_037_927_936
+    u64::from_le_bytes(bytes_at(s, p))
 }
 
-// Four bytes likewise.
-pub(crate) fn four(s: &[u8], p: usize) -> u64
+// Four bytes likewise: another number type, so another method of the library.
+pub(crate) fn four(s: &[u8], p: usize) -> u32
     requires { p + 4 ≤ length s.now }
     ensures { result ≡ little (take 4 (drop p s.now)) }
 {
-    wide(s[p]) + wide(s[p + 1]) * 256 + wide(s[p + 2]) * 65_536 + wide(s[p + 3]) * 16_777_216
+    u32::from_le_bytes(bytes_at(s, p))
 }
 
-// A word of eight bytes as one number, the first counting least.
+// A word of eight bytes as one number, the first counting least: what the standard library makes of it, in the word of the definitions.
 pub fn little_endian(bytes: &[u8; 8]) -> u64
     ensures { result ≡ little bytes.now }
 {
-    eight(bytes, 0)
+    u64::from_le_bytes(*bytes)
 }
 
 // How many bytes of an opening are the op's, which has six at least.
@@ -176,13 +136,11 @@ fn guess(bytes: u64) -> Opening
 {
     let at = hash_slot(bytes);
     let openings = OPENINGS;
-    let mut k: u8 = 0;
-    while k < KINDS {
+    for k in 0..KINDS {
         let o = opened(k, &openings[k as usize]);
         if hash_slot(o.bytes) == at {
             return o;
         }
-        k += 1;
     }
     opened(0, &openings[0])
 }
@@ -196,30 +154,22 @@ pub(crate) fn op_end(kind: u8) -> usize
     op_bytes(&openings[kind as usize])
 }
 
-// The act whose op stands at a place, by eight bytes; a loss mark where that is not known.
-pub(crate) fn known_op(s: &[u8], p: usize) -> Opening
+// The act whose op stands at a place, by eight bytes.
+pub(crate) fn known_op(s: &[u8], p: usize) -> Option<Opening>
     requires { p + 8 ≤ length s.now }
-    ensures { (result.kind ≡ loss_mark → ⊥) → OpAt s.now p result.kind result.len }
+    ensures { IfSome result (λ o. (o.kind ≡ loss_mark → ⊥) × OpAt s.now p o.kind o.len × (o.len ≤ 8)) }
 {
     let bytes = eight(s, p);
     let o = guess(bytes);
-    if bytes != o.bytes {
-        return Opening {
-            kind: LOST,
-            bytes,
-            len: 0,
-        };
+    if bytes == o.bytes && o.kind != LOST {
+        return Some(o);
     }
-    o
+    None
 }
 
 // The number after the name of a field.
-pub(crate) fn field(name: &[u8], s: &[u8]) -> Number
+pub(crate) fn field(name: &[u8], s: &[u8]) -> Option<u32>
     ensures { result ≡ field_of name.now s.now }
 {
-    if starts_with(name, s) {
-        let n = name.len();
-        return read_decimal(&s[n..]);
-    }
-    Number::Nothing
+    read_decimal(s.strip_prefix(name)?)
 }

@@ -6,8 +6,9 @@ use Prim.Native.Nat.{ℕ, ◌+◌, ◌-◌, ◌≤◌, ◌<◌}
 use native.Mathlib.Omega.{arith}
 use lib.Dec.{T, ltb}
 use borrow.Author.Tests.{ltb-true, ltb-false}
+use Rattle.std.specs.Prelude.{Option}
+use Rattle.theory.specs.declared.record.Record.{Record}
 use Rattle.theory.specs.declared.state.State.{State}
-use Rattle.text.specs.declared.parsed.Parsed.{Parsed}
 use Rattle.text.specs.LineForm.{parse_of}
 use Rattle.text.specs.Reading.{line_at, next_at, LineStarts}
 use Rattle.text.proofs.Reading.{moves_on}
@@ -20,14 +21,14 @@ pub never : {b : Bool} → b ≡ true → b ≡ false → ⊥
 never e f = subst T (sym e ∙ f) tt
 
 -- the line that begins there is held, and p is the place after it
-pub record HeldAhead (text : List ℕ) (end begins : ℕ) (parsed : Parsed) (p : ℕ) : Type 0 where
+pub record HeldAhead (text : List ℕ) (end begins : ℕ) (parsed : Option Record) (p : ℕ) : Type 0 where
   pub within : begins < end
   pub says : parsed ≡ parse_of (line_at text begins)
   pub next : p ≡ next_at text begins
 
 -- the lines before `begins` are answered. The one that begins there is held; or none is, and it is read next, unless there is none
 pub record Ahead (text : List ℕ) (end : ℕ) (memory : List ℕ) (start : ℕ) (s₀ : State) (n₀ p₀ : ℕ) (report : List ℕ) (s : State) (reached : Reached)
-    (p : ℕ) (going held : Bool) (parsed : Parsed) : Type 0 where
+    (p : ℕ) (going held : Bool) (parsed : Option Record) : Type 0 where
   pub begins : ℕ
   pub left : Left text end memory start s₀ n₀ p₀ report reached.at s reached.lines begins
   pub holds : held ≡ true → HeldAhead text end begins parsed p
@@ -35,7 +36,7 @@ pub record Ahead (text : List ℕ) (end : ℕ) (memory : List ℕ) (start : ℕ)
   pub over : going ≡ false → end ≤ begins
 
 module _ {text : List ℕ} {end : ℕ} {memory : List ℕ} {start : ℕ} {s₀ : State} {n₀ p₀ : ℕ} where
-  pub ahead_start : {parsed : Parsed} → Ahead text end memory start s₀ n₀ p₀ memory s₀ (record { lines = n₀; at = start }) p₀ (ltb p₀ end) false parsed
+  pub ahead_start : {parsed : Option Record} → Ahead text end memory start s₀ n₀ p₀ memory s₀ (record { lines = n₀; at = start }) p₀ (ltb p₀ end) false parsed
   ahead_start =
       record {
         begins = p₀;
@@ -45,7 +46,7 @@ module _ {text : List ℕ} {end : ℕ} {memory : List ℕ} {start : ℕ} {s₀ :
         over = ltb-false p₀ end;
       }
 
-  module _ {report : List ℕ} {s : State} {reached : Reached} {p : ℕ} {going held : Bool} {parsed : Parsed} where
+  module _ {report : List ℕ} {s : State} {reached : Reached} {p : ℕ} {going held : Bool} {parsed : Option Record} where
     -- the line that is held was answered, if one was: those before p are
     pub caught_up : {report' : List ℕ} {s' : State} {reached' : Reached} → LineStarts text end → going ≡ true
         → Ahead text end memory start s₀ n₀ p₀ report s reached p going held parsed
@@ -58,7 +59,7 @@ module _ {text : List ℕ} {end : ℕ} {memory : List ℕ} {start : ℕ} {s₀ :
         by false e = let (o, t, r) = a.same e in rw (o, t, r, x.begun e g) x.left
 
   -- the next line is read
-  pub read_ahead : {report : List ℕ} {s : State} {reached : Reached} {p p' : ℕ} {next : Parsed}
+  pub read_ahead : {report : List ℕ} {s : State} {reached : Reached} {p p' : ℕ} {next : Option Record}
       → Left text end memory start s₀ n₀ p₀ report reached.at s reached.lines p → next ≡ parse_of (line_at text p) → p' ≡ next_at text p
       → Ahead text end memory start s₀ n₀ p₀ report s reached p' (ltb p end) (ltb p end) next
   read_ahead {p = p} x e f =

@@ -7,6 +7,7 @@ use Prim.Native.Nat.{ℕ, ◌≤◌}
 use native.Mathlib.Omega.{arith}
 use lib.Dec.{eqb, lit≤}
 use lib.ListN.{length, get_or}
+use Rattle.theory.specs.declared.refusal.Refusal.{Refusal}
 use Rattle.theory.specs.declared.numbers.RecordNumber.{RecordNumber}
 use Rattle.theory.specs.declared.answer.Answer.{Answer}
 use Rattle.theory.specs.declared.answer.Answer.TheVariants.{Refused, Accepted, Clear, Race, Doubt}
@@ -38,15 +39,15 @@ told_so verdict rest j number partner e l b = (
 
 -- what is no Race has another case
 pub no_race_case : (a : Answer) → ((n w : RecordNumber) → a ≢ Race n w) → get_or (answer_numbers a) 0 0 ≢ 3
-no_race_case (Refused n) f e = absurd (omega (arith, e))
+no_race_case (Refused row) f e = absurd (omega (arith, e))
 no_race_case (Accepted n) f e = absurd (omega (arith, e))
 no_race_case (Clear n) f e = absurd (omega (arith, e))
 no_race_case (Race n w) f e = f n w refl
 no_race_case (Doubt n w) f e = absurd (omega (arith, e))
 
 -- what is neither refused nor merely accepted is a verdict
-pub judged_case : (a : Answer) → ((n : ℕ) → a ≢ Refused n) → ((n : RecordNumber) → a ≢ Accepted n) → 2 ≤ get_or (answer_numbers a) 0 0
-judged_case (Refused n) f g = absurd (f n refl)
+pub judged_case : (a : Answer) → ((row : Refusal) → a ≢ Refused row) → ((n : RecordNumber) → a ≢ Accepted n) → 2 ≤ get_or (answer_numbers a) 0 0
+judged_case (Refused row) f g = absurd (f row refl)
 judged_case (Accepted n) f g = absurd (g n refl)
 judged_case (Clear n) f g = omega arith
 judged_case (Race n w) f g = omega arith

@@ -12,13 +12,19 @@ ghost use Rattle.text.specs.EntryForm.{entry_of};
 ghost use Rattle.text.specs.Entries.{said_for_entry, control_with, entry_reader};
 ghost use Rattle.text.specs.EntriesRead.{EntriesFit, EntriesRead, EntriesAnswered};
 
+use crate::page::{Page, put_over};
 use crate::sizes::HELD_MOST;
 use crate::streaming::{REFUSED, has_room, hold};
-use crate::writing::{put_bytes, put_refusal};
 use checker::{enter, entries_full};
 use reading::{LF, parse_entry};
-use text::{EntryLine, Progress};
+use text::Progress;
 use theory::Control;
+
+// Why a line of the file is refused, by the numbers that its report line says.
+enum EntryRefusal {
+    NoEntry = 12,
+    NoRoom = 13,
+}
 
 // Takes the entry of a line in, or writes why not: refusal 12 is looked at first.
 fn put_entry(out: &mut [u8], at: usize, number: u64, line: &[u8], control: &mut Control) -> usize
@@ -27,14 +33,17 @@ fn put_entry(out: &mut [u8], at: usize, number: u64, line: &[u8], control: &mut 
         Wrote out.old at (said_for_entry number control.old entry) out.new result
         × (control.new ≡ control_with control.old entry) × (result ≤ at + line_room) }
 {
-    let EntryLine::Entry(e) = parse_entry(line) else {
-        return put_refusal(out, at, b"entry=", number, 12);
+    let mut page = Page { out, at };
+    let Some(e) = parse_entry(line) else {
+        page.put_refusal(b"entry=", number, EntryRefusal::NoEntry as u32);
+        return page.at;
     };
     if entries_full(control) {
-        return put_refusal(out, at, b"entry=", number, 13);
+        page.put_refusal(b"entry=", number, EntryRefusal::NoRoom as u32);
+        return page.at;
     }
     enter(control, e.var, e.low, e.high, e.accepted);
-    at
+    page.at
 }
 
 // Reads a byte: LF ends the line that is held, any other is held after it, if there is room.
@@ -59,11 +68,7 @@ fn read_byte(
         };
     }
     let held = hold(line, n, &[b]);
-    Progress {
-        lines: begun.lines,
-        held,
-        at: begun.at,
-    }
+    Progress { held, ..begun }
 }
 
 // Reads bytes, one after the other.
@@ -78,10 +83,8 @@ fn read_entries(
     ensures { EntriesRead (seen out) (seen line) (seen control) begun piece.now result }
 {
     let mut reached = begun;
-    let mut i = 0;
-    while i < piece.len() {
-        reached = read_byte(out, piece[i], line, reached, control);
-        i += 1;
+    for b in piece {
+        reached = read_byte(out, *b, line, reached, control);
     }
     reached
 }
@@ -99,10 +102,10 @@ fn put_entries(
 {
     let mut line = [0u8; HELD_MOST];
     let n = begun.held;
-    put_bytes(&mut line, 0, &held[..n]);
+    put_over(&mut line, 0, &held[..n]);
     let ended = read_entries(out, piece, &mut line, begun, control);
     let m = ended.held;
-    put_bytes(held, 0, &line[..m]);
+    put_over(held, 0, &line[..m]);
     ended
 }
 
@@ -126,9 +129,8 @@ pub fn entries_piece(
 {
     if !has_room(out.len(), piece.len(), held, begun) {
         return Progress {
-            lines: begun.lines,
-            held: begun.held,
             at: REFUSED,
+            ..begun
         };
     }
     put_entries(out, piece, held, begun, control)

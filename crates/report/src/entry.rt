@@ -6,7 +6,7 @@ ghost use Rattle.text.specs.Report.{report_of, returned_count, memory_of};
 
 use crate::answering::put_lines;
 use crate::sizes::LINE_ROOM;
-use checker::begin;
+use checker::{Tables, begin};
 use reading::line_count;
 use theory::{CLOCK_CELLS, CONTROL_CELLS, HISTORY_CELLS};
 
@@ -19,23 +19,18 @@ fn write_report(text: &[u8], report: &mut [u8]) -> usize
     let mut last = [0u32; HISTORY_CELLS];
     let mut clocks = [0u32; CLOCK_CELLS];
     let mut fullclocks = [0u32; CLOCK_CELLS];
-    begin(&mut control, &mut last, &mut clocks, &mut fullclocks);
-    let answered = put_lines(
-        report,
-        0,
-        0,
-        text,
-        0,
-        text.len(),
-        &mut control,
-        &mut last,
-        &mut clocks,
-        &mut fullclocks,
-    );
+    let mut tables = Tables {
+        control: &mut control,
+        last: &mut last,
+        clocks: &mut clocks,
+        fullclocks: &mut fullclocks,
+    };
+    begin(&mut tables);
+    let answered = put_lines(report, 0, 0, text, 0, text.len(), &mut tables);
     answered.at
 }
 
-// Row 11's answer: 64 one-bits.
+// Row 11's answer: 64 one-bits, and no None, since C gets this number.
 const TOO_SMALL: u64 = u64::MAX;
 
 // The report of a text into lent memory, from a fresh state: the count of bytes written, or 64 one-bits where the memory has under 64

@@ -5,6 +5,7 @@ mod answering;
 mod entries;
 mod entry;
 mod fast_writing;
+mod page;
 mod sizes;
 mod streaming;
 mod telling;
@@ -12,6 +13,6 @@ mod writing;
 
 pub use entries::entries_piece;
 pub use entry::order_report;
+pub use page::last_digit;
 pub use sizes::{HELD_MOST, LINE_ROOM};
 pub use streaming::{REFUSED, report_piece};
-pub use writing::last_digit;

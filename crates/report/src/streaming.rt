@@ -1,7 +1,8 @@
 // A text that comes in pieces: each is answered as far as its lines have ended, and what is left of a line is held for the next.
-ghost use Rattle.std.specs.Prelude.{◌≡◌, cond, ◌++◌, ◌<◌, ◌≤◌, ◌+◌, min, length, take};
+ghost use Rattle.std.specs.Prelude.{◌≡◌, cond, ◌++◌, ◌<◌, ◌≤◌, ◌+◌, length, take};
 ghost use Rattle.std.proofs.lemmas.List.Edits.{sets as written};
-ghost use Rattle.theory.specs.feeding.Lent.{seen, tables};
+ghost use Rattle.theory.specs.feeding.Lent.{seen};
+ghost use Rattle.checker.specs.Tables.{SameTables, lent_tables};
 ghost use Rattle.text.specs.Lines.{line_end};
 ghost use Rattle.text.specs.LineForm.{parse_of};
 ghost use Rattle.text.specs.Reading.{LastLf};
@@ -9,17 +10,11 @@ ghost use Rattle.text.specs.Pieces.{held_most, from_memory, said_in, after_piece
 ghost use Rattle.text.specs.Answers.{LineAnswered, PieceFits, EndedAnswered, PieceAnswered};
 
 use crate::answering::{Reached, put_lines};
+use crate::page::put_over;
 use crate::sizes::{HELD_MOST, LINE_ROOM};
-use crate::writing::put_bytes;
+use checker::Tables;
 use reading::{LF, line_end};
 use text::Progress;
-use theory::{Clocks, Control, History};
-
-fn least(a: usize, b: usize) -> usize
-    ensures { (result ≡ min a b) × (result ≤ b) }
-{
-    if a < b { a } else { b }
-}
 
 // Holds a part of a line after the n bytes that are held, as far as there is room.
 pub(crate) fn hold(held: &mut [u8], n: usize, s: &[u8]) -> usize
@@ -27,8 +22,8 @@ pub(crate) fn hold(held: &mut [u8], n: usize, s: &[u8]) -> usize
     ensures { (result ≡ length (take held_most (take n held.old ++ s.now)))
         × (held.new ≡ written held.old 0 (take held_most (take n held.old ++ s.now))) }
 {
-    let m = least(HELD_MOST - n, s.len());
-    put_bytes(held, n, &s[..m])
+    let m = (HELD_MOST - n).min(s.len());
+    put_over(held, n, &s[..m])
 }
 
 // Answers the line that has begun with what is held and ends at e in a piece. It lies whole in no memory that was lent, so it is put together.
@@ -38,31 +33,18 @@ fn put_first(
     e: usize,
     held: &[u8],
     begun: Progress,
-    control: &mut Control,
-    last: &mut History,
-    clocks: &mut Clocks,
-    fullclocks: &mut Clocks,
+    tables: &mut Tables<'_>,
 ) -> usize
     requires { PieceFits out.old piece.now held.now begun × (0 < begun.held) × (e ≡ line_end piece.now) × (e < length piece.now) }
-    ensures { LineAnswered (seen out) begun.at (begun.lines + 1) (tables control last clocks fullclocks)
+    ensures same { SameTables tables.old tables.new }
+    ensures answered { LineAnswered (seen out) begun.at (begun.lines + 1) (lent_tables tables.old tables.new)
         (parse_of (take begun.held held.now ++ take e piece.now)) result }
 {
     let mut line = [0u8; HELD_MOST];
     let n = begun.held;
-    let joined = put_bytes(&mut line, 0, &held[..n]);
+    let joined = put_over(&mut line, 0, &held[..n]);
     let end = hold(&mut line, joined, &piece[..e]);
-    let answered = put_lines(
-        out,
-        begun.at,
-        begun.lines,
-        &line[..end],
-        0,
-        end,
-        control,
-        last,
-        clocks,
-        fullclocks,
-    );
+    let answered = put_lines(out, begun.at, begun.lines, &line[..end], 0, end, tables);
     answered.at
 }
 
@@ -74,59 +56,31 @@ fn put_ended(
     rest: usize,
     held: &[u8],
     begun: Progress,
-    control: &mut Control,
-    last: &mut History,
-    clocks: &mut Clocks,
-    fullclocks: &mut Clocks,
+    tables: &mut Tables<'_>,
 ) -> Reached
     requires { PieceFits out.old piece.now held.now begun × LastLf piece.now rest × (0 < rest) }
-    ensures { let state = tables control last clocks fullclocks in
+    ensures same { SameTables tables.old tables.new }
+    ensures answered { let state = lent_tables tables.old tables.new in
         EndedAnswered (seen out) begun.at (from_memory state.entry begun held.now) piece.now rest state.exit result.lines result.at }
 {
     if begun.held == 0 {
-        return put_lines(
-            out,
-            begun.at,
-            begun.lines,
-            piece,
-            0,
-            rest,
-            control,
-            last,
-            clocks,
-            fullclocks,
-        );
+        return put_lines(out, begun.at, begun.lines, piece, 0, rest, tables);
     }
     let e = line_end(piece);
-    let at = put_first(
-        out, piece, e, held, begun, control, last, clocks, fullclocks,
-    );
-    put_lines(
-        out,
-        at,
-        begun.lines + 1,
-        piece,
-        e + 1,
-        rest,
-        control,
-        last,
-        clocks,
-        fullclocks,
-    )
+    let at = put_first(out, piece, e, held, begun, tables);
+    put_lines(out, at, begun.lines + 1, piece, e + 1, rest, tables)
 }
 
-// Where what follows the last LF of a text begins; 0 where it has none.
+// Where what follows the last LF of a text begins; 0 where it has none, since the rest is then the whole text, as `LastLf` has it.
 fn rest_start(text: &[u8]) -> usize
     ensures { LastLf text.now result }
 {
-    let mut i = text.len();
-    while i > 0 {
-        if text[i - 1] == LF {
-            return i;
+    for i in (0..text.len()).rev() {
+        if text[i] == LF {
+            return i + 1;
         }
-        i -= 1;
     }
-    i
+    0
 }
 
 // Answers the lines that end in a piece, and holds what is left.
@@ -135,26 +89,18 @@ fn put_piece(
     piece: &[u8],
     held: &mut [u8],
     begun: Progress,
-    control: &mut Control,
-    last: &mut History,
-    clocks: &mut Clocks,
-    fullclocks: &mut Clocks,
+    tables: &mut Tables<'_>,
 ) -> Progress
     requires { PieceFits out.old piece.now held.old begun }
-    ensures { PieceAnswered (seen out) (seen held) (tables control last clocks fullclocks) begun piece.now result }
+    ensures same { SameTables tables.old tables.new }
+    ensures answered { PieceAnswered (seen out) (seen held) (lent_tables tables.old tables.new) begun piece.now result }
 {
     let rest = rest_start(piece);
     if rest == 0 {
         let n = hold(held, begun.held, piece);
-        return Progress {
-            lines: begun.lines,
-            held: n,
-            at: begun.at,
-        };
+        return Progress { held: n, ..begun };
     }
-    let answered = put_ended(
-        out, piece, rest, held, begun, control, last, clocks, fullclocks,
-    );
+    let answered = put_ended(out, piece, rest, held, begun, tables);
     let n = hold(held, 0, &piece[rest..]);
     Progress {
         lines: answered.lines,
@@ -163,7 +109,7 @@ fn put_piece(
     }
 }
 
-// What `at` is where a piece was not taken in: 64 one-bits.
+// What `at` is where a piece was not taken in: 64 one-bits. A number and no Option, since C reads it so, and `piece_refused` says it (order_piece).
 pub const REFUSED: usize = usize::MAX;
 
 // There are n bytes of a line in memory that holds one, and no LF is among them.
@@ -204,12 +150,10 @@ pub fn report_piece(
     piece: &[u8],
     held: &mut [u8],
     begun: Progress,
-    control: &mut Control,
-    last: &mut History,
-    clocks: &mut Clocks,
-    fullclocks: &mut Clocks,
+    tables: &mut Tables<'_>,
 ) -> Progress
-    ensures { let state = tables control last clocks fullclocks in
+    ensures same { SameTables tables.old tables.new }
+    ensures answered { let state = lent_tables tables.old tables.new in
         let taken = fits (length out.old) (length piece.now) held.old begun in
         let before = from_memory state.entry begun held.old in
         let after = after_piece before piece.now in
@@ -220,10 +164,9 @@ pub fn report_piece(
 {
     if !has_room(out.len(), piece.len(), held, begun) {
         return Progress {
-            lines: begun.lines,
-            held: begun.held,
             at: REFUSED,
+            ..begun
         };
     }
-    put_piece(out, piece, held, begun, control, last, clocks, fullclocks)
+    put_piece(out, piece, held, begun, tables)
 }

@@ -2,4 +2,3 @@
 pub mod Walk
 pub mod Fold
 pub mod Answer
-pub mod Lent

@@ -7,5 +7,5 @@ mod settled;
 mod walk;
 
 pub use excuse::Excuse;
-pub use settled::{NEITHER, NO, Settled, YES};
-pub use walk::{Counts, Followed, NODES, Nodes, Pairs, Walk};
+pub use settled::Settled;
+pub use walk::{Counts, NODES, Nodes, Pairs, Walk};

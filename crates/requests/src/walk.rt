@@ -12,7 +12,7 @@ pub type Counts = [u32; WORD_BITS];
 
 // What is one word: the columns that follow an access, the tasks that have acted, the columns for which no walk is needed, and how many records
 // there were that a walk counts.
-#[derive(Clone, Copy)]
+#[derive(Clone, Copy, Default)]
 pub struct Walk {
     pub pairs: u32,
     pub acted: u32,
@@ -20,18 +20,9 @@ pub struct Walk {
     pub walked: u32,
 }
 
-// Why going over a list stopped, and what was kept then: the number of a refusal, or 0 where the list was at its end.
-#[derive(Clone, Copy)]
-pub struct Followed {
-    pub refused: u32,
-    pub walk: Walk,
-}
-
-// The answer: the refusal of the first refused record, or 0, and then the tasks that have a pair, those of them from whose access a path leads
-// here, and the records walked.
+// The answer: the tasks that have a pair, those of them from whose access a path leads here, and the records walked.
 #[derive(Clone, Copy)]
 pub struct Pairs {
-    pub refused: u32,
     pub pairs: u32,
     pub paths: u32,
     pub walked: u64,

@@ -1,5 +1,5 @@
 -- What the table has beside the lines of the report: the tasks that could settle a Doubt alone, and how many Doubts each of them could.
-use Rattle.std.specs.Prelude.{ℕ, zero, suc, Bool, cond, List, [], ◌++◌}
+use Rattle.std.specs.Prelude.{ℕ, zero, suc, cond, Option, Some, None, List, [], ◌++◌}
 use Rattle.theory.specs.order.Limits.{tasks}
 use Rattle.theory.specs.fillings.Completion.{bit}
 use Rattle.theory.specs.tables.Counters.{raise}
@@ -17,5 +17,6 @@ named_below mask (suc t) = named_below mask t ++ comma_task mask t
 
 -- The counts, one for each task and behind them that of all Doubts, after a record: a Doubt is counted for itself, and for each task of the mask, which
 -- are those that could settle it alone
-unfoldable pub tallied : Bool → ℕ → List ℕ → List ℕ
-tallied doubt mask l = cond doubt (turns tasks (λ t l. cond (bit mask t) (raise t l) l) (raise tasks l)) l
+unfoldable pub tallied : Option ℕ → List ℕ → List ℕ
+tallied None l = l
+tallied (Some mask) l = turns tasks (λ t l. cond (bit mask t) (raise t l) l) (raise tasks l)

@@ -12,10 +12,6 @@ mod tally;
 use argument::home_of;
 use input::is_given;
 use std::io::Write;
-use theory::TASKS;
-
-// So many sets of tasks there are.
-const HOMES: u32 = 1 << TASKS;
 
 // Says how the program is called.
 fn say_usage<E: Write>(stderr: &mut E) {
@@ -32,15 +28,8 @@ fn main(rt: HostRuntime) {
         table::tabulate(&mut recording, &mut stdout, &mut stderr);
         return;
     }
-    let named = home_of(&rt);
-    if !named.good {
-        say_usage(&mut stderr);
-        return;
+    match home_of(&rt) {
+        Some(home) => asked::answer(&mut recording, &mut stdout, &mut stderr, home),
+        None => say_usage(&mut stderr),
     }
-    asked::answer(
-        &mut recording,
-        &mut stdout,
-        &mut stderr,
-        (named.home % HOMES) as u16,
-    );
 }

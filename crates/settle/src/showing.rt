@@ -1,4 +1,5 @@
-// What the table has, on its way to standard output.
+// What the table has, on its way to standard output. The tasks of a mask are written into memory first, by memory and place: of what a writer takes no
+// contract can say a byte.
 ghost use Rattle.std.specs.Prelude.{[], ◌∷◌, ◌+◌, ◌*◌, ◌<◌, ◌≤◌, length};
 ghost use Rattle.theory.specs.order.Limits.{tasks};
 ghost use Rattle.text.specs.Printing.{decimal};
@@ -6,7 +7,8 @@ ghost use Rattle.text.specs.Wrote.{Wrote};
 ghost use Rattle.input.specs.Prefix.{IsPrefixLen};
 ghost use Rattle.settle.specs.Table.{comma_task, named_below};
 
-use crate::tally::{ALL, Tallies, has};
+use crate::tally::{ALL, Tallies};
+use basics::has_bit;
 use std::io::Write;
 use theory::TASKS;
 
@@ -39,7 +41,7 @@ fn put_named(out: &mut [u8], at: usize, mask: u16, t: u32) -> usize
     requires { (at + 3 ≤ length out.old) × (t < tasks) }
     ensures { Wrote out.old at (comma_task mask t) out.new result × (result ≤ at + 3) }
 {
-    if has(mask, t) {
+    if has_bit(u32::from(mask), t) {
         let number = put_byte(out, at, b',');
         return put_task(out, number, t);
     }
@@ -52,10 +54,8 @@ fn put_tasks(out: &mut [u8], mask: u16) -> usize
     ensures { Wrote out.old 0 (named_below mask tasks) out.new result × IsPrefixLen result out.new }
 {
     let mut to = 0;
-    let mut t: u32 = 0;
-    while t < TASKS {
+    for t in 0..TASKS {
         to = put_named(out, to, mask, t);
-        t += 1;
     }
     to
 }
@@ -75,53 +75,39 @@ fn show_alone<O: Write>(stdout: &mut O, mask: u16) -> bool {
     stdout.write_all(b"\n").is_ok()
 }
 
-// Writes what the report has for a line, up to a place: all of it where the line was refused, and a Doubt with the tasks that could settle it alone.
+// Writes what the report has for a line: all of it where the line was refused, and a Doubt with the tasks that could settle it alone, by their mask.
 // Says whether it could be written.
 pub(crate) fn show_line<O: Write>(
     stdout: &mut O,
-    report: &[u8],
-    to: usize,
+    text: &[u8],
     refused: bool,
-    doubt: bool,
-    mask: u16,
+    doubt: Option<u16>,
 ) -> bool {
-    if to == 0 {
+    let Some((_, without_lf)) = text.split_last() else {
         return true;
-    }
-    if report.len() < to {
-        return true;
-    }
+    };
     if refused {
-        return stdout.write_all(&report[..to]).is_ok();
+        return stdout.write_all(text).is_ok();
     }
-    if doubt {
-        let _ = stdout.write_all(&report[..to - 1]);
-        return show_alone(stdout, mask);
-    }
-    true
-}
-
-// Writes a number and LF.
-fn show_number<O: Write>(stdout: &mut O, n: u32) {
-    let _ = writeln!(stdout, "{n}");
+    let Some(mask) = doubt else {
+        return true;
+    };
+    let _ = stdout.write_all(without_lf);
+    show_alone(stdout, mask)
 }
 
 // Writes how many Doubts a task could settle alone, where it could any.
 fn show_task<O: Write>(stdout: &mut O, t: u32, n: u32) {
-    if n == 0 {
-        return;
+    if n != 0 {
+        let _ = writeln!(stdout, "task={t} settles={n}");
     }
-    let _ = write!(stdout, "task={t} settles=");
-    show_number(stdout, n);
 }
 
 // The same for each task, and how many Doubts there were.
 pub(crate) fn show_counts<O: Write>(stdout: &mut O, tallies: &Tallies) {
-    let mut t: u32 = 0;
-    while t < TASKS {
+    for t in 0..TASKS {
         show_task(stdout, t, tallies[t as usize]);
-        t += 1;
     }
-    let _ = stdout.write_all(b"doubts=");
-    show_number(stdout, tallies[ALL]);
+    let n = tallies[ALL];
+    let _ = writeln!(stdout, "doubts={n}");
 }

@@ -8,7 +8,7 @@ use native.Mathlib.Numerals.{add-one}
 use native.Mathlib.Omega.{arith}
 use lib.Dec.{eqb, ltb}
 use lib.ListN.{length, get_or, take, drop, drop_of_length-le, length-append, length-drop, take-append-drop}
-use lib.Seq.{drop-cons, drop-drop, length-take-le}
+use lib.Seq.{take-append_seam, drop-cons, drop-drop, length-take-le}
 use borrow.Author.Tests.{eq-eqb, ne_eqb, eqb-true, eqb-false, lt-ltb, le-ltb, ltb-true, ltb-false}
 use Rattle.text.specs.Bytes.{index_of, up_to, after, starts_with, is_word, little}
 
@@ -135,16 +135,12 @@ without_take b s zero h = index_none b
 without_take b [] (suc n) h = h
 without_take b (x ∷ s) (suc n) h = let (d, g) = without_head b x s h in without_cons b x (take n s) d (without_take b s n g)
 
-pub take_seam : (w s : List ℕ) → take (length w) (w ++ s) ≡ w
-take_seam [] s = refl
-take_seam (x ∷ w) s = ap (λ (l : List ℕ). x ∷ l) (take_seam w s)
-
 drop_seam : (w : List ℕ) (b : ℕ) (s : List ℕ) → drop (suc (length w)) (w ++ (b ∷ s)) ≡ s
 drop_seam [] b s = refl
 drop_seam (x ∷ w) b s = drop_seam w b s
 
 pub before_seam : (b : ℕ) (w s : List ℕ) → Without b w → up_to b (w ++ (b ∷ s)) ≡ w
-before_seam b w s h = rw (index_seam b w s h) (take_seam w (b ∷ s))
+before_seam b w s h = rw (index_seam b w s h) (take-append_seam w (b ∷ s))
 
 pub after_seam : (b : ℕ) (w s : List ℕ) → Without b w → after b (w ++ (b ∷ s)) ≡ s
 after_seam b w s h = rw (index_seam b w s h) (drop_seam w b s)
@@ -257,10 +253,6 @@ pub word_starts : (w s : List ℕ) → starts_with w (w ++ s) ≡ true
 unfolding starts_with
 word_starts [] s = refl
 word_starts (x ∷ w) s = rw (eq-eqb x x refl) (word_starts w s)
-
-pub word_dropped : (w s : List ℕ) → drop (length w) (w ++ s) ≡ s
-word_dropped [] s = refl
-word_dropped (x ∷ w) s = word_dropped w s
 
 pub is_the_word : (w s : List ℕ) → is_word w s ≡ true → s ≡ w
 unfolding is_word

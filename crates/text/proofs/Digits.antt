@@ -12,9 +12,6 @@ use Rattle.text.specs.Printing.{last_digit, last_digits, width_in, width, decima
 
 -- Division by powers of ten
 
-power_positive : (k : ℕ) → 0 < 10 ^ k
-power_positive k = one-le-pow k 10 (omega arith)
-
 pub divide_more : (n k : ℕ) → n / 10 ^ suc k ≡ n / 10 ^ k / 10
 divide_more n k = rw (pow-suc 10 k) (sym (div-div-eq-div-mul n (10 ^ k) 10))
 
@@ -23,7 +20,7 @@ divide_tenth : (n k : ℕ) → n / 10 ^ suc k ≡ n / 10 / 10 ^ k
 divide_tenth n k = rw (pow-suc 10 k, mul_comm (10 ^ k) 10) (sym (div-div-eq-div-mul n 10 (10 ^ k)))
 
 pub none_above : (n k : ℕ) → n / 10 ^ k ≡ 0 → n < 10 ^ k
-none_above n k e = let h : n < 1 * 10 ^ k = (div-lt_iff_lt-mul {y = 1} (power_positive k)).0 (omega arith) in omega arith
+none_above n k e = let h : n < 1 * 10 ^ k = (div-lt_iff_lt-mul {y = 1} (one-le-pow k 10 (omega arith))).0 (omega arith) in omega arith
 
 pub some_above : (n k : ℕ) → 0 < n / 10 ^ k → 10 ^ k ≤ n
 some_above n k h = picked (leb (10 ^ k) n) refl
@@ -119,7 +116,7 @@ width_of (suc w) n l h =
     let p : 10 ^ suc w ≡ 10 ^ w * 10 = pow-suc 10 w in
     let q : 10 ^ suc (suc w) ≡ 10 ^ suc w * 10 = pow-suc 10 (suc w) in
     let a : 10 ^ suc w ≤ n = l (omega arith) in
-    let z : 0 < 10 ^ w = power_positive w in
+    let z : 0 < 10 ^ w = one-le-pow w 10 (omega arith) in
     width_more n (omega arith) ∙ ap suc (width_of w (n / 10) (λ _. omega arith) (omega arith))
 
 -- Without leading zeros

@@ -8,10 +8,10 @@ use native.Mathlib.Omega.{arith}
 use lib.ListN.{length, take, get_or, length-append, length-take}
 use lib.Seq.{sets, length-sets, take-suc, take_all}
 use borrow.Author.Tests.{eq-eqb, ne_eqb}
+use Rattle.std.specs.Prelude.{Option, Some}
 use Rattle.theory.specs.feeding.Lent.{Twice}
 use Rattle.requests.specs.entries.Table.{entries_full, entered, pair_in_range}
 use Rattle.text.specs.declared.entry.Entry.{Entry}
-use Rattle.text.specs.declared.entry.EntryLine.{EntryLine}
 use Rattle.text.specs.declared.progress.Progress.{Progress}
 use Rattle.text.specs.Lines.{lf, line_room}
 use Rattle.text.specs.Wrote.{Wrote}
@@ -28,7 +28,7 @@ use Rattle.text.proofs.Held.{front_held}
 
 -- An entry
 
-full_kept : (control : List ℕ) (e : Entry) → entries_full control ≡ true → control_with control (EntryLine.Entry e) ≡ control
+full_kept : (control : List ℕ) (e : Entry) → entries_full control ≡ true → control_with control (Some e) ≡ control
 full_kept control e h = rw h (none (pair_in_range e.var e.low e.high))
   where
     none : (b : Bool) → cond (b && false) (entered e.var e.low e.high e.accepted control) control ≡ control
@@ -36,12 +36,12 @@ full_kept control e h = rw h (none (pair_in_range e.var e.low e.high))
     none false = refl
 
 -- one for which there is no room is left out
-pub left_out : (n : ℕ) (control : List ℕ) {l : EntryLine} {e : Entry} → l ≡ EntryLine.Entry e → entries_full control ≡ true
+pub left_out : (n : ℕ) (control : List ℕ) {l : Option Entry} {e : Entry} → l ≡ Some e → entries_full control ≡ true
     → (said_for_entry n control l ≡ refused_entry n 13) × (control_with control l ≡ control)
 left_out n control {e = e} q h = (rw (q, h), rw q (full_kept control e h))
 
 -- nothing is said for one that is taken in
-pub taken_in_lem : (n : ℕ) (control : List ℕ) {l : EntryLine} {e : Entry} → l ≡ EntryLine.Entry e → entries_full control ≡ false → said_for_entry n control l ≡ []
+pub taken_in_lem : (n : ℕ) (control : List ℕ) {l : Option Entry} {e : Entry} → l ≡ Some e → entries_full control ≡ false → said_for_entry n control l ≡ []
 taken_in_lem n control q h = rw (q, h)
 
 -- memory at entry and at exit
@@ -58,7 +58,7 @@ module _ (line control : List ℕ) (begun : Progress) (b : ℕ) where
   abbrev before : Pending (List ℕ)
   before = pending_in control begun line
 
-  abbrev entry : EntryLine
+  abbrev entry : Option Entry
   entry = entry_of (take begun.held line)
 
   at_lf : b ≡ lf → (piece_said entry_reader before (b ∷ []) ≡ said_for_entry (begun.lines + 1) control entry)

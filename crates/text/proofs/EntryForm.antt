@@ -10,11 +10,11 @@ use lib.Dec.{ltb, eqb}
 use lib.ListN.{length, take, drop, length-append}
 use lib.Seq.{drop-drop}
 use borrow.Author.Tests.{eqb-true}
+use Rattle.std.proofs.lemmas.Option.{none-some, same_Some}
+use Rattle.std.specs.Prelude.{Option, Some, None}
 use Rattle.theory.specs.order.Limits.{tasks, variables, records}
 use Rattle.theory.proofs.basics.Reflects.{Reflects, right, wrong, both, same_as, at_most}
 use Rattle.text.specs.declared.entry.Entry.{Entry}
-use Rattle.text.specs.declared.entry.EntryLine.{EntryLine}
-use Rattle.text.specs.declared.number.Number.{Number}
 use Rattle.text.specs.Bytes.{index_of, up_to, after, starts_with, is_word}
 use Rattle.text.specs.LineForm.{read_digits, space, field_of}
 use Rattle.text.specs.EntryForm.{after_spaces, word_after, rec_name, var_name, low_name, high_name, mark_word, fewer_digits, record_wide, read_record_number, record_field, in_range, within_range}
@@ -51,7 +51,7 @@ record InDigits (name s : List ℕ) (n : ℕ) : Type 0 where
   enough : n < 10 ^ count
   is : s ≡ name ++ last_digits count n
 
-record_is : (s : List ℕ) (n : ℕ) → record_field s ≡ Number.Value n → InDigits rec_name s n
+record_is : (s : List ℕ) (n : ℕ) → record_field s ≡ Some n → InDigits rec_name s n
 unfolding record_field read_record_number
 record_is s n e =
     let (t, f, g) = field_by_lem read_record_number rec_name s n e in
@@ -63,11 +63,11 @@ record_is s n e =
       is = f ∙ ap (λ (l : List ℕ). rec_name ++ l) (read_printed 0 n t r);
     }
 
-in_digits : (k n : ℕ) → Wide k → n < 10 ^ k → read_record_number (last_digits k n) ≡ Number.Value n
+in_digits : (k n : ℕ) → Wide k → n < 10 ^ k → read_record_number (last_digits k n) ≡ Some n
 unfolding read_record_number
 in_digits k n w h = rw (digits_long k n, digits_wide k w) (printed_read 0 n k (sym (div-eq_of_lt h)))
 
-record_read : (k n : ℕ) → Wide k → n < 10 ^ k → record_field (rec_name ++ last_digits k n) ≡ Number.Value n
+record_read : (k n : ℕ) → Wide k → n < 10 ^ k → record_field (rec_name ++ last_digits k n) ≡ Some n
 unfolding record_field
 record_read k n w h = field_read_by read_record_number rec_name (last_digits k n) n (in_digits k n w h)
 
@@ -84,19 +84,19 @@ ranges e =
     below : (m n : ℕ) → Reflects (m < n) (ltb m n)
     below m n = at_most (suc m) n
 
-within_range_lem : (e f : Entry) → within_range e ≡ EntryLine.Entry f → (e ≡ f) × InForm e
+within_range_lem : (e f : Entry) → within_range e ≡ Some f → (e ≡ f) × InForm e
 unfolding within_range
 within_range_lem e f h = decided (ranges e) h
   where
-    decided : {b : Bool} → Reflects (InForm e) b → cond b (EntryLine.Entry e) EntryLine.Nothing ≡ EntryLine.Entry f → (e ≡ f) × InForm e
-    decided (right i) h = (cc, i)
-    decided (wrong n) h = absurd (let z : ◌≡◌ {A = ℕ} 0 1 = cc in omega arith)
+    decided : {b : Bool} → Reflects (InForm e) b → cond b (Some e) None ≡ Some f → (e ≡ f) × InForm e
+    decided (right i) h = (same_Some e f h, i)
+    decided (wrong n) h = absurd (none-some f h)
 
-range_within : (e : Entry) → InForm e → within_range e ≡ EntryLine.Entry e
+range_within : (e : Entry) → InForm e → within_range e ≡ Some e
 unfolding within_range
 range_within e h = decided (ranges e)
   where
-    decided : {b : Bool} → Reflects (InForm e) b → cond b (EntryLine.Entry e) EntryLine.Nothing ≡ EntryLine.Entry e
+    decided : {b : Bool} → Reflects (InForm e) b → cond b (Some e) None ≡ Some e
     decided (right i) = refl
     decided (wrong n) = absurd (n h)
 
@@ -108,7 +108,7 @@ record Said (s : List ℕ) (e : Entry) : Type 0 where
   can : InForm e
 
 -- the last word is the mark of the entry
-marked : (rec var low high : ℕ) (s : List ℕ) (e : Entry) → marked_entry rec var low high s ≡ EntryLine.Entry e
+marked : (rec var low high : ℕ) (s : List ℕ) (e : Entry) → marked_entry rec var low high s ≡ Some e
     → (t : Bool) × (s ≡ mark_word t) × (record { rec = rec; var = var; low = low; high = high; accepted = t } ≡ e) × InForm e
 unfolding marked_entry
 marked rec var low high s e h = picked (is_word (mark_word true) s) (is_word (mark_word false) s) refl refl h
@@ -116,11 +116,11 @@ marked rec var low high s e h = picked (is_word (mark_word true) s) (is_word (ma
     made : Bool → Entry
     made t = record { rec = rec; var = var; low = low; high = high; accepted = t }
 
-    picked : (t u : Bool) → is_word (mark_word true) s ≡ t → is_word (mark_word false) s ≡ u → cond (t || u) (within_range (made t)) EntryLine.Nothing ≡ EntryLine.Entry e
+    picked : (t u : Bool) → is_word (mark_word true) s ≡ t → is_word (mark_word false) s ≡ u → cond (t || u) (within_range (made t)) None ≡ Some e
         → (t : Bool) × (s ≡ mark_word t) × (made t ≡ e) × InForm e
     picked true u f g h = let (q, i) = within_range_lem (made true) e h in (true, is_the_word (mark_word true) s f, q, subst InForm q i)
     picked false true f g h = let (q, i) = within_range_lem (made false) e h in (false, is_the_word (mark_word false) s g, q, subst InForm q i)
-    picked false false f g h = absurd (let z : ◌≡◌ {A = ℕ} 0 1 = cc in omega arith)
+    picked false false f g h = absurd (none-some e h)
 
 -- what follows k spaces, from its first word and what follows one space more
 spaced : (k : ℕ) (s w t : List ℕ) → word_after k s ≡ w → after_spaces (suc k) s ≡ t → 0 < length t → after_spaces k s ≡ w ++ (space ∷ t)
@@ -171,9 +171,9 @@ entry_joined s k e a b c d m =
     let r = spaced 1 s (var_word e) (from_low e) b q (omega arith) in
     spaced 0 s (rec_word k e) (from_var e) a r (omega arith) ∙ sym (entry_text_lem k e)
 
-fields_said : (s : List ℕ) (e : Entry) (x y z w : Number) → record_field (word_after 0 s) ≡ x → field_of var_name (word_after 1 s) ≡ y → field_of low_name (word_after 2 s) ≡ z
-    → field_of high_name (word_after 3 s) ≡ w → entry_by x y z w (after_spaces 4 s) ≡ EntryLine.Entry e → Said s e
-fields_said s e (Number.Value rec) (Number.Value var) (Number.Value low) (Number.Value high) a b c d h =
+fields_said : (s : List ℕ) (e : Entry) (x y z w : Option ℕ) → record_field (word_after 0 s) ≡ x → field_of var_name (word_after 1 s) ≡ y → field_of low_name (word_after 2 s) ≡ z
+    → field_of high_name (word_after 3 s) ≡ w → entry_by x y z w (after_spaces 4 s) ≡ Some e → Said s e
+fields_said s e (Some rec) (Some var) (Some low) (Some high) a b c d h =
     let (t, m, q, i) = marked rec var low high (after_spaces 4 s) e h in
     let r = record_is (word_after 0 s) rec a in
     record {
@@ -187,12 +187,12 @@ fields_said s e (Number.Value rec) (Number.Value var) (Number.Value low) (Number
       });
       can = i;
     }
-fields_said s e (Number.Value rec) (Number.Value var) (Number.Value low) Number.Nothing a b c d h = absurd (let z : ◌≡◌ {A = ℕ} 0 1 = cc in omega arith)
-fields_said s e (Number.Value rec) (Number.Value var) Number.Nothing w a b c d h = absurd (let z : ◌≡◌ {A = ℕ} 0 1 = cc in omega arith)
-fields_said s e (Number.Value rec) Number.Nothing z w a b c d h = absurd (let z : ◌≡◌ {A = ℕ} 0 1 = cc in omega arith)
-fields_said s e Number.Nothing y z w a b c d h = absurd (let z : ◌≡◌ {A = ℕ} 0 1 = cc in omega arith)
+fields_said s e (Some rec) (Some var) (Some low) None a b c d h = absurd (none-some e h)
+fields_said s e (Some rec) (Some var) None w a b c d h = absurd (none-some e h)
+fields_said s e (Some rec) None z w a b c d h = absurd (none-some e h)
+fields_said s e None y z w a b c d h = absurd (none-some e h)
 
-said : (s : List ℕ) (e : Entry) → entry_of s ≡ EntryLine.Entry e → Said s e
+said : (s : List ℕ) (e : Entry) → entry_of s ≡ Some e → Said s e
 unfolding entry_of
 said s e h =
     fields_said s e (record_field (word_after 0 s)) (field_of var_name (word_after 1 s)) (field_of low_name (word_after 2 s)) (field_of high_name (word_after 3 s)) refl refl refl refl h
@@ -228,11 +228,11 @@ entry_short k e w h =
 pub long_entry : LongEntry
 long_entry s h = picked (entry_of s) refl
   where
-    picked : (x : EntryLine) → entry_of s ≡ x → entry_of s ≡ EntryLine.Nothing
-    picked (EntryLine.Entry e) f =
+    picked : (x : Option Entry) → entry_of s ≡ x → entry_of s ≡ None
+    picked (Some e) f =
         let t = only_entry_text s e f in
         absurd (omega (arith, ap length t.is, entry_short t.count e t.five_or_seven (only_in_form s e f)))
-    picked EntryLine.Nothing f = f
+    picked None f = f
 
 -- The text of an entry is taken
 
@@ -307,7 +307,7 @@ unfolding marked_entry
 mark_known rec var low high s t e f = rw (← e, f)
 
 -- what the fields say is what the line says
-pub fields_read : (s : List ℕ) {x y z w : Number} → record_field (word_after 0 s) ≡ x → field_of var_name (word_after 1 s) ≡ y → field_of low_name (word_after 2 s) ≡ z
+pub fields_read : (s : List ℕ) {x y z w : Option ℕ} → record_field (word_after 0 s) ≡ x → field_of var_name (word_after 1 s) ≡ y → field_of low_name (word_after 2 s) ≡ z
     → field_of high_name (word_after 3 s) ≡ w → entry_of s ≡ entry_by x y z w (after_spaces 4 s)
 unfolding entry_of
 fields_read s a b c d = rw (a, b, c, d)

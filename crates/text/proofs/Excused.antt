@@ -3,6 +3,7 @@ use mathlib.Core.Path.{◌≡◌, refl, ◌∙◌}
 use Prim.Native.Nat.{ℕ}
 use native.Mathlib.Omega.{arith}
 use mathlib.Core.Bool.{false}
+use Rattle.std.specs.Prelude.{Option, Some, None}
 use Rattle.theory.specs.declared.record.Record.{Record}
 use Rattle.theory.specs.declared.state.State.{State}
 use Rattle.theory.specs.verdicts.Verdict.{Race, Clear, Doubt}
@@ -12,7 +13,6 @@ use Rattle.theory.specs.totals.Totals.{entries_at}
 use Rattle.requests.specs.entries.Table.{entry_count, excuse_of}
 use Rattle.theory.proofs.totals.Kept.{fresh_control_cell}
 use Rattle.requests.proofs.entries.Kept.{taken_kept, no_excuse}
-use Rattle.text.specs.declared.parsed.Parsed.{Parsed}
 use Rattle.text.specs.ReportLines.{line_for, excused_for, partner_in}
 use Rattle.text.specs.Report.{said_beside, state_after}
 
@@ -30,9 +30,9 @@ said_plain n r s m e = rw (no_excuse s r (partner_in m) e) (plain m)
     plain (judges number Clear partner) = refl
     plain (judges number Doubt partner) = refl
 
-pub none_after : (s : State) (p : Parsed) → NoEntries s → NoEntries (state_after s p)
-none_after s Parsed.Nothing e = e
-none_after s (Parsed.Record r) e = taken_kept s r ∙ e
+pub none_after : (s : State) (p : Option Record) → NoEntries s → NoEntries (state_after s p)
+none_after s None e = e
+none_after s (Some r) e = taken_kept s r ∙ e
 
 pub none_fresh : NoEntries fresh_state
 unfolding fresh_state

@@ -10,9 +10,11 @@ use mathlib.Core.Bool.{Bool, true, false}
 use lib.Dec.{leb, eqb}
 use borrow.Author.Tests.{leb-true, leb-false, eqb-false}
 use native.Mathlib.Numerals.{add-one}
+use Rattle.std.proofs.lemmas.List.{take_min}
+use Rattle.std.specs.Prelude.{Option}
+use Rattle.theory.specs.declared.record.Record.{Record}
 use Rattle.theory.specs.declared.state.State.{State}
 use Rattle.theory.specs.feeding.Step.{fresh_state}
-use Rattle.text.specs.declared.parsed.Parsed.{Parsed}
 use Rattle.text.specs.declared.progress.Progress.{Progress}
 use Rattle.text.specs.Bytes.{up_to, after}
 use Rattle.text.specs.Lines.{lf, line_room, lines_of, line_end}
@@ -40,16 +42,6 @@ take_past n a b h =
 -- a list has n elements before place n, if it has so many
 pub length_taken : (n : ℕ) (l : List ℕ) → n ≤ length l → n ≡ length (take n l)
 length_taken n l h = omega (arith, length-take n l)
-
-pub take_min : (n : ℕ) (s : List ℕ) → take (min n (length s)) s ≡ take n s
-take_min n s = picked (leb n (length s)) refl
-  where
-    picked : (t : Bool) → leb n (length s) ≡ t → take (min n (length s)) s ≡ take n s
-    picked true e = let q : min n (length s) ≡ n = omega (arith, leb-true n (length s) e) in ap (λ (k : ℕ). take k s) q
-    picked false e =
-        let h = leb-false n (length s) e in
-        let q : min n (length s) ≡ length s = omega arith in
-        ap (λ (k : ℕ). take k s) q ∙ take-length s ∙ sym (take_all n s (omega arith))
 
 -- what stands at the start, written there, changes nothing
 pub sets_same : (l : List ℕ) (n : ℕ) → sets l 0 (take n l) ≡ l
@@ -293,7 +285,7 @@ unfolding lines_said lines_after
 line_answered h {out} {out'} {at} {n} {to = to} {s} a =
     record {
       room = omega (arith, a.room);
-      wrote = subst (λ (z : List ℕ). Wrote out at z out' to) (append-nil _ ∙ ap₂ (λ (k : ℕ) (p : Parsed). said_for k s p) (sym (add-one n)) (parse_held h)) a.wrote;
+      wrote = subst (λ (z : List ℕ). Wrote out at z out' to) (append-nil _ ∙ ap₂ (λ (k : ℕ) (p : Option Record). said_for k s p) (sym (add-one n)) (parse_held h)) a.wrote;
       fed = a.fed ∙ ap (state_after s) (parse_held h);
     }
 

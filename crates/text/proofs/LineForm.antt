@@ -9,9 +9,8 @@ use native.Mathlib.Omega.{arith}
 use lib.ListN.{length, get_or, take, drop, drop_of_length-le, length-drop}
 use lib.Seq.{drop-cons, take_all}
 use borrow.Author.Tests.{lt-ltb, le-ltb, ne_eqb}
+use Rattle.std.specs.Prelude.{Option, Some, None}
 use Rattle.theory.specs.order.Recording.{loss_mark}
-use Rattle.text.specs.declared.number.Number.{Number}
-use Rattle.text.specs.declared.parsed.Parsed.{Parsed}
 use Rattle.text.specs.Bytes.{index_of, up_to, after, starts_with, is_word}
 use Rattle.text.specs.LineForm.{words, op_name, task_name, on_name, space, place_of, named_kind, field_by, field_of, parse_act, parse_mark, rest_of, parse_of}
 
@@ -55,11 +54,11 @@ no_op s e = rw e
 
 -- Fields
 
-module _ (read : List ℕ → Number) (name s : List ℕ) where
+module _ (read : List ℕ → Option ℕ) (name s : List ℕ) where
   pub named : starts_with name s ≡ true → field_by read name s ≡ read (drop (length name) s)
   named e = rw e
 
-  pub unnamed : starts_with name s ≡ false → field_by read name s ≡ Number.Nothing
+  pub unnamed : starts_with name s ≡ false → field_by read name s ≡ None
   unnamed e = rw e
 
 -- Parts: what the code hands on from a place p of s to its end is what stands from there on
@@ -75,18 +74,18 @@ module _ (s : List ℕ) (e p : ℕ) (cut : e ≡ 0 + index_of space s) where
   pub cut_after : drop p s ≡ drop (suc e) s → take (length s - p) (drop p s) ≡ after space s
   cut_after h = let q : e ≡ index_of space s = omega arith in part_from s p ∙ h ∙ ap (λ (k : ℕ). drop (suc k) s) q
 
-  pub act_no_task : (k : ℕ) → field_of task_name (take e s) ≡ Number.Nothing → parse_act k s ≡ Parsed.Nothing
+  pub act_no_task : (k : ℕ) → field_of task_name (take e s) ≡ None → parse_act k s ≡ None
   unfolding parse_act
   act_no_task k f = rw (← cut_before, f)
 
   module _ (next : drop p s ≡ drop (suc e) s) where
-    pub act_no_on : (k t : ℕ) → field_of task_name (take e s) ≡ Number.Value t → field_of on_name (take (length s - p) (drop p s)) ≡ Number.Nothing
-        → parse_act k s ≡ Parsed.Nothing
+    pub act_no_on : (k t : ℕ) → field_of task_name (take e s) ≡ Some t → field_of on_name (take (length s - p) (drop p s)) ≡ None
+        → parse_act k s ≡ None
     unfolding parse_act
     act_no_on k t f g = rw (← cut_before, ← cut_after next, f, g)
 
-    pub act_whole : (k t n : ℕ) → field_of task_name (take e s) ≡ Number.Value t → field_of on_name (take (length s - p) (drop p s)) ≡ Number.Value n
-        → parse_act k s ≡ Parsed.Record (record { kind = k; task = t; on = n })
+    pub act_whole : (k t n : ℕ) → field_of task_name (take e s) ≡ Some t → field_of on_name (take (length s - p) (drop p s)) ≡ Some n
+        → parse_act k s ≡ Some (record { kind = k; task = t; on = n })
     unfolding parse_act
     act_whole k t n f g = rw (← cut_before, ← cut_after next, f, g)
 
@@ -103,5 +102,5 @@ module _ (k : ℕ) (s : List ℕ) where
   pub rest_mark : k ≡ loss_mark → rest_of k s ≡ parse_mark s
   rest_mark h = rw h
 
-  pub rest_none : length words ≤ k → rest_of k s ≡ Parsed.Nothing
+  pub rest_none : length words ≤ k → rest_of k s ≡ None
   rest_none h = rw (le-ltb k (length words) h)

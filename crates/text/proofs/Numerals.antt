@@ -10,7 +10,8 @@ use lib.Dec.{leb, ltb, eqb}
 use lib.ListN.{length, get_or, drop, drop_of_length-le}
 use lib.Seq.{drop-cons}
 use borrow.Author.Tests.{leb-true, eqb-true, le-leb, lt-leb, lt-ltb, le-ltb, eq-eqb, ne_eqb, eqb-false, not-true}
-use Rattle.text.specs.declared.number.Number.{Number}
+use Rattle.std.proofs.lemmas.Option.{none-some}
+use Rattle.std.specs.Prelude.{Option, Some, None}
 use Rattle.text.specs.LineForm.{digits, is_digit, is_plain, read_digits, read_decimal}
 use Rattle.text.specs.Printing.{last_digit, last_digits, decimal}
 use Rattle.text.proofs.Bytes.{and_true}
@@ -39,11 +40,11 @@ module _ (v : ℕ) (s : List ℕ) (i : ℕ) where
   unfolding read_digits
   read_digit h e = rw (add-one i, drop-cons s i 0 h, e)
 
-  pub read_other : i < length s → is_digit (get_or s i 0) ≡ false → read_digits v (drop i s) ≡ Number.Nothing
+  pub read_other : i < length s → is_digit (get_or s i 0) ≡ false → read_digits v (drop i s) ≡ None
   unfolding read_digits
   read_other h e = rw (drop-cons s i 0 h, e)
 
-  pub read_all : length s ≤ i → read_digits v (drop i s) ≡ Number.Value v
+  pub read_all : length s ≤ i → read_digits v (drop i s) ≡ Some v
   unfolding read_digits
   read_all h = rw (drop_of_length-le s h)
 
@@ -80,13 +81,13 @@ module _ (s : List ℕ) where
   unfolding read_decimal
   decimal_plain e = rw e
 
-  pub decimal_other : is_plain s ≡ false → read_decimal s ≡ Number.Nothing
+  pub decimal_other : is_plain s ≡ false → read_decimal s ≡ None
   unfolding read_decimal
   decimal_other e = rw e
 
 -- One or two bytes: the first counts ten times where it is not the last
 
-nothing : (t : Bool) → cond t Number.Nothing Number.Nothing ≡ Number.Nothing
+nothing : (t : Bool) → cond {A = Option ℕ} t None None ≡ None
 nothing true = refl
 nothing false = refl
 
@@ -102,21 +103,21 @@ short_fits (a ∷ []) k d e = omega (arith, d)
 short_fits (a ∷ (b ∷ [])) k d e = omega (arith, d, e)
 short_fits (a ∷ (b ∷ (c ∷ s))) k d e = absurd (omega arith)
 
-pub short_first : (s : List ℕ) → 0 < length s → length s ≤ 2 → is_digit (get_or s 0 0) ≡ false → read_decimal s ≡ Number.Nothing
+pub short_first : (s : List ℕ) → 0 < length s → length s ≤ 2 → is_digit (get_or s 0 0) ≡ false → read_decimal s ≡ None
 unfolding read_decimal is_plain read_digits
 short_first [] h k e = absurd (omega arith)
 short_first (a ∷ []) h k e = rw e
 short_first (a ∷ (b ∷ [])) h k e = rw e (nothing (not (eqb a 48)))
 short_first (a ∷ (b ∷ (c ∷ s))) h k e = absurd (omega arith)
 
-pub short_last : (s : List ℕ) → 0 < length s → length s ≤ 2 → is_digit (get_or s 0 0) ≡ true → is_digit (get_or s (length s - 1) 0) ≡ false → read_decimal s ≡ Number.Nothing
+pub short_last : (s : List ℕ) → 0 < length s → length s ≤ 2 → is_digit (get_or s 0 0) ≡ true → is_digit (get_or s (length s - 1) 0) ≡ false → read_decimal s ≡ None
 unfolding read_decimal is_plain read_digits
 short_last [] h k d e = absurd (omega arith)
 short_last (a ∷ []) h k d e = rw e
 short_last (a ∷ (b ∷ [])) h k d e = rw (d, e) (nothing (not (eqb a 48)))
 short_last (a ∷ (b ∷ (c ∷ s))) h k d e = absurd (omega arith)
 
-pub short_low : (s : List ℕ) → 0 < length s → length s ≤ 2 → Digit (get_or s 0 0) → short_value s < short_least s → read_decimal s ≡ Number.Nothing
+pub short_low : (s : List ℕ) → 0 < length s → length s ≤ 2 → Digit (get_or s 0 0) → short_value s < short_least s → read_decimal s ≡ None
 unfolding read_decimal is_plain read_digits
 short_low [] h k d l = absurd (omega arith)
 short_low (a ∷ []) h k d l = absurd (omega arith)
@@ -124,23 +125,23 @@ short_low (a ∷ (b ∷ [])) h k d l = rw (eq-eqb a 48 (omega (arith, d)))
 short_low (a ∷ (b ∷ (c ∷ s))) h k d l = absurd (omega arith)
 
 pub short_read : (s : List ℕ) → 0 < length s → length s ≤ 2 → is_digit (get_or s 0 0) ≡ true → is_digit (get_or s (length s - 1) 0) ≡ true
-    → short_least s ≤ short_value s → read_decimal s ≡ Number.Value (short_value s)
+    → short_least s ≤ short_value s → read_decimal s ≡ Some (short_value s)
 unfolding read_decimal is_plain read_digits
 short_read [] h k d e l = absurd (omega arith)
-short_read (a ∷ []) h k d e l = rw d (ap Number.Value (omega arith))
+short_read (a ∷ []) h k d e l = rw d (ap Some (omega arith))
 short_read (a ∷ (b ∷ [])) h k d e l =
-    rw (ne_eqb a 48 (λ q. omega (arith, q, l, a_digit b e)), d, e) (ap Number.Value (omega arith))
+    rw (ne_eqb a 48 (λ q. omega (arith, q, l, a_digit b e)), d, e) (ap Some (omega arith))
 short_read (a ∷ (b ∷ (c ∷ s))) h k d e l = absurd (omega arith)
 
 -- Reading and printing
 
 -- a number that a test lets through
-pub let_through : (t : Bool) (x : Number) (n : ℕ) → cond t x Number.Nothing ≡ Number.Value n → (t ≡ true) × (x ≡ Number.Value n)
+pub let_through : (t : Bool) (x : Option ℕ) (n : ℕ) → cond t x None ≡ Some n → (t ≡ true) × (x ≡ Some n)
 let_through true x n e = (refl, e)
-let_through false x n e = absurd (let z : ◌≡◌ {A = ℕ} 0 1 = cc in omega arith)
+let_through false x n e = absurd (none-some n e)
 
 -- what was read before the digits is what stands above them
-pub read_above : (v n : ℕ) (s : List ℕ) → read_digits v s ≡ Number.Value n → n / 10 ^ length s ≡ v
+pub read_above : (v n : ℕ) (s : List ℕ) → read_digits v s ≡ Some n → n / 10 ^ length s ≡ v
 unfolding read_digits
 read_above v n [] e = let q : v ≡ n = cc in div-one n ∙ sym q
 read_above v n (b ∷ s) e =
@@ -150,7 +151,7 @@ read_above v n (b ∷ s) e =
     divide_more n (length s) ∙ rw h (omega arith)
 
 -- what was read is printed again
-pub read_printed : (v n : ℕ) (s : List ℕ) → read_digits v s ≡ Number.Value n → s ≡ last_digits (length s) n
+pub read_printed : (v n : ℕ) (s : List ℕ) → read_digits v s ≡ Some n → s ≡ last_digits (length s) n
 unfolding read_digits last_digits
 read_printed v n [] e = refl
 read_printed v n (b ∷ s) e =
@@ -164,9 +165,9 @@ is_digit_lem : (b : ℕ) → 48 ≤ b → b ≤ 57 → is_digit b ≡ true
 is_digit_lem b h k = rw (le-leb 48 b h, le-leb b 57 k)
 
 -- what was printed is read again, after what stands above it
-pub printed_read : (v n k : ℕ) → v ≡ n / 10 ^ k → read_digits v (last_digits k n) ≡ Number.Value n
+pub printed_read : (v n k : ℕ) → v ≡ n / 10 ^ k → read_digits v (last_digits k n) ≡ Some n
 unfolding read_digits last_digits
-printed_read v n zero e = ap Number.Value (e ∙ div-one n)
+printed_read v n zero e = ap Some (e ∙ div-one n)
 printed_read v n (suc k) e =
     let q : v * 10 + (last_digit (n / 10 ^ k) - 48) ≡ n / 10 ^ k = omega (arith, divide_more n k) in
     rw (is_digit_lem (last_digit (n / 10 ^ k)) (omega arith) (omega arith)) (printed_read (v * 10 + (last_digit (n / 10 ^ k) - 48)) n k q)
@@ -189,7 +190,7 @@ printed_plain n (suc k) h u l =
     ∙ ap not (ne_eqb (last_digit (n / 10 ^ suc k)) 48 (first_digit n (suc k) (l (omega arith)) u))
 
 -- the text of a number is read as that number
-pub decimal_read : (n : ℕ) → n < 10 ^ digits → read_decimal (decimal n) ≡ Number.Value n
+pub decimal_read : (n : ℕ) → n < 10 ^ digits → read_decimal (decimal n) ≡ Some n
 unfolding decimal
 decimal_read n h =
     let (w, f, g) = fits_digits (digits - 1) n h in
@@ -203,23 +204,23 @@ plain_first b s e h =
     eqb-false b 48 (not-true (eqb b 48) (sym (plain_some (b ∷ s) (omega arith) f) ∙ e))
 
 -- so that the number fills its digits
-first_counts : (b : ℕ) (s : List ℕ) (n : ℕ) → is_plain (b ∷ s) ≡ true → read_digits 0 (b ∷ s) ≡ Number.Value n → 0 < length s → 10 ^ length s ≤ n
+first_counts : (b : ℕ) (s : List ℕ) (n : ℕ) → is_plain (b ∷ s) ≡ true → read_digits 0 (b ∷ s) ≡ Some n → 0 < length s → 10 ^ length s ≤ n
 unfolding read_digits
 first_counts b s n p f h =
     let (d, g) = let_through (is_digit b) (read_digits (0 * 10 + (b - 48)) s) n f in
     let q : n / 10 ^ length s ≡ 0 * 10 + (b - 48) = read_above (0 * 10 + (b - 48)) n s g in
     some_above n (length s) (omega (arith, a_digit b d, plain_first b s p h))
 
-no_number : (n : ℕ) → read_decimal [] ≡ Number.Value n → ⊥
+no_number : (n : ℕ) → read_decimal [] ≡ Some n → ⊥
 unfolding read_decimal is_plain
-no_number n e = let z : ◌≡◌ {A = ℕ} 0 1 = cc in omega arith
+no_number n e = none-some n e
 
 -- what is read as a number is the text of that number, which has at most 5 digits
 pub record Printed (s : List ℕ) (n : ℕ) : Type 0 where
   pub is : s ≡ decimal n
   pub short : n < 10 ^ digits
 
-pub read_decimal_lem : (s : List ℕ) (n : ℕ) → read_decimal s ≡ Number.Value n → Printed s n
+pub read_decimal_lem : (s : List ℕ) (n : ℕ) → read_decimal s ≡ Some n → Printed s n
 unfolding read_decimal decimal
 read_decimal_lem [] n e = absurd (no_number n e)
 read_decimal_lem (b ∷ s) n e =

@@ -1,14 +1,15 @@
 -- The op of a line by its first eight bytes, and where it ends. Assumes nothing.
 use mathlib.Core.Path.{◌≡◌, refl, sym, ap, ap₂, subst, ◌∙◌}
-use mathlib.Core.List.{List, [], ◌∷◌, ◌++◌, map}
-use Prim.Native.Nat.{ℕ, zero, suc, ◌+◌, ◌-◌, ◌≤◌, ◌<◌}
+use mathlib.Core.List.{List, [], ◌++◌, map}
+use Prim.Native.Nat.{ℕ, ◌+◌, ◌-◌, ◌≤◌, ◌<◌}
 use native.Mathlib.Omega.{arith}
 use lib.ListN.{length, get_or, take, drop, take-append-drop}
 use lib.Seq.{length-take-le, take-append-le}
 use borrow.Author.Tests.{leb-true, eqb-true}
 use lib.Dec.{leb, eqb}
+use Rattle.std.proofs.lemmas.List.{get_or-map}
+use Rattle.std.specs.Prelude.{None}
 use Rattle.theory.specs.basics.Turns.{turns}
-use Rattle.text.specs.declared.parsed.Parsed.{Parsed}
 use Rattle.text.specs.Bytes.{index_of, up_to, after, starts_with, is_word, little}
 use Rattle.text.specs.LineForm.{words, op_name, word_of, space, named_kind, rest_of, parse_of}
 use Rattle.text.specs.Places.{StandsAt, opening, kind_opening, op_bytes}
@@ -18,12 +19,6 @@ use Rattle.text.proofs.Places.{says_split, says_first, says_little}
 use Rattle.text.proofs.RoundTrip.{each_word, op_kind, op_is}
 
 -- The openings of the kinds
-
--- they stand in a table as the words do
-pub opening_at : (ws : List (List ℕ)) (k : ℕ) → k < length ws → get_or (map opening ws) k [] ≡ opening (get_or ws k [])
-opening_at [] k h = absurd (omega arith)
-opening_at (w ∷ ws) zero h = refl
-opening_at (w ∷ ws) (suc k) h = opening_at ws k (omega arith)
 
 module _ (k : ℕ) (h : k < length words) where
   opening_below : Below 256 (kind_opening k)
@@ -36,7 +31,7 @@ module _ (k : ℕ) (h : k < length words) where
 
   -- and so in the table
   pub opening_room : length (get_or (map opening words) k []) ≡ 8
-  opening_room = ap length (opening_at words k h) ∙ opening_long
+  opening_room = ap length (get_or-map opening words k [] [] h) ∙ opening_long
 
   opening_op : take (length (op_name ++ word_of k)) (kind_opening k) ≡ op_name ++ word_of k
   unfolding turns is_word starts_with
@@ -62,7 +57,7 @@ module _ (k : ℕ) (h : k < length words) where
 
   pub opening_word : (e : ℕ) → e ≡ op_bytes (get_or (map opening words) k []) → take (e - 3) (drop 3 (get_or (map opening words) k [])) ≡ word_of k
   opening_word e q =
-      ap₂ (λ (n : ℕ) (o : List ℕ). take (n - 3) (drop 3 o)) (q ∙ ap op_bytes (opening_at words k h) ∙ op_bytes_lem) (opening_at words k h) ∙ opening_rest
+      ap₂ (λ (n : ℕ) (o : List ℕ). take (n - 3) (drop 3 o)) (q ∙ ap op_bytes (get_or-map opening words k [] [] h) ∙ op_bytes_lem) (get_or-map opening words k [] [] h) ∙ opening_rest
 
 -- The op
 
@@ -101,6 +96,6 @@ op_ends s k e h =
     let q : up_to space s ≡ op_name ++ word_of k = rw e (op_is (up_to space s) (subst (λ (j : ℕ). j < length words) e h)) in
     omega (arith, ap length q, length-take-le (index_of space s) s (index_fits space s))
 
-pub no_op_read : (s : List ℕ) (k : ℕ) → k ≡ named_kind (up_to space s) → length words ≤ k → parse_of s ≡ Parsed.Nothing
+pub no_op_read : (s : List ℕ) (k : ℕ) → k ≡ named_kind (up_to space s) → length words ≤ k → parse_of s ≡ None
 unfolding parse_of
 no_op_read s k e h = ap (λ (j : ℕ). rest_of j (after space s)) (sym e) ∙ rest_none k (after space s) h

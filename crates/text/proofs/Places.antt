@@ -4,13 +4,13 @@ use mathlib.Core.List.{List, [], ◌∷◌, ◌++◌, append_assoc}
 use Prim.Native.Nat.{ℕ, suc, ◌+◌, ◌≤◌, ◌<◌}
 use native.Mathlib.Omega.{arith}
 use lib.ListN.{length, get_or, take, drop, take-append-drop, length-drop, length-append}
-use lib.Seq.{drop-cons, drop-drop, take_all, length-take-le}
-use Rattle.text.specs.declared.number.Number.{Number}
+use lib.Seq.{take-append_seam, drop-append_seam, drop-cons, drop-drop, take_all, length-take-le}
+use Rattle.std.specs.Prelude.{Some}
 use Rattle.text.specs.Bytes.{little}
 use Rattle.text.specs.LineForm.{read_decimal}
 use Rattle.text.specs.Printing.{decimal}
 use Rattle.text.specs.Places.{StandsAt, FieldAt}
-use Rattle.text.proofs.Bytes.{take_seam, word_dropped, Below, below_take, below_drop, little_same}
+use Rattle.text.proofs.Bytes.{Below, below_take, below_drop, little_same}
 use Rattle.text.proofs.Numerals.{read_decimal_lem}
 
 -- the text from the place on is the word and what follows it, and the other way
@@ -18,7 +18,7 @@ pub says_split : {s : List ℕ} {at : ℕ} {w : List ℕ} → StandsAt s at w �
 says_split {s} {at} {w} h = sym (take-append-drop (length w) (drop at s)) ∙ ap₂ (λ (x : List ℕ) (y : List ℕ). x ++ y) h.is (drop-drop (length w) at s)
 
 says_made : (s : List ℕ) (at : ℕ) (w rest : List ℕ) → drop at s ≡ w ++ rest → StandsAt s at w
-says_made s at w rest e = record { is = ap (take (length w)) e ∙ take_seam w rest }
+says_made s at w rest e = record { is = ap (take (length w)) e ∙ take-append_seam w rest }
 
 -- two words, one after the other
 pub says_both : (s : List ℕ) (at to : ℕ) (w v : List ℕ) → to ≡ at + length w → StandsAt s at w → StandsAt s to v → StandsAt s at (w ++ v)
@@ -39,7 +39,7 @@ module _ (s : List ℕ) (at : ℕ) (w v : List ℕ) (h : StandsAt s at (w ++ v))
   pub says_last : (to : ℕ) → to ≡ at + length w → StandsAt s to v
   says_last to q =
       says_made s to v (drop (at + length (w ++ v)) s)
-      (ap (λ (i : ℕ). drop i s) q ∙ sym (drop-drop (length w) at s) ∙ ap (drop (length w)) both ∙ word_dropped w rest)
+      (ap (λ (i : ℕ). drop i s) q ∙ sym (drop-drop (length w) at s) ∙ ap (drop (length w)) both ∙ drop-append_seam w rest)
 
 -- one byte
 pub says_byte : (s : List ℕ) (at b : ℕ) → at < length s → get_or s at 0 ≡ b → StandsAt s at (b ∷ [])
@@ -59,7 +59,7 @@ says_four s at w h l a b e =
     says_little s at w (omega arith) a b (ap (λ (n : ℕ). little (take n (drop at s))) l ∙ e ∙ ap little (take_all 4 w (omega arith)))
 
 -- a number that is read from a part, after a name of so many bytes
-pub field_stands : (s : List ℕ) (at name n m v : ℕ) → m ≡ n → at + name + n ≤ length s → read_decimal (take m (drop (at + name) s)) ≡ Number.Value v
+pub field_stands : (s : List ℕ) (at name n m v : ℕ) → m ≡ n → at + name + n ≤ length s → read_decimal (take m (drop (at + name) s)) ≡ Some v
     → (w : List ℕ) → length w ≡ name → StandsAt s at w → FieldAt s at w v (name + n)
 field_stands s at name n m v z h e w q k =
     let d : ℕ = at + name in

@@ -2,13 +2,14 @@
 use mathlib.Core.Path.{◌≡◌, refl, sym, ap, ap₂, ◌∙◌}
 use mathlib.Core.Bool.{Bool, true, false}
 use mathlib.Core.List.{List, [], ◌∷◌, ◌++◌}
-use Prim.Native.Nat.{ℕ, zero, suc, ◌+◌, ◌-◌, ◌≤◌, ◌<◌, min}
-use native.Mathlib.Nat.{min-zero, suc-min-suc}
+use Prim.Native.Nat.{ℕ, suc, ◌+◌, ◌-◌, ◌≤◌, ◌<◌}
+use native.Mathlib.Nat.{min_comm}
 use native.Mathlib.Omega.{arith}
 use lib.Dec.{leb}
 use lib.ListN.{length, take, drop, get_or, length-append, length-drop, take-append-drop, drop_of_length-le}
-use lib.Seq.{take_all, take-nil, drop-nil, drop-drop, length-take-le, take-append-le, drop-append-le, get_or-take, get_or-drop}
+use lib.Seq.{take_all, take-nil, drop-drop, length-take-le, take-append-le, drop-append-le, get_or-take, get_or-drop}
 use borrow.Author.Tests.{leb-true, leb-false}
+use Rattle.std.proofs.lemmas.List.{drop_min}
 use Rattle.text.specs.Bytes.{index_of}
 use Rattle.text.specs.Lines.{lf, lines_of, line_end}
 use Rattle.text.specs.Reading.{line_at, place_after, next_at, LineStarts, ReadsLines}
@@ -26,12 +27,6 @@ unfolding line_at
 line_past s at h =
     rw (drop_of_length-le s {i = length s} (omega arith), drop_of_length-le s {i = at} h) (take-nil (length s - length s) ∙ sym (take-nil (line_end [])))
 
--- what follows a place is what follows it within the text
-drop_min : (s : List ℕ) (k : ℕ) → drop (min (length s) k) s ≡ drop k s
-drop_min [] k = drop-nil (min 0 k) ∙ sym (drop-nil k)
-drop_min (x ∷ s) zero = rw (min-zero (suc (length s)))
-drop_min (x ∷ s) (suc k) = rw (suc-min-suc (length s) k) (drop_min s k)
-
 line_length : (s : List ℕ) (at : ℕ) → length (line_at s at) ≡ line_end (drop at s)
 unfolding line_at
 line_length s at = length-take-le (line_end (drop at s)) (drop at s) (index_fits lf (drop at s))
@@ -45,7 +40,7 @@ next_place s at h = omega (arith, line_length s at)
 rest_after : (s : List ℕ) (at : ℕ) → drop (next_at s at) s ≡ drop (suc (line_end (drop at s))) (drop at s)
 unfolding place_after
 rest_after s at =
-    drop_min s (at + suc (length (line_at s at)))
+    ap (λ (k : ℕ). drop k s) (min_comm (length s) (at + suc (length (line_at s at)))) ∙ drop_min (at + suc (length (line_at s at))) s
     ∙ (ap (λ (k : ℕ). drop (at + suc k) s) (line_length s at) ∙ sym (drop-drop (suc (line_end (drop at s))) at s))
 
 pub reads_lines : ReadsLines

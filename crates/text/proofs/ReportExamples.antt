@@ -5,6 +5,7 @@ use Rattle.theory.specs.order.Limits.{records}
 use Rattle.theory.specs.order.Recording.{Op, kind}
 use Rattle.theory.specs.declared.record.Record.{Record}
 use Rattle.theory.specs.declared.answer.Answer.TheVariants.{Refused, Accepted, Clear, Race, Doubt}
+use Rattle.theory.specs.declared.refusal.Refusal.TheVariants.{TaskNotLive}
 use Rattle.text.specs.Printing.{bytes, last_digits, width_in, width, decimal, record_text}
 use Rattle.text.specs.ReportLines.{refused_as, access_part, access_line, report_line}
 
@@ -26,7 +27,7 @@ race : report_line 7 (record_of_lem Op.read 1 6) (Race (record { 0 = 7 }) (recor
 unfolding access_part access_line decimal width width_in last_digits
 race = refl
 
-refused : report_line 10 (record_of_lem Op.read 2 5) (Refused 6) ≡ bytes "line=10 refused=6\n"
+refused : report_line 10 (record_of_lem Op.read 2 5) (Refused TaskNotLive) ≡ bytes "line=10 refused=6\n"
 unfolding refused_as decimal width width_in last_digits
 refused = refl
 

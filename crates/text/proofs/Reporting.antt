@@ -6,8 +6,9 @@ use native.Mathlib.Numerals.{add-one}
 use native.Mathlib.Omega.{arith}
 use lib.ListN.{length, take, drop, get_or, length-append, length-take, length-drop, drop_of_length-le}
 use lib.Seq.{sets, drop-drop, drop-cons}
+use Rattle.std.specs.Prelude.{Option}
+use Rattle.theory.specs.declared.record.Record.{Record}
 use Rattle.theory.specs.declared.state.State.{State}
-use Rattle.text.specs.declared.parsed.Parsed.{Parsed}
 use Rattle.text.specs.Lines.{lf, line_room, lines_of, line_end}
 use Rattle.text.specs.LineForm.{parse_of}
 use Rattle.text.specs.Answers.{LineAnswered, stateFrom, LinesAnswered}
@@ -22,7 +23,7 @@ use Rattle.text.proofs.Wrote.{sets_append}
 -- One line
 
 -- a line was answered, and others are still to be: together they are what was to be said
-module _ {report report' : List ℕ} {at to : ℕ} {s s' : State} {parsed : Parsed} (n : ℕ) (line : List ℕ) (ls : List (List ℕ))
+module _ {report report' : List ℕ} {at to : ℕ} {s s' : State} {parsed : Option Record} (n : ℕ) (line : List ℕ) (ls : List (List ℕ))
     (e : parsed ≡ parse_of line) (a : LineAnswered (record { entry = report; exit = report' }) at (n + 1) (record { entry = s; exit = s' }) parsed to) where
   abbrev rest : List ℕ
   rest = report_from (suc (n + 1)) s' ls
@@ -72,7 +73,7 @@ module _ {text : List ℕ} {end : ℕ} {memory : List ℕ} {start : ℕ} {s₀ :
     left_number w h = omega (arith, x.counts, ap length (lines_within text end p w h))
 
     -- the next line is answered
-    pub left_taken : {report' : List ℕ} {parsed : Parsed} {p' to : ℕ} {s' : State} → LineStarts text end → p < end
+    pub left_taken : {report' : List ℕ} {parsed : Option Record} {p' to : ℕ} {s' : State} → LineStarts text end → p < end
         → parsed ≡ parse_of (line_at text p) → p' ≡ next_at text p
         → LineAnswered (record { entry = report; exit = report' }) at (n + 1) (record { entry = s; exit = s' }) parsed to
         → Left text end memory start s₀ n₀ p₀ report' to s' (n + 1) p'

@@ -6,18 +6,19 @@ use Prim.Native.Nat.{ℕ, zero, suc, ◌/◌, ◌^◌, ◌≤◌, ◌<◌}
 use native.Mathlib.Omega.{arith}
 use lib.Dec.{leb, ltb, eqb}
 use lib.ListN.{length, get_or, drop, length-append}
+use lib.Seq.{drop-append_seam}
 use borrow.Author.Tests.{leb-true, ltb-true, eqb-true, eqb-false, ne_eqb, not-false}
+use Rattle.std.proofs.lemmas.Option.{none-some}
+use Rattle.std.specs.Prelude.{Option, Some, None}
 use Rattle.theory.specs.declared.record.Record.{Record}
 use Rattle.theory.specs.basics.Turns.{turns, any_below}
 use Rattle.theory.specs.order.Recording.{loss_mark}
 use Rattle.theory.proofs.acceptance.Rows.{none_below}
-use Rattle.text.specs.declared.number.Number.{Number}
-use Rattle.text.specs.declared.parsed.Parsed.{Parsed}
 use Rattle.text.specs.Bytes.{index_of, up_to, after, starts_with, is_word}
 use Rattle.text.specs.LineForm.{digits, read_decimal, words, op_name, task_name, on_name, tasks_name, space, place_of, named_kind, field_by, field_of, act_record, mark_record}
 use Rattle.text.specs.LineForm.{parse_act, parse_mark, rest_of, parse_of, word_of, text_of, Sayable, TextTaken, OnlyText, OnlySayable, LongRefused}
 use Rattle.text.specs.Printing.{last_digit, last_digits, width, decimal}
-use Rattle.text.proofs.Bytes.{Without, without_cons, without_append, before_seam, after_seam, joined, word_split, word_starts, word_dropped, is_the_word}
+use Rattle.text.proofs.Bytes.{Without, without_cons, without_append, before_seam, after_seam, joined, word_split, word_starts, is_the_word}
 use Rattle.text.proofs.Digits.{decimal_fits}
 use Rattle.text.proofs.Numerals.{let_through, decimal_read, read_decimal_lem}
 use Rattle.text.proofs.LineForm.{rest_act}
@@ -25,7 +26,7 @@ use Rattle.text.proofs.LineForm.{rest_act}
 -- What is taken
 
 -- a field is its name and what is read
-pub field_by_lem : (read : List ℕ → Number) (name s : List ℕ) (n : ℕ) → field_by read name s ≡ Number.Value n → (t : List ℕ) × (s ≡ name ++ t) × (read t ≡ Number.Value n)
+pub field_by_lem : (read : List ℕ → Option ℕ) (name s : List ℕ) (n : ℕ) → field_by read name s ≡ Some n → (t : List ℕ) × (s ≡ name ++ t) × (read t ≡ Some n)
 field_by_lem read name s n e =
     let (f, g) = let_through (starts_with name s) (read (drop (length name) s)) n e in
     (drop (length name) s, word_split name s f, g)
@@ -35,7 +36,7 @@ pub record FieldRead (name s : List ℕ) (n : ℕ) : Type 0 where
   pub is : s ≡ name ++ decimal n
   pub short : n < 10 ^ digits
 
-pub field_is : (name s : List ℕ) (n : ℕ) → field_of name s ≡ Number.Value n → FieldRead name s n
+pub field_is : (name s : List ℕ) (n : ℕ) → field_of name s ≡ Some n → FieldRead name s n
 unfolding field_of
 field_is name s n e =
     let (t, f, g) = field_by_lem read_decimal name s n e in
@@ -89,9 +90,9 @@ record Said (s : List ℕ) (r : Record) : Type 0 where
   is : s ≡ text_of r
   can : Sayable r
 
-act_said : (s : List ℕ) (k : ℕ) → k ≡ named_kind (up_to space s) → k < length words → (k ≡ loss_mark → ⊥) → (x y : Number) → field_of task_name (up_to space (after space s)) ≡ x
-    → field_of on_name (after space (after space s)) ≡ y → (r : Record) → act_record k x y ≡ Parsed.Record r → Said s r
-act_said s k q l h (Number.Value t) (Number.Value n) f g r e =
+act_said : (s : List ℕ) (k : ℕ) → k ≡ named_kind (up_to space s) → k < length words → (k ≡ loss_mark → ⊥) → (x y : Option ℕ) → field_of task_name (up_to space (after space s)) ≡ x
+    → field_of on_name (after space (after space s)) ≡ y → (r : Record) → act_record k x y ≡ Some r → Said s r
+act_said s k q l h (Some t) (Some n) f g r e =
     let same : record { kind = k; task = t; on = n } ≡ r = cc in
     let w : up_to space s ≡ op_name ++ word_of k = rw q (op_is (up_to space s) (omega arith)) in
     let a = field_is task_name (up_to space (after space s)) t f in
@@ -100,12 +101,12 @@ act_said s k q l h (Number.Value t) (Number.Value n) f g r e =
       is = act_joined s k t n h w a.is b.is ∙ ap text_of same;
       can = subst Sayable same (record { kind_known = l; task_short = a.short; on_short = b.short; mark_alone = λ z. absurd (h z) });
     }
-act_said s k q l h (Number.Value t) Number.Nothing f g r e = absurd (let z : ◌≡◌ {A = ℕ} 0 1 = cc in omega arith)
-act_said s k q l h Number.Nothing y f g r e = absurd (let z : ◌≡◌ {A = ℕ} 0 1 = cc in omega arith)
+act_said s k q l h (Some t) None f g r e = absurd (none-some r e)
+act_said s k q l h None y f g r e = absurd (none-some r e)
 
-mark_said : (s : List ℕ) → named_kind (up_to space s) ≡ loss_mark → (x : Number) → field_of tasks_name (after space s) ≡ x
-    → (r : Record) → mark_record x ≡ Parsed.Record r → Said s r
-mark_said s q (Number.Value n) f r e =
+mark_said : (s : List ℕ) → named_kind (up_to space s) ≡ loss_mark → (x : Option ℕ) → field_of tasks_name (after space s) ≡ x
+    → (r : Record) → mark_record x ≡ Some r → Said s r
+mark_said s q (Some n) f r e =
     let same : record { kind = loss_mark; task = 0; on = n } ≡ r = cc in
     let w : up_to space s ≡ op_name ++ word_of loss_mark = op_is (up_to space s) (omega arith) ∙ ap (λ (k : ℕ). op_name ++ word_of k) q in
     let b = field_is tasks_name (after space s) n f in
@@ -113,18 +114,18 @@ mark_said s q (Number.Value n) f r e =
       is = mark_joined s 0 n w b.is ∙ ap text_of same;
       can = subst Sayable same (record { kind_known = omega arith; task_short = omega arith; on_short = b.short; mark_alone = λ z. refl });
     }
-mark_said s q Number.Nothing f r e = absurd (let z : ◌≡◌ {A = ℕ} 0 1 = cc in omega arith)
+mark_said s q None f r e = absurd (none-some r e)
 
-said : (s : List ℕ) (r : Record) → parse_of s ≡ Parsed.Record r → Said s r
+said : (s : List ℕ) (r : Record) → parse_of s ≡ Some r → Said s r
 unfolding parse_of parse_act parse_mark
 said s r e = picked (ltb (named_kind (up_to space s)) (length words)) refl (eqb (named_kind (up_to space s)) loss_mark) refl e
   where
     picked : (t : Bool) → ltb (named_kind (up_to space s)) (length words) ≡ t → (b : Bool) → eqb (named_kind (up_to space s)) loss_mark ≡ b
-        → cond t (cond b (parse_mark (after space s)) (parse_act (named_kind (up_to space s)) (after space s))) Parsed.Nothing ≡ Parsed.Record r → Said s r
+        → cond t (cond b (parse_mark (after space s)) (parse_act (named_kind (up_to space s)) (after space s))) None ≡ Some r → Said s r
     picked true f true g e = mark_said s (eqb-true (named_kind (up_to space s)) loss_mark g) (field_of tasks_name (after space s)) refl r e
     picked true f false g e = act_said s (named_kind (up_to space s)) refl (ltb-true (named_kind (up_to space s)) (length words) f) (eqb-false (named_kind (up_to space s)) loss_mark g)
         (field_of task_name (up_to space (after space s))) (field_of on_name (after space (after space s))) refl refl r e
-    picked false f b g e = absurd (let z : ◌≡◌ {A = ℕ} 0 1 = cc in omega arith)
+    picked false f b g e = absurd (none-some r e)
 
 pub only_text : OnlyText
 only_text s r e = (said s r e).is
@@ -168,16 +169,16 @@ text_short r h = picked (eqb r.kind loss_mark)
 pub long_refused : LongRefused
 long_refused s h = picked (parse_of s) refl
   where
-    picked : (p : Parsed) → parse_of s ≡ p → parse_of s ≡ Parsed.Nothing
-    picked (Parsed.Record r) e = absurd (omega (arith, ap length (only_text s r e), text_short r (only_sayable s r e)))
-    picked Parsed.Nothing e = e
+    picked : (p : Option Record) → parse_of s ≡ p → parse_of s ≡ None
+    picked (Some r) e = absurd (omega (arith, ap length (only_text s r e), text_short r (only_sayable s r e)))
+    picked None e = e
 
 -- The text of a record is taken
 
-pub field_read_by : (read : List ℕ → Number) (name t : List ℕ) (n : ℕ) → read t ≡ Number.Value n → field_by read name (name ++ t) ≡ Number.Value n
-field_read_by read name t n e = rw (word_starts name t, word_dropped name t) e
+pub field_read_by : (read : List ℕ → Option ℕ) (name t : List ℕ) (n : ℕ) → read t ≡ Some n → field_by read name (name ++ t) ≡ Some n
+field_read_by read name t n e = rw (word_starts name t, drop-append_seam name t) e
 
-pub field_read : (name : List ℕ) (n : ℕ) → n < 10 ^ digits → field_of name (name ++ decimal n) ≡ Number.Value n
+pub field_read : (name : List ℕ) (n : ℕ) → n < 10 ^ digits → field_of name (name ++ decimal n) ≡ Some n
 unfolding field_of
 field_read name n h = field_read_by read_decimal name (decimal n) n (decimal_read n h)
 
@@ -203,7 +204,7 @@ unfolding parse_act
 act_words k w s h = ap₂ (λ (x : List ℕ) (y : List ℕ). act_record k (field_of task_name x) (field_of on_name y)) (before_seam space w s h) (after_seam space w s h)
 
 act_taken : (k t n : ℕ) → k < length words → (k ≡ loss_mark → ⊥) → t < 10 ^ digits → n < 10 ^ digits
-    → parse_of (text_of (record { kind = k; task = t; on = n })) ≡ Parsed.Record (record { kind = k; task = t; on = n })
+    → parse_of (text_of (record { kind = k; task = t; on = n })) ≡ Some (record { kind = k; task = t; on = n })
 unfolding index_of
 act_taken k t n l h f g =
     let rest = (task_name ++ decimal t) ++ (space ∷ (on_name ++ decimal n)) in
@@ -215,7 +216,7 @@ act_taken k t n l h f g =
     ∙ ap₂ (act_record k) (field_read task_name t f) (field_read on_name n g)
 
 mark_taken : (n : ℕ) → n < 10 ^ digits
-    → parse_of (text_of (record { kind = loss_mark; task = 0; on = n })) ≡ Parsed.Record (record { kind = loss_mark; task = 0; on = n })
+    → parse_of (text_of (record { kind = loss_mark; task = 0; on = n })) ≡ Some (record { kind = loss_mark; task = 0; on = n })
 unfolding parse_mark
 mark_taken n h =
     let rest = tasks_name ++ decimal n in
@@ -227,10 +228,10 @@ mark_taken n h =
 pub text_taken : TextTaken
 text_taken r h = picked (eqb r.kind loss_mark) refl
   where
-    picked : (t : Bool) → eqb r.kind loss_mark ≡ t → parse_of (text_of r) ≡ Parsed.Record r
+    picked : (t : Bool) → eqb r.kind loss_mark ≡ t → parse_of (text_of r) ≡ Some r
     picked true e =
         let k : r.kind ≡ loss_mark = eqb-true r.kind loss_mark e in
         let z : r.task ≡ 0 = h.mark_alone k in
         let q : record { kind = loss_mark; task = 0; on = r.on } ≡ r = λ i. record { kind = sym k i; task = sym z i; on = r.on } in
-        subst (λ (x : Record). parse_of (text_of x) ≡ Parsed.Record x) q (mark_taken r.on h.on_short)
+        subst (λ (x : Record). parse_of (text_of x) ≡ Some x) q (mark_taken r.on h.on_short)
     picked false e = act_taken r.kind r.task r.on h.kind_known (eqb-false r.kind loss_mark e) h.task_short h.on_short

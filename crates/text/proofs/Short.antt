@@ -6,9 +6,9 @@ use native.Mathlib.Omega.{arith}
 use lib.ListN.{length, get_or, drop, length-append, length-drop}
 use borrow.Author.Tests.{eqb-true}
 use lib.Dec.{eqb}
+use Rattle.std.specs.Prelude.{Some}
 use Rattle.theory.specs.order.Recording.{loss_mark}
 use Rattle.theory.specs.basics.Turns.{turns}
-use Rattle.text.specs.declared.parsed.Parsed.{Parsed}
 use Rattle.text.specs.Bytes.{index_of}
 use Rattle.text.specs.Lines.{lf}
 use Rattle.text.specs.LineForm.{words, op_name, task_name, on_name, space, word_of, parse_of}
@@ -57,7 +57,7 @@ on_one_line n = field_one_line (space ∷ on_name) n refl
 -- an op, its two fields and LF make a line that says the record
 pub short_said : (s : List ℕ) (at k t n o a b e : ℕ) → (k ≡ loss_mark → ⊥) → OpAt s at k o → e ≡ at + o
     → FieldAt s e (space ∷ task_name) t a → FieldAt s (e + a) (space ∷ on_name) n b → e + a + b < length s → get_or s (e + a + b) 0 ≡ lf
-    → (parse_of (line_at s at) ≡ Parsed.Record (record { kind = k; task = t; on = n })) × (next_at s at ≡ e + a + b + 1)
+    → (parse_of (line_at s at) ≡ Some (record { kind = k; task = t; on = n })) × (next_at s at ≡ e + a + b + 1)
 short_said s at k t n o a b e d h q f g m i = (
   ap parse_of (line_says s at line stands whole ∙ sym (act_text k t n d))
       ∙ text_taken (record { kind = k; task = t; on = n })

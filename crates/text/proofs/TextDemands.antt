@@ -8,6 +8,8 @@ use native.Mathlib.Omega.{arith}
 use lib.ListN.{length, drop, length-append}
 use lib.Seq.{sets, sets-eq}
 use borrow.Author.Tests.{ltb-true, ltb-false}
+use Rattle.std.proofs.lemmas.Option.{none-some}
+use Rattle.std.specs.Prelude.{Option, Some, None}
 use Rattle.theory.specs.declared.record.Record.{Record}
 use Rattle.theory.specs.declared.state.State.{State}
 use Rattle.theory.specs.feeding.Meaning.{Meaning, refuses, meaning}
@@ -15,7 +17,6 @@ use Rattle.theory.specs.feeding.Step.{fresh_state}
 use Rattle.theory.specs.feeding.Feeding.{replies, by_clocks, checker_refusal, Handled, access_taken, other_taken}
 use Rattle.theory.specs.feeding.Feeding
 use Rattle.theory.proofs.feeding.Demanded.{clocks_demand1}
-use Rattle.text.specs.declared.parsed.Parsed.{Parsed}
 use Rattle.text.specs.Lines.{line_room, lines_of}
 use Rattle.text.specs.LineForm.{parse_of}
 use Rattle.text.specs.ReportLines.{word_for, refused_line, line_for, report_line}
@@ -43,18 +44,17 @@ module _ (n : ℕ) (s : State) (line : List ℕ) (r : Record) (form : TextForm l
       by_cases (other_taken e q m) = subst (Gives (by_clocks.next s r)) (sym m) (taken form e q m)
 
 module _ (line : List ℕ) where
-  pub parsed_none : parse_of line ≡ Parsed.Nothing → (r : Record) → ¬ TextForm line r
+  pub parsed_none : parse_of line ≡ None → (r : Record) → ¬ TextForm line r
   parsed_none e r f =
-      let q : Parsed.Nothing ≡ Parsed.Record r = sym e ∙ ap parse_of f.is_text ∙ text_taken r f.sayable in
-      absurd (let z : ◌≡◌ {A = ℕ} 0 1 = cc in omega arith)
+      none-some r (sym e ∙ ap parse_of f.is_text ∙ text_taken r f.sayable)
 
-  pub parsed_form : (r : Record) → parse_of line ≡ Parsed.Record r → TextForm line r
+  pub parsed_form : (r : Record) → parse_of line ≡ Some r → TextForm line r
   parsed_form r e = record { sayable = only_sayable line r e; is_text = only_text line r e }
 
-  line_got : (n : ℕ) (s : State) (p : Parsed) → NoEntries s → parse_of line ≡ p → LineGot n s line (state_after s p) (said_for n s p)
-  line_got n s Parsed.Nothing z e = no_record (parsed_none e)
-  line_got n s (Parsed.Record r) z e =
-      subst (LineGot n s line (by_clocks.next s r)) (sym (said_plain n r (by_clocks.next s r) (meaning (by_clocks.answer s r)) (none_after s (Parsed.Record r) z)))
+  line_got : (n : ℕ) (s : State) (p : Option Record) → NoEntries s → parse_of line ≡ p → LineGot n s line (state_after s p) (said_for n s p)
+  line_got n s None z e = no_record (parsed_none e)
+  line_got n s (Some r) z e =
+      subst (LineGot n s line (by_clocks.next s r)) (sym (said_plain n r (by_clocks.next s r) (meaning (by_clocks.answer s r)) (none_after s (Some r) z)))
       (record_got n s line r (parsed_form r e))
 
 -- A text
@@ -113,15 +113,15 @@ record Fixed (n : ℕ) (s : State) (line : List ℕ) (s' : State) (said : List �
 module _ {n : ℕ} {s : State} {line : List ℕ} (z : NoEntries s) where
   form_fixed : {r : Record} {s' : State} {said : List ℕ} → TextForm line r → s' ≡ by_clocks.next s r → said ≡ report_line n r (by_clocks.answer s r) → Fixed n s line s' said
   form_fixed {r} f a b =
-      let e : parse_of line ≡ Parsed.Record r = ap parse_of f.is_text ∙ text_taken r f.sayable in
-      record { state = rw e a; piece = rw e (b ∙ sym (said_plain n r (by_clocks.next s r) (meaning (by_clocks.answer s r)) (none_after s (Parsed.Record r) z))) }
+      let e : parse_of line ≡ Some r = ap parse_of f.is_text ∙ text_taken r f.sayable in
+      record { state = rw e a; piece = rw e (b ∙ sym (said_plain n r (by_clocks.next s r) (meaning (by_clocks.answer s r)) (none_after s (Some r) z))) }
 
   got_fixed : {s' : State} {said : List ℕ} → LineGot n s line s' said → Fixed n s line s' said
   got_fixed (no_record f) = by_parse (parse_of line) refl
     where
-      by_parse : (p : Parsed) → parse_of line ≡ p → Fixed n s line s (refused_line n 1)
-      by_parse Parsed.Nothing e = record { state = rw e; piece = rw e }
-      by_parse (Parsed.Record r) e = absurd (f r (parsed_form line r e))
+      by_parse : (p : Option Record) → parse_of line ≡ p → Fixed n s line s (refused_line n 1)
+      by_parse None e = record { state = rw e; piece = rw e }
+      by_parse (Some r) e = absurd (f r (parsed_form line r e))
   got_fixed (refused {r = r} f e l h o) = let (m, q) = row_refuses s r e l in form_fixed f (sym q) (ap (line_for n r) (sym m))
   got_fixed (judged {r = r} f e a m) = form_fixed f refl (ap (line_for n r) (sym m))
   got_fixed (taken {r = r} f e a m) = form_fixed f refl (ap (line_for n r) (sym m))
@@ -145,11 +145,11 @@ unfolding lines_said
 told n s [] z = ([], tells_nothing)
 told n s (line ∷ lines) z = by_parse (parse_of line) refl (told (suc n) (state_after s (parse_of line)) lines (none_after s (parse_of line) z))
   where
-    by_parse : (p : Parsed) → parse_of line ≡ p → ((rs : List Record) × Tells (suc n) lines rs (replies by_clocks (state_after s p) rs) (report_from (suc n) (state_after s p) lines))
+    by_parse : (p : Option Record) → parse_of line ≡ p → ((rs : List Record) × Tells (suc n) lines rs (replies by_clocks (state_after s p) rs) (report_from (suc n) (state_after s p) lines))
         → (rs : List Record) × Tells n (line ∷ lines) rs (replies by_clocks s rs) (said_for n s p ++ report_from (suc n) (state_after s p) lines)
-    by_parse Parsed.Nothing e (rs, t) = (rs, tells_no_record (parsed_none line e) t)
-    by_parse (Parsed.Record r) e (rs, t) =
-        (r ∷ rs, rw (said_plain n r (by_clocks.next s r) (meaning (by_clocks.answer s r)) (none_after s (Parsed.Record r) z)) (tells_answer (parsed_form line r e) t))
+    by_parse None e (rs, t) = (rs, tells_no_record (parsed_none line e) t)
+    by_parse (Some r) e (rs, t) =
+        (r ∷ rs, rw (said_plain n r (by_clocks.next s r) (meaning (by_clocks.answer s r)) (none_after s (Some r) z)) (tells_answer (parsed_form line r e) t))
 
 pub text_fed : TextFed
 unfolding report_of

@@ -4,9 +4,11 @@ use mathlib.Core.Bool.{Bool, true, false, not}
 use mathlib.Core.List.{List, [], ◌∷◌, ◌++◌}
 use Prim.Native.Nat.{ℕ, zero, suc, ◌-◌, ◌≤◌, ◌<◌}
 use native.Mathlib.Omega.{arith}
-use borrow.Author.Tests.{lt-ltb, ltb-true, ltb-false}
+use borrow.Author.Tests.{lt-ltb, ltb-true, ltb-false, not-true, not-false}
 use lib.Dec.{ltb}
 use lib.ListN.{length, take}
+use Rattle.std.proofs.lemmas.Option.{none-some}
+use Rattle.std.specs.Prelude.{Option, Some, None}
 use Rattle.theory.specs.declared.record.Record.{Record}
 use Rattle.theory.specs.declared.state.State.{State}
 use Rattle.theory.specs.order.Limits as Limits
@@ -23,9 +25,7 @@ use Rattle.theory.proofs.totals.Kept.{fresh_control_cell}
 use Rattle.theory.proofs.acceptance.ControlTable.{fresh_control_lem}
 use Rattle.theory.proofs.feeding.Simulation.{Represents, base_control, fresh_base, clocks_simulate}
 use Rattle.requests.proofs.entries.Taken.{taken_all, entered_taken, entered_size, is_entered}
-use Rattle.text.specs.declared.parsed.Parsed.{Parsed}
 use Rattle.text.specs.declared.entry.Entry.{Entry}
-use Rattle.text.specs.declared.entry.EntryLine.{EntryLine}
 use Rattle.text.specs.LineForm.{parse_of}
 use Rattle.text.specs.Stream.{lines_said, lines_after}
 use Rattle.text.specs.EntryForm.{InForm, TextOf, entry_of}
@@ -54,11 +54,7 @@ taken_in_lem : {e : Entry} (control : List ℕ) → InForm e → length control 
 taken_in_lem {e} control f size q = is_entered (fault_of e) (fault_fits f) control size (room q)
   where
     room : not (ltb (entry_count control) Limits.entries) ≡ false → entry_count control < Limits.entries
-    room q = of (ltb (entry_count control) Limits.entries) refl q
-      where
-        of : (b : Bool) → ltb (entry_count control) Limits.entries ≡ b → not b ≡ false → entry_count control < Limits.entries
-        of true z q = ltb-true (entry_count control) Limits.entries z
-        of false z q = absurd (let w : ◌≡◌ {A = ℕ} 0 1 = cc in omega arith)
+    room q = ltb-true (entry_count control) Limits.entries (not-false (ltb (entry_count control) Limits.entries) q)
 
 module _ {e : Entry} (control : List ℕ) (f : InForm e) where
   -- there is no room: the table stays
@@ -68,24 +64,23 @@ module _ {e : Entry} (control : List ℕ) (f : InForm e) where
       rw (lt-ltb e.var Limits.variables f.var_within, lt-ltb e.low Limits.tasks l, lt-ltb e.high Limits.tasks f.high_within, q)
 
 -- what a line is, by what it says
-entry_form : (line : List ℕ) {e : Entry} → entry_of line ≡ EntryLine.Entry e → InForm e × (TextOf e line)
+entry_form : (line : List ℕ) {e : Entry} → entry_of line ≡ Some e → InForm e × (TextOf e line)
 entry_form line {e} q = (only_in_form line e q, only_entry_text line e q)
 
-not_form : (line : List ℕ) → entry_of line ≡ EntryLine.Nothing → (e : Entry) → InForm e → ¬ (TextOf e line)
+not_form : (line : List ℕ) → entry_of line ≡ None → (e : Entry) → InForm e → ¬ (TextOf e line)
 not_form line q e f p =
-    let z : EntryLine.Nothing ≡ EntryLine.Entry e = sym q ∙ entry_taken e f line p in
-    absurd (let w : ◌≡◌ {A = ℕ} 0 1 = cc in omega arith)
+    none-some e (sym q ∙ entry_taken e f line p)
 
 -- one line: what it gets, and that the table keeps its size
-record OneRead (n : ℕ) (control line : List ℕ) (x : EntryLine) : Type 0 where
+record OneRead (n : ℕ) (control line : List ℕ) (x : Option Entry) : Type 0 where
   got : EntryGot n control line (control_with control x) (said_for_entry n control x)
   size : length (control_with control x) ≡ control_cells
 
-one_read : (n : ℕ) (control line : List ℕ) → length control ≡ control_cells → (x : EntryLine) → entry_of line ≡ x → OneRead n control line x
-one_read n control line size EntryLine.Nothing q = record { got = no_entry (not_form line q); size = size }
-one_read n control line size (EntryLine.Entry e) q = let (f, p) = entry_form line q in decided f p (entries_full control) refl
+one_read : (n : ℕ) (control line : List ℕ) → length control ≡ control_cells → (x : Option Entry) → entry_of line ≡ x → OneRead n control line x
+one_read n control line size None q = record { got = no_entry (not_form line q); size = size }
+one_read n control line size (Some e) q = let (f, p) = entry_form line q in decided f p (entries_full control) refl
   where
-    decided : InForm e → TextOf e line → (b : Bool) → entries_full control ≡ b → OneRead n control line (EntryLine.Entry e)
+    decided : InForm e → TextOf e line → (b : Bool) → entries_full control ≡ b → OneRead n control line (Some e)
     decided f p true z = record { got = rw (left_out control f z, z) (no_room f p z); size = rw (left_out control f z) size }
     decided f p false z =
         record {
@@ -105,9 +100,9 @@ faults_fit : (lines : List (List ℕ)) → AllFit (faults_in lines)
 faults_fit [] = none_left
 faults_fit (line ∷ lines) = of (entry_of line) refl (faults_fit lines)
   where
-    of : (x : EntryLine) → entry_of line ≡ x → AllFit (faults_in lines) → AllFit (faults_by x (faults_in lines))
-    of EntryLine.Nothing q fs = fs
-    of (EntryLine.Entry e) q fs = and_fits (fault_fits (entry_form line q).0) fs
+    of : (x : Option Entry) → entry_of line ≡ x → AllFit (faults_in lines) → AllFit (faults_by x (faults_in lines))
+    of None q fs = fs
+    of (Some e) q fs = and_fits (fault_fits (entry_form line q).0) fs
 
 take_fit : (k : ℕ) {fs : List Fault} → AllFit fs → AllFit (take k fs)
 take_fit zero x = none_left
@@ -125,10 +120,10 @@ table_after [] control size = none (Limits.entries - entry_count control)
     none (suc k) = refl
 table_after (line ∷ lines) control size = of (entry_of line) refl (λ c z. table_after lines c z)
   where
-    of : (x : EntryLine) → entry_of line ≡ x → ((c : List ℕ) → length c ≡ control_cells → lines_after entry_reader c lines ≡ entered_all (take (Limits.entries - entry_count c) (faults_in lines)) c) →
+    of : (x : Option Entry) → entry_of line ≡ x → ((c : List ℕ) → length c ≡ control_cells → lines_after entry_reader c lines ≡ entered_all (take (Limits.entries - entry_count c) (faults_in lines)) c) →
         lines_after entry_reader (control_with control x) lines ≡ entered_all (take (Limits.entries - entry_count control) (faults_by x (faults_in lines))) control
-    of EntryLine.Nothing q rest = rest control size
-    of (EntryLine.Entry e) q rest = decided (entry_form line q).0 (entries_full control) refl
+    of None q rest = rest control size
+    of (Some e) q rest = decided (entry_form line q).0 (entries_full control) refl
       where
         decided : InForm e → (b : Bool) → entries_full control ≡ b →
             lines_after entry_reader (after_entry e.var e.low e.high e.accepted control) lines ≡ entered_all (take (Limits.entries - entry_count control) (fault_of e ∷ faults_in lines)) control
@@ -137,11 +132,7 @@ table_after (line ∷ lines) control size = of (entry_of line) refl (λ c z. tab
             rw (left_out control f z, k) (rest control size ∙ ap (λ (m : ℕ). entered_all (take m (faults_in lines)) control) k)
           where
             no_more : not (ltb (entry_count control) Limits.entries) ≡ true → Limits.entries - entry_count control ≡ 0
-            no_more y = go (ltb (entry_count control) Limits.entries) refl y
-              where
-                go : (b : Bool) → ltb (entry_count control) Limits.entries ≡ b → not b ≡ true → Limits.entries - entry_count control ≡ 0
-                go true w y = absurd (let v : ◌≡◌ {A = ℕ} 0 1 = cc in omega arith)
-                go false w y = let v = ltb-false (entry_count control) Limits.entries w in omega arith
+            no_more y = omega (arith, ltb-false (entry_count control) Limits.entries (not-true (ltb (entry_count control) Limits.entries) y))
         decided f false z =
             let c = entered e.var e.low e.high e.accepted control in
             let s = entered_size (fault_of e) (fault_fits f) control size in
@@ -151,11 +142,7 @@ table_after (line ∷ lines) control size = of (entry_of line) refl (λ c z. tab
             (rest c s ∙ (ap (λ (m : ℕ). entered_all (take (Limits.entries - m) (faults_in lines)) c) t ∙ ap (entered_all (take (Limits.entries - suc (entry_count control)) (faults_in lines))) (sym (taken_in_lem control f size z))))
           where
             some : not (ltb (entry_count control) Limits.entries) ≡ false → Limits.entries - entry_count control ≡ suc (Limits.entries - suc (entry_count control))
-            some y = go (ltb (entry_count control) Limits.entries) refl y
-              where
-                go : (b : Bool) → ltb (entry_count control) Limits.entries ≡ b → not b ≡ false → Limits.entries - entry_count control ≡ suc (Limits.entries - suc (entry_count control))
-                go true w y = let v = ltb-true (entry_count control) Limits.entries w in omega arith
-                go false w y = absurd (let v : ◌≡◌ {A = ℕ} 0 1 = cc in omega arith)
+            some y = omega (arith, ltb-true (entry_count control) Limits.entries (not-false (ltb (entry_count control) Limits.entries) y))
 
 fresh_taken : entry_count fresh_control ≡ 0
 fresh_taken = fresh_control_cell entries_at (omega arith) (omega arith)
@@ -192,17 +179,17 @@ unfolding lines_said
 as_races [] n es s z x y none = no_line
 as_races (line ∷ lines) n es s z x y none = by_parse (parse_of line) (λ es s z x y none. as_races lines (suc n) es s z x y none)
   where
-    by_parse : (p : Parsed) → ((es : List Event) (s z : State) → Represents es s → Represents es z → NoEntries z → AsRaces (lines_said record_reader (suc n) s lines) (lines_said record_reader (suc n) z lines)) →
+    by_parse : (p : Option Record) → ((es : List Event) (s z : State) → Represents es s → Represents es z → NoEntries z → AsRaces (lines_said record_reader (suc n) s lines) (lines_said record_reader (suc n) z lines)) →
         AsRaces (said_for n s p ++ lines_said record_reader (suc n) (state_after s p) lines) (said_for n z p ++ lines_said record_reader (suc n) (state_after z p) lines)
-    by_parse Parsed.Nothing rest = a_line {said = refused_line n 1} {said' = refused_line n 1} the_same (rest es s z x y none)
-    by_parse (Parsed.Record r) rest =
+    by_parse None rest = a_line {said = refused_line n 1} {said' = refused_line n 1} the_same (rest es s z x y none)
+    by_parse (Some r) rest =
         let (e, x') = clocks_simulate.steps es s r x in
         let (q, y') = clocks_simulate.steps es z r y in
-        a_line (said r (e ∙ sym q)) (rest (append_unless es r (refusal es r)) (by_clocks.next s r) (by_clocks.next z r) x' y' (none_after z (Parsed.Record r) none))
+        a_line (said r (e ∙ sym q)) (rest (append_unless es r (refusal es r)) (by_clocks.next s r) (by_clocks.next z r) x' y' (none_after z (Some r) none))
       where
-        said : (r : Record) → meaning (by_clocks.answer s r) ≡ meaning (by_clocks.answer z r) → AsRace (said_for n s (Parsed.Record r)) (said_for n z (Parsed.Record r))
+        said : (r : Record) → meaning (by_clocks.answer s r) ≡ meaning (by_clocks.answer z r) → AsRace (said_for n s (Some r)) (said_for n z (Some r))
         said r e =
-            subst (AsRace (said_for n s (Parsed.Record r))) (sym (said_plain n r (by_clocks.next z r) (meaning (by_clocks.answer z r)) (none_after z (Parsed.Record r) none)))
+            subst (AsRace (said_for n s (Some r))) (sym (said_plain n r (by_clocks.next z r) (meaning (by_clocks.answer z r)) (none_after z (Some r) none)))
             (subst (λ (m : Meaning). AsRace (said_beside n r (by_clocks.next s r) (meaning (by_clocks.answer s r))) (line_for n r m)) e (as_race n r (by_clocks.next s r) (meaning (by_clocks.answer s r))))
 
 starts : (fs : List Fault) → AllFit fs → length fs ≤ Limits.entries → Represents [] (start_with fs)

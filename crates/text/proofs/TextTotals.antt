@@ -5,13 +5,13 @@ use mathlib.Core.List.{List, [], ◌∷◌, ◌++◌}
 use Prim.Native.Nat.{ℕ, suc}
 use borrow.Author.Tests.{eqb-true, eqb-false}
 use lib.Dec.{eqb}
+use Rattle.std.specs.Prelude.{Option, Some, None}
 use Rattle.theory.specs.declared.record.Record.{Record}
 use Rattle.theory.specs.declared.state.State.{State}
 use Rattle.theory.specs.feeding.Step.{fresh_state}
 use Rattle.theory.specs.feeding.Meaning.{meaning}
 use Rattle.theory.specs.feeding.Feeding.{replies, after_all, by_clocks}
 use Rattle.theory.proofs.totals.Kept.{clocks_keep_totals}
-use Rattle.text.specs.declared.parsed.Parsed.{Parsed}
 use Rattle.text.specs.Lines.{lf}
 use Rattle.text.specs.LineForm.{parse_of}
 use Rattle.text.specs.Stream.{piece_said, piece_kept}
@@ -34,12 +34,12 @@ line_ended : {n : ℕ} {s : State} {lines : List (List ℕ)} {said : List ℕ} {
     SoFar (suc n) (state_after s (parse_of line)) lines said after → SoFar n s (line ∷ lines) (said_for n s (parse_of line) ++ said) after
 line_ended {n} {s} {lines} {said} {after} line z x = by_parse (parse_of line) refl x
   where
-    by_parse : (p : Parsed) → parse_of line ≡ p → SoFar (suc n) (state_after s p) lines said after → SoFar n s (line ∷ lines) (said_for n s p ++ said) after
-    by_parse Parsed.Nothing e x = record { records = x.records; tells = tells_no_record (parsed_none line e) x.tells; state = x.state }
-    by_parse (Parsed.Record r) e x =
+    by_parse : (p : Option Record) → parse_of line ≡ p → SoFar (suc n) (state_after s p) lines said after → SoFar n s (line ∷ lines) (said_for n s p ++ said) after
+    by_parse None e x = record { records = x.records; tells = tells_no_record (parsed_none line e) x.tells; state = x.state }
+    by_parse (Some r) e x =
         record {
           records = r ∷ x.records;
-          tells = rw (said_plain n r (by_clocks.next s r) (meaning (by_clocks.answer s r)) (none_after s (Parsed.Record r) z)) (tells_answer (parsed_form line r e) x.tells);
+          tells = rw (said_plain n r (by_clocks.next s r) (meaning (by_clocks.answer s r)) (none_after s (Some r) z)) (tells_answer (parsed_form line r e) x.tells);
           state = x.state;
         }
 

@@ -1,10 +1,10 @@
 -- What a function asks and promises that answers lines or a piece into lent memory: each part has a name. `out` is the report memory and `held` the
 -- memory that holds the line that has begun, with `state` each at entry and at exit.
-use Rattle.std.specs.Prelude.{◌≡◌, ℕ, suc, ◌+◌, ◌*◌, ◌^◌, ◌≤◌, ◌<◌, List, length, take, drop}
+use Rattle.std.specs.Prelude.{◌≡◌, ℕ, suc, ◌+◌, ◌*◌, ◌^◌, ◌≤◌, ◌<◌, List, length, take, drop, Option}
 use Rattle.std.proofs.lemmas.List.Edits.{sets}
+use Rattle.theory.specs.declared.record.Record.{Record}
 use Rattle.theory.specs.declared.state.State.{State}
 use Rattle.theory.specs.feeding.Lent.{Twice}
-use Rattle.text.specs.declared.parsed.Parsed.{Parsed}
 use Rattle.text.specs.declared.progress.Progress.{Progress}
 use Rattle.text.specs.Lines.{line_room, lines_of, line_end}
 use Rattle.text.specs.Reading.{LineStarts}
@@ -14,7 +14,7 @@ use Rattle.text.specs.Report.{said_for, state_after, record_reader, report_from}
 use Rattle.text.specs.Pieces.{Kept, kept, from_memory, held_most, said_in, after_piece, progress_after}
 
 -- a line that says `parsed` was answered under its number, from the place `at` on; `to` is the next place
-pub record LineAnswered (out : Twice (List ℕ)) (at number : ℕ) (state : Twice State) (parsed : Parsed) (to : ℕ) : Type 0 where
+pub record LineAnswered (out : Twice (List ℕ)) (at number : ℕ) (state : Twice State) (parsed : Option Record) (to : ℕ) : Type 0 where
   pub room : to ≤ at + line_room
   pub wrote : Wrote out.entry at (said_for number state.entry parsed) out.exit to
   pub fed : state.exit ≡ state_after state.entry parsed

@@ -1,9 +1,7 @@
 -- The form of an entry of the faults already accepted (document 02, F-7): what a line says as an entry, and the text of an entry.
-use Rattle.std.specs.Prelude.{◌≡◌, ℕ, zero, suc, ◌^◌, ◌≤◌, ◌<◌, Bool, true, false, cond, ◌&&◌, ◌||◌, ◌⊎◌, List, ◌++◌, length, leb, ltb, eqb}
+use Rattle.std.specs.Prelude.{◌≡◌, ℕ, zero, suc, ◌^◌, ◌≤◌, ◌<◌, Bool, true, false, cond, ◌&&◌, ◌||◌, ◌⊎◌, List, ◌++◌, length, leb, ltb, eqb, Option, Some, None}
 use Rattle.theory.specs.order.Limits.{tasks, variables, records}
 use Rattle.text.specs.declared.entry.Entry.{Entry}
-use Rattle.text.specs.declared.entry.EntryLine.{EntryLine}
-use Rattle.text.specs.declared.number.Number.{Number}
 use Rattle.text.specs.Bytes.{up_to, after, is_word}
 use Rattle.text.specs.LineForm.{space, read_digits, field_by, field_of, longest}
 use Rattle.text.specs.Printing.{bytes, last_digits, decimal, record_digits}
@@ -45,11 +43,11 @@ unfoldable pub record_wide : ℕ → Bool
 record_wide k = eqb k fewer_digits || eqb k record_digits
 
 -- the number that so many digits say, leading zeros included
-unfoldable pub read_record_number : List ℕ → Number
-read_record_number s = cond (record_wide (length s)) (read_digits 0 s) Number.Nothing
+unfoldable pub read_record_number : List ℕ → Option ℕ
+read_record_number s = cond (record_wide (length s)) (read_digits 0 s) None
 
 -- the number of a field `rec=DDDDD` or `rec=DDDDDDD`
-unfoldable pub record_field : List ℕ → Number
+unfoldable pub record_field : List ℕ → Option ℕ
 record_field s = field_by read_record_number rec_name s
 
 -- Entries
@@ -60,26 +58,26 @@ in_range e =
     ltb 0 e.rec && (leb e.rec records && (ltb e.var variables && (ltb e.low e.high && ltb e.high tasks)))
 
 -- an entry, if its numbers are within their ranges
-unfoldable pub within_range : Entry → EntryLine
-within_range e = cond (in_range e) (EntryLine.Entry e) EntryLine.Nothing
+unfoldable pub within_range : Entry → Option Entry
+within_range e = cond (in_range e) (Some e) None
 
 -- the entry of four numbers and the last word
-unfoldable pub marked_entry : ℕ → ℕ → ℕ → ℕ → List ℕ → EntryLine
+unfoldable pub marked_entry : ℕ → ℕ → ℕ → ℕ → List ℕ → Option Entry
 marked_entry rec var low high s =
     cond (is_word (mark_word true) s || is_word (mark_word false) s)
     (within_range (record { rec = rec; var = var; low = low; high = high; accepted = is_word (mark_word true) s }))
-    EntryLine.Nothing
+    None
 
 -- the entry of what four fields say and the last word
-abbrev pub entry_by : Number → Number → Number → Number → List ℕ → EntryLine
-entry_by (Number.Value rec) (Number.Value var) (Number.Value low) (Number.Value high) s = marked_entry rec var low high s
-entry_by (Number.Value rec) (Number.Value var) (Number.Value low) Number.Nothing s = EntryLine.Nothing
-entry_by (Number.Value rec) (Number.Value var) Number.Nothing h s = EntryLine.Nothing
-entry_by (Number.Value rec) Number.Nothing l h s = EntryLine.Nothing
-entry_by Number.Nothing v l h s = EntryLine.Nothing
+abbrev pub entry_by : Option ℕ → Option ℕ → Option ℕ → Option ℕ → List ℕ → Option Entry
+entry_by (Some rec) (Some var) (Some low) (Some high) s = marked_entry rec var low high s
+entry_by (Some rec) (Some var) (Some low) None s = None
+entry_by (Some rec) (Some var) None h s = None
+entry_by (Some rec) None l h s = None
+entry_by None v l h s = None
 
 -- what a line says as an entry
-unfoldable pub entry_of : List ℕ → EntryLine
+unfoldable pub entry_of : List ℕ → Option Entry
 entry_of s =
     entry_by (record_field (word_after 0 s)) (field_of var_name (word_after 1 s)) (field_of low_name (word_after 2 s)) (field_of high_name (word_after 3 s))
     (after_spaces 4 s)
@@ -109,7 +107,7 @@ pub record TextOf (e : Entry) (line : List ℕ) : Type 0 where
 
 -- each text of an entry is taken, as that entry, so that both "mean the same number"
 abbrev pub EntryTaken : Type 0
-EntryTaken = (e : Entry) → InForm e → (line : List ℕ) → TextOf e line → entry_of line ≡ EntryLine.Entry e
+EntryTaken = (e : Entry) → InForm e → (line : List ℕ) → TextOf e line → entry_of line ≡ Some e
 
 -- each entry has one, up to the limit
 abbrev pub EntryWritten : Type 0
@@ -117,12 +115,12 @@ EntryWritten = (e : Entry) → InForm e → TextOf e (entry_text record_digits e
 
 -- nothing else is: what is taken is a text of the entry
 abbrev pub OnlyEntryText : Type 0
-OnlyEntryText = (s : List ℕ) (e : Entry) → entry_of s ≡ EntryLine.Entry e → TextOf e s
+OnlyEntryText = (s : List ℕ) (e : Entry) → entry_of s ≡ Some e → TextOf e s
 
 -- and of an entry of the form
 abbrev pub OnlyInForm : Type 0
-OnlyInForm = (s : List ℕ) (e : Entry) → entry_of s ≡ EntryLine.Entry e → InForm e
+OnlyInForm = (s : List ℕ) (e : Entry) → entry_of s ≡ Some e → InForm e
 
 -- no line of more bytes than `longest` is
 abbrev pub LongEntry : Type 0
-LongEntry = (s : List ℕ) → longest < length s → entry_of s ≡ EntryLine.Nothing
+LongEntry = (s : List ℕ) → longest < length s → entry_of s ≡ None

@@ -1,9 +1,7 @@
 -- The form of a line ("Text and report"): what it says as a record, and the text of a record.
-use Rattle.std.specs.Prelude.{◌≡◌, ℕ, zero, suc, ◌+◌, ◌*◌, ◌-◌, ◌^◌, ◌<◌, Bool, cond, not, ◌&&◌, ◌||◌, List, [], ◌∷◌, ◌++◌, length, get_or, drop, leb, ltb, eqb}
+use Rattle.std.specs.Prelude.{◌≡◌, ℕ, zero, suc, ◌+◌, ◌*◌, ◌-◌, ◌^◌, ◌<◌, Bool, cond, not, ◌&&◌, ◌||◌, List, [], ◌∷◌, ◌++◌, length, get_or, drop, leb, ltb, eqb, Option, Some, None}
 use Rattle.theory.specs.declared.record.Record.{Record}
 use Rattle.theory.specs.order.Recording.{loss_mark}
-use Rattle.text.specs.declared.number.Number.{Number}
-use Rattle.text.specs.declared.parsed.Parsed.{Parsed}
 use Rattle.text.specs.Bytes.{up_to, after, starts_with, is_word}
 use Rattle.text.specs.Printing.{bytes, decimal}
 
@@ -22,13 +20,13 @@ unfoldable pub is_plain : List ℕ → Bool
 is_plain s = eqb (length s) 1 || (ltb 1 (length s) && (leb (length s) digits && not (eqb (get_or s 0 0) 48)))
 
 -- the number that is read from digits after the number v; nothing where a byte is no digit
-unfoldable pub read_digits : ℕ → List ℕ → Number
-read_digits v [] = Number.Value v
-read_digits v (b ∷ s) = cond (is_digit b) (read_digits (v * 10 + (b - 48)) s) Number.Nothing
+unfoldable pub read_digits : ℕ → List ℕ → Option ℕ
+read_digits v [] = Some v
+read_digits v (b ∷ s) = cond (is_digit b) (read_digits (v * 10 + (b - 48)) s) None
 
 -- the number that a text says
-unfoldable pub read_decimal : List ℕ → Number
-read_decimal s = cond (is_plain s) (read_digits 0 s) Number.Nothing
+unfoldable pub read_decimal : List ℕ → Option ℕ
+read_decimal s = cond (is_plain s) (read_digits 0 s) None
 
 -- Words
 
@@ -76,40 +74,40 @@ unfoldable pub named_kind : List ℕ → ℕ
 named_kind s = cond (starts_with op_name s) (place_of words (drop (length op_name) s)) (length words)
 
 -- the number of a field, from what follows its name
-abbrev pub field_by : (List ℕ → Number) → List ℕ → List ℕ → Number
-field_by read name s = cond (starts_with name s) (read (drop (length name) s)) Number.Nothing
+abbrev pub field_by : (List ℕ → Option ℕ) → List ℕ → List ℕ → Option ℕ
+field_by read name s = cond (starts_with name s) (read (drop (length name) s)) None
 
 -- the number of a field `name=N`
-unfoldable pub field_of : List ℕ → List ℕ → Number
+unfoldable pub field_of : List ℕ → List ℕ → Option ℕ
 field_of name s = field_by read_decimal name s
 
 -- Lines
 
 -- the record of an act, from its kind and what its two fields say
-abbrev pub act_record : ℕ → Number → Number → Parsed
-act_record k (Number.Value t) (Number.Value n) = Parsed.Record (record { kind = k; task = t; on = n })
-act_record k (Number.Value t) Number.Nothing = Parsed.Nothing
-act_record k Number.Nothing n = Parsed.Nothing
+abbrev pub act_record : ℕ → Option ℕ → Option ℕ → Option Record
+act_record k (Some t) (Some n) = Some (record { kind = k; task = t; on = n })
+act_record k (Some t) None = None
+act_record k None n = None
 
 -- the record of a loss mark, from what its field says
-abbrev pub mark_record : Number → Parsed
-mark_record (Number.Value m) = Parsed.Record (record { kind = loss_mark; task = 0; on = m })
-mark_record Number.Nothing = Parsed.Nothing
+abbrev pub mark_record : Option ℕ → Option Record
+mark_record (Some m) = Some (record { kind = loss_mark; task = 0; on = m })
+mark_record None = None
 
 -- what follows the op of an act: `task=T on=N`
-unfoldable pub parse_act : ℕ → List ℕ → Parsed
+unfoldable pub parse_act : ℕ → List ℕ → Option Record
 parse_act k s = act_record k (field_of task_name (up_to space s)) (field_of on_name (after space s))
 
 -- what follows the op of a loss mark: `tasks=M`
-unfoldable pub parse_mark : List ℕ → Parsed
+unfoldable pub parse_mark : List ℕ → Option Record
 parse_mark s = mark_record (field_of tasks_name s)
 
 -- what follows an op of kind k, if that is the kind of a word
-abbrev pub rest_of : ℕ → List ℕ → Parsed
-rest_of k s = cond (ltb k (length words)) (cond (eqb k loss_mark) (parse_mark s) (parse_act k s)) Parsed.Nothing
+abbrev pub rest_of : ℕ → List ℕ → Option Record
+rest_of k s = cond (ltb k (length words)) (cond (eqb k loss_mark) (parse_mark s) (parse_act k s)) None
 
 -- the record that a line says, if it is of the text form
-unfoldable pub parse_of : List ℕ → Parsed
+unfoldable pub parse_of : List ℕ → Option Record
 parse_of s = rest_of (named_kind (up_to space s)) (after space s)
 
 -- The text of a record
@@ -137,19 +135,19 @@ pub record Sayable (r : Record) : Type 0 where
 
 -- the text of a record is taken, as that record
 abbrev pub TextTaken : Type 0
-TextTaken = (r : Record) → Sayable r → parse_of (text_of r) ≡ Parsed.Record r
+TextTaken = (r : Record) → Sayable r → parse_of (text_of r) ≡ Some r
 
 -- nothing else is: what is taken is the text of the record
 abbrev pub OnlyText : Type 0
-OnlyText = (s : List ℕ) (r : Record) → parse_of s ≡ Parsed.Record r → s ≡ text_of r
+OnlyText = (s : List ℕ) (r : Record) → parse_of s ≡ Some r → s ≡ text_of r
 
 -- and of a record that a line can say
 abbrev pub OnlySayable : Type 0
-OnlySayable = (s : List ℕ) (r : Record) → parse_of s ≡ Parsed.Record r → Sayable r
+OnlySayable = (s : List ℕ) (r : Record) → parse_of s ≡ Some r → Sayable r
 
 -- no line of more bytes than these is
 abbrev pub longest : ℕ
 longest = 64
 
 abbrev pub LongRefused : Type 0
-LongRefused = (s : List ℕ) → longest < length s → parse_of s ≡ Parsed.Nothing
+LongRefused = (s : List ℕ) → longest < length s → parse_of s ≡ None

@@ -1,13 +1,12 @@
 -- The report of a text: its lines, numbered from 1, fed from a fresh state, each with what the report has for it. And what the C entry
 -- does with the memory that it is lent.
-use Rattle.std.specs.Prelude.{ℕ, ◌/◌, ◌^◌, ◌-◌, Bool, cond, List, ltb, length}
+use Rattle.std.specs.Prelude.{ℕ, ◌/◌, ◌^◌, ◌-◌, Bool, cond, List, ltb, length, Option, Some, None}
 use Rattle.std.proofs.lemmas.List.Edits.{sets}
 use Rattle.theory.specs.declared.record.Record.{Record}
 use Rattle.theory.specs.declared.state.State.{State}
 use Rattle.theory.specs.feeding.Meaning.{Meaning, meaning}
 use Rattle.theory.specs.feeding.Step.{step_of, fresh_state}
 use Rattle.requests.specs.entries.Table.{excuse}
-use Rattle.text.specs.declared.parsed.Parsed.{Parsed}
 use Rattle.text.specs.Lines.{line_room, lines_of}
 use Rattle.text.specs.LineForm.{parse_of}
 use Rattle.text.specs.ReportLines.{refused_line, excused_for, partner_in}
@@ -18,14 +17,14 @@ abbrev pub said_beside : ℕ → Record → State → Meaning → List ℕ
 said_beside n r s m = excused_for n r (excuse s r (partner_in m)) m
 
 -- what the report has for a line: "A line that yields no record is refused with 1"
-abbrev pub said_for : ℕ → State → Parsed → List ℕ
-said_for n s Parsed.Nothing = refused_line n 1
-said_for n s (Parsed.Record r) = said_beside n r (step_of s r).state (meaning (step_of s r).answer)
+abbrev pub said_for : ℕ → State → Option Record → List ℕ
+said_for n s None = refused_line n 1
+said_for n s (Some r) = said_beside n r (step_of s r).state (meaning (step_of s r).answer)
 
 -- the state after a line
-abbrev pub state_after : State → Parsed → State
-state_after s Parsed.Nothing = s
-state_after s (Parsed.Record r) = (step_of s r).state
+abbrev pub state_after : State → Option Record → State
+state_after s None = s
+state_after s (Some r) = (step_of s r).state
 
 -- the lines of a recording
 abbrev pub record_reader : Reader State

@@ -1,12 +1,11 @@
 -- F-7, for texts: what a file of accepted faults comes to, line by line, and what a report has beside it. proofs/TextKnown.antt proves it.
-use Rattle.std.specs.Prelude.{◌≡◌, ℕ, suc, ◌≤◌, Bool, true, false, List, [], ◌∷◌, ◌++◌, length, take}
+use Rattle.std.specs.Prelude.{◌≡◌, ℕ, suc, ◌≤◌, Bool, true, false, List, [], ◌∷◌, ◌++◌, length, take, Option, Some, None}
 use Rattle.theory.specs.declared.state.State.{State}
 use Rattle.theory.specs.order.Limits as Limits
 use Rattle.theory.specs.feeding.Step.{fresh_state, fresh_control}
 use Rattle.requests.specs.entries.Table.{entries_full, entered}
 use Rattle.requests.specs.entries.Known.{Fault, AllFit, entered_all, start_with}
 use Rattle.text.specs.declared.entry.Entry.{Entry}
-use Rattle.text.specs.declared.entry.EntryLine.{EntryLine}
 use Rattle.text.specs.Lines.{lines_of}
 use Rattle.text.specs.Stream.{lines_said, lines_after, pending, pieces_said, pieces_after, whole_of}
 use Rattle.text.specs.EntryForm.{InForm, TextOf, entry_of}
@@ -32,9 +31,9 @@ pub data EntriesGot : ℕ → List ℕ → List (List ℕ) → List ℕ → List
       EntryGot n control line control' said → EntriesGot (suc n) control' lines after more → EntriesGot n control (line ∷ lines) after (said ++ more)
 
 -- the entries that lines say, as faults, in their order
-abbrev pub faults_by : EntryLine → List Fault → List Fault
-faults_by EntryLine.Nothing fs = fs
-faults_by (EntryLine.Entry e) fs = record { variable = e.var; low = e.low; high = e.high; accepted = e.accepted } ∷ fs
+abbrev pub faults_by : Option Entry → List Fault → List Fault
+faults_by None fs = fs
+faults_by (Some e) fs = record { variable = e.var; low = e.low; high = e.high; accepted = e.accepted } ∷ fs
 
 abbrev pub faults_in : List (List ℕ) → List Fault
 faults_in [] = []

@@ -8,9 +8,3 @@ pub struct Entry {
     pub high: u32,
     pub accepted: bool,
 }
-
-#[derive(Clone, Copy)]
-pub enum EntryLine {
-    Nothing,
-    Entry(Entry),
-}

@@ -3,11 +3,7 @@
 #![tactic(auto)]
 
 mod entry;
-mod number;
-mod parsed;
 mod progress;
 
-pub use entry::{Entry, EntryLine};
-pub use number::Number;
-pub use parsed::Parsed;
+pub use entry::Entry;
 pub use progress::Progress;

@@ -1,10 +1,11 @@
 use crate::numbers::RecordNumber;
+use crate::refusal::Refusal;
 
 // What feeding a record answers.
 #[derive(Clone, Copy)]
 pub enum Answer {
-    // The number of the first row of the refusal table that applies; the state is as it was.
-    Refused(u32),
+    // The first row of the refusal table that applies; the state is as it was.
+    Refused(Refusal),
     // Accepted, and no access: the record's number.
     Accepted(RecordNumber),
     // An access, by its record number: ordered, however the losses are filled in.

@@ -1,4 +1,6 @@
 // The kinds of records. The number of each, as `kind` and `loss_mark` of specs/order/Recording.antt have it.
+// Numbers and no enum: a record is fed with any number (`Record`, row 1 of `rows`), and the functions of basics that go by a kind, as `ask_at`,
+// `acquired_row` and `passes_on`, promise their equations of every number.
 pub const READ: u8 = 0;
 
 pub const WRITE: u8 = 1;

@@ -2,29 +2,26 @@
 // No code stands here, only the types that the definitions speak of, and the numbers of kinds and limits for the code.
 #![tactic(auto)]
 
-mod acquired;
 mod answer;
 mod kinds;
 mod limits;
 mod masks;
 mod numbers;
 mod record;
+mod refusal;
 mod state;
 mod verdict_totals;
 
-pub use acquired::Acquired;
 pub use answer::Answer;
 pub use kinds::{
     ASKERS, ASKING, ASKING_WRITE, FRESH, GIVE, JOIN, KINDS, LOOK, LOST, MISS, OWNED, READ, SET,
     START, TAKE, WRITE,
 };
-pub use limits::{
-    ENTRIES_MOST, FLAGS, LAST_FLAG, LAST_SEMAPHORE, LAST_TASK, LAST_VARIABLE, PROFILES, RECORDS,
-    SEMAPHORES, TASKS, VARIABLES,
-};
+pub use limits::{ENTRIES_MOST, FLAGS, PROFILES, RECORDS, SEMAPHORES, TASKS, VARIABLES};
 pub use masks::Masks;
 pub use numbers::{Flag, RecordNumber, Semaphore, Task, Variable};
 pub use record::Record;
+pub use refusal::Refusal;
 pub use state::{
     ACTED, CLEAR_TOTALS, CLOCK_CELLS, COLUMNS, CONTROL_CELLS, COUNT, Clocks, Control, DOUBT_TOTALS,
     ENTRIES, FIRST_FLAG, FIRST_SEMAPHORE, GIVERS, HISTORY_CELLS, HOLDERS, HUB, History, Homes,

@@ -14,12 +14,3 @@ pub const RECORDS: u32 = 4_000_000;
 
 // So many entries of accepted faults are taken in.
 pub const ENTRIES_MOST: u32 = 200;
-
-// The last number of each series: a number within it is 0 to this one.
-pub const LAST_TASK: u32 = TASKS - 1;
-
-pub const LAST_SEMAPHORE: u32 = SEMAPHORES - 1;
-
-pub const LAST_FLAG: u32 = FLAGS - 1;
-
-pub const LAST_VARIABLE: u32 = VARIABLES - 1;

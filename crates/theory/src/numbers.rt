@@ -12,6 +12,6 @@ pub struct Flag(pub u32);
 #[derive(Clone, Copy)]
 pub struct Variable(pub u32);
 
-// The number of an accepted record, counted from 1; 0 is no record.
+// The number of an accepted record, counted from 1; 0 is no record. No Option: the cells that a host in C lends hold it, and are 0 at first.
 #[derive(Clone, Copy)]
 pub struct RecordNumber(pub u32);

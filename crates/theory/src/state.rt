@@ -2,7 +2,8 @@ use crate::answer::Answer;
 use crate::kinds::ASKERS;
 use crate::limits::{FLAGS, SEMAPHORES, TASKS, VARIABLES};
 
-// The tables that a state is made of, by their sizes. crates/theory/specs says which cells hold what.
+// The tables that a state is made of, by their sizes. crates/theory/specs says which cells hold what. They are plain arrays of numbers, and not
+// structs of enums, since a host in C lends their memory (include/order.h).
 
 // Each task's phase (0 unseen, 1 live, 2 ended), then the count of accepted records, whether they are under the profile of owned semaphores,
 // each semaphore's holder and last giver, and the count of skipped takes; the count of Races, and for each verdict a total for each variable: Clear,
@@ -85,7 +86,8 @@ pub struct Stepped {
     pub answer: Answer,
 }
 
-// The state of the sets, which are a reckoning of their own: with sets in place of the clocks.
+// The state of the sets, which are a reckoning of their own: with sets in place of the clocks. A struct of its own and no `State<T>`: the definitions
+// tell the two by their fields (`step_of` and `set_step_of`), which one name for both would hide.
 #[derive(Clone, Copy)]
 pub struct SetState {
     pub control: Control,

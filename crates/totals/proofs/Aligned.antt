@@ -1,29 +1,32 @@
--- Padded text and numbers in their columns: byte by byte, digit by digit, and how long they are.
+-- Padded text and numbers in their columns: digit by digit, and how long they are.
 use mathlib.Core.Path.{◌≡◌, refl, sym, ap, ◌∙◌}
 use mathlib.Core.Bool.{Bool, true, false}
 use mathlib.Core.List.{List, [], ◌∷◌, ◌++◌, append_assoc}
 use Prim.Native.Nat.{ℕ, ◌+◌, ◌-◌, ◌/◌, ◌^◌, ◌≤◌, ◌<◌, max}
 use native.Mathlib.Omega.{arith}
 use lib.Dec.{ltb}
-use lib.ListN.{length, get_or, replicate, length-append, length-replicate, get_or-replicate, get_or-append}
-use lib.Seq.{get_or-append-add}
+use lib.ListN.{length, replicate, take, drop, length-append, length-replicate}
+use lib.Seq.{sets-eq, take_all}
+use borrow.Rule.Slice.PartMut.{put_mid}
 use borrow.Author.Tests.{ltb-true, ltb-false}
+use Rattle.std.proofs.lemmas.Slice.{put_mid-paste}
 use Rattle.text.specs.LineForm.{space}
+use Rattle.text.specs.Wrote.{Wrote}
 use Rattle.text.specs.Printing.{last_digit, decimal}
 use Rattle.text.proofs.Digits.{decimal_small, decimal_more, length_small, length_more, decimal_fits}
 use Rattle.totals.specs.Table.{padded, right_aligned}
 
-module _ (spaces : ℕ) (s : List ℕ) where
-  pub length_padded : length (padded spaces s) ≡ spaces + length s
-  length_padded = simp (length-append, length-replicate)
+-- a part of a memory, written over whole
+pub wrote_part : {l m : List ℕ} {at k to : ℕ} (bs : List ℕ) → m ≡ bs → k ≡ length bs → to ≡ at + length bs → at + length bs ≤ length l → Wrote l at bs (put_mid at k l m) to
+wrote_part {l} {m} {at} {k} bs e f g h =
+    record {
+      place = g;
+      memory = put_mid-paste at k l m bs (length bs) e (sym f) refl
+          ∙ ap (λ (t : List ℕ). take at l ++ t ++ drop (at + length bs) l) (take_all (length bs) bs (omega arith)) ∙ sym (sets-eq bs l at h);
+    }
 
-  pub padded_before : (i : ℕ) → i < spaces → get_or (padded spaces s) i 0 ≡ space
-  padded_before i h = get_or-append (replicate spaces space) s 0 i (rw (length-replicate spaces space) h) ∙ get_or-replicate spaces i space 0 h
-
-  pub padded_after : (i : ℕ) → spaces ≤ i → get_or (padded spaces s) i 0 ≡ get_or s (i - spaces) 0
-  padded_after i h =
-      let e : i ≡ length (replicate spaces space) + (i - spaces) = rw (length-replicate spaces space) (omega arith) in
-      ap (λ (k : ℕ). get_or (padded spaces s) k 0) e ∙ get_or-append-add (replicate spaces space) s (i - spaces) 0
+pub length_padded : (spaces : ℕ) (s : List ℕ) → length (padded spaces s) ≡ spaces + length s
+length_padded spaces s = simp (length-append, length-replicate)
 
 -- every number has a digit
 pub decimal_some : (n : ℕ) → 0 < length (decimal n)

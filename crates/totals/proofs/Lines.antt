@@ -1,14 +1,16 @@
 -- The lines of a table: how long they are, and which there are.
-use mathlib.Core.Path.{◌≡◌, ap, ap₂, ◌∙◌}
+use mathlib.Core.Path.{◌≡◌, sym, ap, ap₂, ◌∙◌}
 use mathlib.Core.List.{List, [], ◌++◌}
 use Prim.Native.Nat.{ℕ, ◌+◌, ◌*◌, ◌^◌, ◌≤◌, ◌<◌}
 use native.Mathlib.Numerals.{add-one}
 use native.Mathlib.Omega.{arith}
 use lib.ListN.{length, length-append}
-use borrow.Author.Tests.{eq-eqb, ne_eqb}
+use borrow.Author.Tests.{eq-eqb, ne_eqb, lt-ltb}
+use Rattle.std.specs.Prelude.{Some}
+use Rattle.std.proofs.lemmas.Option.{same_Some}
 use Rattle.theory.specs.declared.verdict_totals.Totals.{Totals}
 use Rattle.theory.specs.order.Limits.{variables}
-use Rattle.theory.specs.totals.Totals.{totals_of}
+use Rattle.theory.specs.totals.Totals.{totals_in, totals_of}
 use Rattle.totals.specs.declared.sums.Sums.{Sums}
 use Rattle.totals.specs.Table.{Small, nothing_yet, added, all_of, name_width, count_width, right_aligned, count_columns, sums_below, variable_line, lines_below}
 use Rattle.totals.proofs.Aligned.{aligned_fits}
@@ -30,6 +32,12 @@ module _ (s : Sums) where
         aligned_fits count_width s.doubt (omega arith) (omega arith),
         aligned_fits count_width (all_of s) (omega arith) (omega arith),
       )
+
+-- sums that begin at 0
+pub no_sums : {s : Sums} → (s.clear ≡ 0) × ((s.race ≡ 0) × (s.doubt ≡ 0)) → s ≡ nothing_yet
+no_sums {s} e =
+    let of : ℕ → ℕ → ℕ → Sums = λ c r d. record { clear = c; race = r; doubt = d } in
+    ap (λ (c : ℕ). of c s.race s.doubt) e.0 ∙ ap₂ (of 0) e.1.0 e.1.1
 
 module _ (v : ℕ) (t : Totals) where
   -- the sums of one variable, as they are reckoned
@@ -66,10 +74,18 @@ pub sums_within_more : {n : ℕ} {s r : Sums} {t : Totals} → WithinSums n s �
 sums_within_more {s = s} {t = t} w f e = rw e (record { clear = omega arith; race = omega arith; doubt = omega arith })
 
 module _ (control : List ℕ) (v : ℕ) where
-  pub next_lines : lines_below control (v + 1) ≡ lines_below control v ++ variable_line v (totals_of control v)
+  -- there are totals of each variable
+  pub known_totals : v < variables → totals_of control v ≡ Some (totals_in control v)
+  known_totals h = rw (lt-ltb v variables h)
+
+  -- and those that are found are its own
+  pub found_totals : {t : Totals} → v < variables → totals_of control v ≡ Some t → t ≡ totals_in control v
+  found_totals {t} h e = sym (same_Some (totals_in control v) t (sym (known_totals h) ∙ e))
+
+  pub next_lines : lines_below control (v + 1) ≡ lines_below control v ++ variable_line v (totals_in control v)
   unfolding lines_below
   next_lines = rw (add-one v)
 
-  pub next_sums : {s r : Sums} {t : Totals} → s ≡ sums_below control v → t ≡ totals_of control v → r ≡ added s t → r ≡ sums_below control (v + 1)
+  pub next_sums : {s r : Sums} {t : Totals} → s ≡ sums_below control v → t ≡ totals_in control v → r ≡ added s t → r ≡ sums_below control (v + 1)
   unfolding sums_below
   next_sums p q e = rw (add-one v) (e ∙ ap₂ added p q)

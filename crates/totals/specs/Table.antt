@@ -4,7 +4,7 @@ use Rattle.std.specs.Prelude.{ℕ, zero, suc, ◌+◌, ◌*◌, ◌-◌, ◌^◌
 use Rattle.theory.specs.declared.verdict_totals.Totals.{Totals}
 use Rattle.theory.specs.order.Limits.{variables}
 use Rattle.theory.specs.acceptance.Control.{under_in, skipped_in}
-use Rattle.theory.specs.totals.Totals.{totals_of}
+use Rattle.theory.specs.totals.Totals.{totals_in}
 use Rattle.text.specs.LineForm.{space}
 use Rattle.text.specs.Printing.{bytes, decimal}
 use Rattle.totals.specs.declared.sums.Sums.{Sums}
@@ -29,7 +29,7 @@ pub record Small (s : Sums) : Type 0 where
 -- over the variables below v
 unfoldable pub sums_below : List ℕ → ℕ → Sums
 sums_below control zero = nothing_yet
-sums_below control (suc v) = added (sums_below control v) (totals_of control v)
+sums_below control (suc v) = added (sums_below control v) (totals_in control v)
 
 -- Columns
 
@@ -66,7 +66,7 @@ variable_line v t = let s = added nothing_yet t in cond (eqb (all_of s) 0) [] (r
 -- those of the variables below v
 unfoldable pub lines_below : List ℕ → ℕ → List ℕ
 lines_below control zero = []
-lines_below control (suc v) = lines_below control v ++ variable_line v (totals_of control v)
+lines_below control (suc v) = lines_below control v ++ variable_line v (totals_in control v)
 
 abbrev pub head : List ℕ
 head = bytes "var   clear    race   doubt     all\n"

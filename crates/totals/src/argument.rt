@@ -2,15 +2,23 @@
 ghost use Rattle.std.specs.Prelude.{◌≡◌};
 ghost use Rattle.totals.specs.Argument.{every_of};
 
-use reading::read_decimal;
-use text::Number;
+use input::argument;
+use reading::{DIGITS, read_decimal};
+use std::rt::Env;
 
-// After so many accepted records each a table is asked for; 0 where the word is no number of the text form above 0.
-pub(crate) fn every_of(word: &[u8]) -> u32
+// After so many accepted records each a table is asked for; none where the word is no number of the text form above 0.
+fn every_of(word: &[u8]) -> Option<u32>
     ensures { result ≡ every_of word.now }
 {
-    let Number::Value(every) = read_decimal(word) else {
-        return 0;
-    };
-    every
+    match read_decimal(word) {
+        Some(every) if every != 0 => Some(every),
+        _ => None,
+    }
+}
+
+// The same of the program's argument.
+pub(crate) fn asked_every<R: Env>(rt: &R) -> Option<u32> {
+    let mut word = [0u8; DIGITS];
+    let n = argument(rt, 1, &mut word)?;
+    every_of(&word[..n])
 }

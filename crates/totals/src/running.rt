@@ -1,61 +1,64 @@
 // The recording to its end, line by line, with the tables that are due on the way.
 use crate::showing::show_due;
-use input::{next_piece, no_piece};
-use report::{REFUSED, report_piece};
+use checker::Tables;
+use input::{BLOCK, PIECE, Span, next_piece};
+use report::{HELD_MOST, LINE_ROOM, REFUSED, report_piece};
 use std::io::{Read, Write};
 use text::Progress;
-use theory::{COUNT, Clocks, Control, History};
+use theory::{COUNT, State};
 
-// Piece by piece, in each of which at most one line ends. A table is written as soon as it is due: more input may be long in coming. `at` of what is
-// returned is `REFUSED` where it broke off before the end.
+// Memory for the report of a piece, which is thrown away: the totals are what the records leave in the control table.
+const REPORT: usize = LINE_ROOM * PIECE;
+
+// Piece by piece, in each of which at most one line ends. A table is written as soon as it is due: more input may be long in coming. Says whether it
+// came to the end: it breaks off where a piece was not taken in, and where the output is closed.
 pub(crate) fn run<I: Read, O: Write, E: Write>(
     input: &mut I,
     stdout: &mut O,
     stderr: &mut E,
-    every: u32,
-    report: &mut [u8],
-    held: &mut [u8],
-    block: &mut [u8],
-    control: &mut Control,
-    last: &mut History,
-    clocks: &mut Clocks,
-    fullclocks: &mut Clocks,
-) -> Progress {
-    let mut piece = no_piece();
+    every: Option<u32>,
+    state: &mut State,
+) -> bool {
+    let mut report = [0u8; REPORT];
+    let mut held = [0u8; HELD_MOST];
+    let mut block = [0u8; BLOCK];
+    let mut piece = Span::START;
     let mut now = Progress {
         lines: 0,
         held: 0,
         at: 0,
     };
-    // A proved loop has to end, and nothing says that an input does: it counts turns that no run uses up.
-    let mut more = true;
-    let mut turns = u64::MAX;
-    while turns > 0 && more {
+    // A proved loop has to end, and nothing says that an input does: no run uses up so many turns.
+    for _ in 0..u64::MAX {
         piece = next_piece(
             input,
-            block,
+            &mut block,
             piece,
             true,
             now.held > 0,
             b"totals: the input cannot be read\n",
             stderr,
         );
-        let from = piece.from;
-        let end = piece.end;
-        let before = control[COUNT];
-        let read = report_piece(
-            report,
-            &block[from..end],
-            held,
+        let before = state.control[COUNT];
+        now = report_piece(
+            &mut report,
+            &block[piece.from..piece.end],
+            &mut held,
             now,
-            control,
-            last,
-            clocks,
-            fullclocks,
+            &mut Tables {
+                control: &mut state.control,
+                last: &mut state.last,
+                clocks: &mut state.clocks,
+                fullclocks: &mut state.fullclocks,
+            },
         );
-        now = show_due(stdout, control, every, before, read);
-        more = piece.more && now.at < REFUSED;
-        turns -= 1;
+        if now.at == REFUSED || !show_due(stdout, &state.control, every, before) {
+            return false;
+        }
+        if !piece.more {
+            break;
+        }
+        now.at = 0;
     }
-    now
+    true
 }

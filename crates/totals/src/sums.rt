@@ -1,42 +1,35 @@
 // How many accesses were answered by each verdict, of one variable or of several.
 ghost use Rattle.std.specs.Prelude.{◌≡◌};
-ghost use Rattle.totals.specs.Table.{Small, nothing_yet, added, all_of};
+ghost use Rattle.totals.specs.Table.{Small, added, all_of};
 
 use theory::Totals;
 
-#[derive(Clone, Copy)]
+// That they are small is no ghost field: each record that specs/Table.antt computes with would have one too, and sums of small sums need not be small.
+#[derive(Clone, Copy, Default)]
 pub(crate) struct Sums {
     pub clear: u64,
     pub race: u64,
     pub doubt: u64,
 }
 
-pub(crate) fn nothing_yet() -> Sums
-    ensures { result ≡ nothing_yet }
-{
-    Sums {
-        clear: 0,
-        race: 0,
-        doubt: 0,
+impl Sums {
+    // With those of one variable more.
+    pub(crate) fn with(self, t: Totals) -> Sums
+        requires { Small self }
+        ensures { result ≡ added self t }
+    {
+        Sums {
+            clear: self.clear + u64::from(t.clear),
+            race: self.race + u64::from(t.race),
+            doubt: self.doubt + u64::from(t.doubt),
+        }
     }
-}
 
-// With those of one variable more.
-pub(crate) fn added_to(s: Sums, t: Totals) -> Sums
-    requires { Small s }
-    ensures { result ≡ added s t }
-{
-    Sums {
-        clear: s.clear + t.clear as u64,
-        race: s.race + t.race as u64,
-        doubt: s.doubt + t.doubt as u64,
+    // All of them together.
+    pub(crate) fn all(self) -> u64
+        requires { Small self }
+        ensures { result ≡ all_of self }
+    {
+        self.clear + self.race + self.doubt
     }
-}
-
-// All of them together.
-pub(crate) fn all_of(s: Sums) -> u64
-    requires { Small s }
-    ensures { result ≡ all_of s }
-{
-    s.clear + s.race + s.doubt
 }

@@ -1,11 +1,12 @@
-// The table of totals, written into lent memory. Each function writes at a place and returns the place after what it wrote.
-ghost use Rattle.std.specs.Prelude.{◌+◌, ◌*◌, ◌-◌, ◌<◌, ◌≤◌, max, ◌≡◌, length, get_or};
+// The table of totals, written into lent memory. Each function writes at a place and returns the place after what it wrote: a struct of both, as report's
+// `Page`, would ask one clause more of each, that the memory is the same.
+ghost use Rattle.std.specs.Prelude.{◌+◌, ◌*◌, ◌-◌, ◌<◌, ◌≤◌, max, ◌≡◌, length};
 ghost use Rattle.theory.specs.order.Limits.{variables};
 ghost use Rattle.input.specs.Prefix.{IsPrefixLen};
 ghost use Rattle.text.specs.Wrote.{Wrote};
 ghost use Rattle.totals.specs.Table.{Small, line, sums_below, padded, right_aligned, count_columns, variable_line, lines_below, table_of, room, skipped_line, shown_of};
 
-use crate::sums::{Sums, added_to, all_of, nothing_yet};
+use crate::sums::Sums;
 use acceptance::{is_under, skipped};
 use checker::totals_of;
 use report::last_digit;
@@ -24,33 +25,23 @@ const LINES: usize = VARIABLES as usize + 3;
 
 pub(crate) const TABLE: usize = LINES * LINE;
 
-// A byte of a padded text.
-fn padded_byte(spaces: usize, bytes: &[u8], i: usize) -> u8
-    requires { i < spaces + length bytes.now }
-    ensures { result ≡ get_or (padded spaces bytes.now) i 0 }
-{
-    if i < spaces { b' ' } else { bytes[i - spaces] }
-}
-
 // Spaces, and then the bytes as they are.
 fn put_padded(out: &mut [u8], at: usize, spaces: usize, bytes: &[u8]) -> usize
     requires { at + length (padded spaces bytes.now) ≤ length out.old }
     ensures { Wrote out.old at (padded spaces bytes.now) out.new result }
 {
-    let n = spaces + bytes.len();
-    let mut i = 0;
-    while i < n {
-        out[at + i] = padded_byte(spaces, bytes, i);
-        i += 1;
-    }
-    at + i
+    let begin = at + spaces;
+    let end = begin + bytes.len();
+    out[at..begin].fill(b' ');
+    out[begin..end].copy_from_slice(bytes);
+    end
 }
 
 // What is left of a column's width beside one digit.
 fn beside_digit(width: usize) -> usize
     ensures { result ≡ max 1 (width - 1) }
 {
-    if width < 2 { 1 } else { width - 1 }
+    width.saturating_sub(1).max(1)
 }
 
 // A number at the right end of a column: the digits of its tenth, if it has one, in what is left of the column, and the last.
@@ -75,7 +66,7 @@ fn put_counts(out: &mut [u8], at: usize, s: Sums) -> usize
     let a = put_aligned(out, at, COUNT_WIDTH, s.clear);
     let b = put_aligned(out, a, COUNT_WIDTH, s.race);
     let c = put_aligned(out, b, COUNT_WIDTH, s.doubt);
-    let d = put_aligned(out, c, COUNT_WIDTH, all_of(s));
+    let d = put_aligned(out, c, COUNT_WIDTH, s.all());
     put_padded(out, d, 0, b"\n")
 }
 
@@ -84,8 +75,8 @@ fn put_variable(out: &mut [u8], at: usize, v: u32, t: Totals) -> usize
     requires { at + line ≤ length out.old }
     ensures { Wrote out.old at (variable_line v t) out.new result × (result ≤ at + line) }
 {
-    let s = added_to(nothing_yet(), t);
-    if all_of(s) == 0 {
+    let s = Sums::default().with(t);
+    if s.all() == 0 {
         return at;
     }
     let a = put_aligned(out, at, NAME_WIDTH, v as u64);
@@ -106,13 +97,12 @@ fn put_variables(out: &mut [u8], at: usize, control: &Control) -> WroteSums
         × (result.to ≤ at + variables * line) × (result.sums ≡ sums_below control.now variables) × Small result.sums }
 {
     let mut to = at;
-    let mut sums = nothing_yet();
-    let mut v = 0;
-    while v < VARIABLES {
-        let t = totals_of(control, v);
+    let mut sums = Sums::default();
+    for v in 0..VARIABLES {
+        // There are totals of each number below that of variables.
+        let t = totals_of(control, v).unwrap();
         to = put_variable(out, to, v, t);
-        sums = added_to(sums, t);
-        v += 1;
+        sums = sums.with(t);
     }
     WroteSums { to, sums }
 }

@@ -9,13 +9,18 @@ use borrow.Author.Tests.{ne_eqb}
 use lib.ListN.{length, get_or, take, length-append}
 use Rattle.theory.specs.declared.record.Record.{Record}
 use Rattle.theory.specs.order.Recording.{Event, event_of, accesses}
-use Rattle.theory.specs.acceptance.Table.{refusal, append_unless, extended, recording}
+use Rattle.std.specs.Prelude.{Result, Err}
+use Rattle.theory.specs.declared.refusal.Refusal.{Refusal}
+use Rattle.theory.specs.acceptance.Table.{OfRow, refusal, standing, append_unless, extended, recording}
+use Rattle.theory.specs.acceptance.Refusals.{numbered_row, refusal_in}
 use Rattle.theory.specs.acceptance.Control.{control_refusal, control_after}
 use Rattle.theory.specs.feeding.Step.{fresh_control}
 use Rattle.theory.specs.feeding.Feeding.{refusals_after}
 use Rattle.requests.specs.following.Following.{Run, run_of, followed, Follower, answered_at, ended_by, answer_by, first_refused, fed_refusal, AnswersWithout}
 use Rattle.theory.proofs.acceptance.ControlTable.{ExactControl}
 use Rattle.theory.proofs.acceptance.Standings.{same_refusal}
+use Rattle.theory.proofs.acceptance.Rows.{refusal_of_row}
+use Rattle.theory.proofs.acceptance.Numbered.{row_numbered}
 
 -- the refusal of the first refused record, record by record
 pub first_after : (n : ℕ) (ns : List ℕ) → ¬ (n ≡ 0) → first_refused (n ∷ ns) ≡ n
@@ -174,3 +179,22 @@ module _ {S A : Type 0} {f : Follower S A} {Holds : Record → List Event → Li
       refused : {rs : List Record} → EmptyOrLast rs → (n : ℕ) → fed_refusal rs ≡ suc n → answer_by f rs ≡ f.without (suc n)
       refused empty n e = absurd (omega arith)
       refused (snoc rs q) n e = answer_last f rs q ∙ refused_end rs q n e
+
+-- The number of a refused list's answer
+
+-- it is that of a row
+fed_of_row : (rs : List Record) (es : List Event) (n : ℕ) → first_refused (refusals_after es rs) ≡ suc n → OfRow (suc n)
+fed_of_row [] es n e = absurd (omega arith)
+fed_of_row (r ∷ rs) es n e = of (refusal es r) refl e (fed_of_row rs (append_unless es r zero) n)
+  where
+    of : (m : ℕ) → refusal es r ≡ m → first_refused (m ∷ refusals_after (append_unless es r m) rs) ≡ suc n →
+        (first_refused (refusals_after (append_unless es r zero) rs) ≡ suc n → OfRow (suc n)) → OfRow (suc n)
+    of zero q e later = later e
+    of (suc m) q e later =
+        let first = sym (first_after (suc m) (refusals_after (append_unless es r (suc m)) rs) (λ z. omega arith)) in
+        subst OfRow (q ∙ (first ∙ e)) (refusal_of_row (standing es) r (omega arith))
+
+-- so the row that the answer has says it
+pub fed_number : {A : Type 0} (without : ℕ → Result A Refusal) → ((n : ℕ) → without (suc n) ≡ Err (numbered_row (suc n))) → {answer : List Record → Result A Refusal} →
+    AnswersWithout without answer → (rs : List Record) (n : ℕ) → fed_refusal rs ≡ suc n → refusal_in (answer rs) ≡ suc n
+fed_number without by_row x rs n e = rw (x.refused rs n e, by_row n) (row_numbered (suc n) (fed_of_row rs [] n e))

@@ -11,13 +11,17 @@ use borrow.Author.Tests.{lt-ltb, le-ltb, le-leb}
 use lib.Dec.{ltb}
 use lib.ListN.{length, get_or, take, drop, length-map, length-take, drop_of_length-le, get_or-map}
 use lib.Seq.{drop-cons, get_or-take}
+use Rattle.std.specs.Prelude.{Result, Err}
 use Rattle.theory.specs.declared.record.Record.{Record}
+use Rattle.theory.specs.declared.refusal.Refusal.{Refusal}
 use Rattle.theory.specs.order.Recording.{kinds}
 use Rattle.theory.specs.acceptance.Table.{Standing, standing_refusal}
+use Rattle.theory.specs.acceptance.Refusals.{row_number, numbered_row}
 use Rattle.theory.specs.acceptance.Control.{control_standing, control_refusal, control_after}
 use Rattle.theory.specs.feeding.Step.{fresh_control}
 use Rattle.requests.specs.following.Following.{record_in, Run, run_of, followed, Follower, answered_at, ending, ended_by, answer_by}
 use Rattle.theory.proofs.basics.Reflects.{Reflects, right, wrong, at_most}
+use Rattle.theory.proofs.acceptance.Numbered.{numbered_row_number}
 use Rattle.theory.proofs.acceptance.Rows.{allowed}
 
 -- Kinds
@@ -172,3 +176,12 @@ module _ {S A : Type 0} (f : Follower S A) where
       of : (m : ℕ) (x : Run S) → m ≢ 0 → f.without m ≡ answered_at f q x m
       of zero x z = absurd (z refl)
       of (suc m) x z = refl
+
+-- An answer by a refusal's number, as a definition gives it, is the one by its row, as the code gives it
+pub refused_without : {A : Type 0} (answer : ℕ → Result A Refusal) → ((n : ℕ) → answer (suc n) ≡ Err (numbered_row (suc n))) → (row : Refusal) →
+    answer (row_number row) ≡ Err row
+refused_without answer by_row row = of (row_number row) refl
+  where
+    of : (n : ℕ) → row_number row ≡ n → answer n ≡ Err row
+    of zero e = let first : row_number row ≡ 1 = ap row_number (sym (numbered_row_number row) ∙ ap numbered_row e) in absurd (omega arith)
+    of (suc n) e = by_row n ∙ ap Err (sym (ap numbered_row e) ∙ numbered_row_number row)

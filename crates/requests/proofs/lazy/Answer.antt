@@ -20,7 +20,7 @@ use Rattle.theory.specs.verdicts.Verdict.{Latest}
 use Rattle.theory.specs.feeding.Step.{fresh_control, fresh_sets}
 use Rattle.theory.specs.feeding.Paths.{set_reckoning, left_by, Retained, RetainedApart}
 use Rattle.requests.specs.lazy.Walk.{Walks, Counted, WalkOf, no_pair, no_walk, walk, Between, pair}
-use Rattle.requests.specs.lazy.Fold.{Lazy, word_at, by_end, column, walk_by, told, question, lazy_after, fresh_lazy, lazy_follower, lazily}
+use Rattle.requests.specs.lazy.Fold.{Lazy, word_at, by_end, column, walk_by, told, question, lazy_after, fresh_lazy, no_pairs, lazy_follower, lazily}
 use Rattle.requests.specs.lazy.Answer.{Told, AnswersLazily}
 use Rattle.theory.proofs.basics.Reflects.{Reflects, right, wrong, by_test, equal, at_most}
 use Rattle.theory.proofs.order.Ops.{event_act, op_of_kind, op_of_lem, on_series, access_on, access_tests}
@@ -28,7 +28,7 @@ use Rattle.theory.proofs.order.Numbered.{kind_above}
 use Rattle.theory.proofs.history.Numbers.{number_final, final_number}
 use Rattle.theory.proofs.verdicts.Latest.{Final}
 use Rattle.theory.proofs.feeding.Simulation.{Shape, an_act, a_mark, shape_of, RepresentsSets, after_all_lem, sets_simulate}
-use Rattle.requests.proofs.following.Following.{Keeps, Over, follows_list, before, RightBefore, accepted, answers_without}
+use Rattle.requests.proofs.following.Following.{Keeps, Over, follows_list, before, RightBefore, accepted, answers_without, fed_number}
 use Rattle.theory.proofs.feeding.Paths.{set_paths}
 use Rattle.theory.proofs.feeding.Asked.{access_op, sets_tell}
 use Rattle.requests.proofs.lazy.Columns.{low_bit, and_bit, sum_walks, walks_least}
@@ -152,7 +152,6 @@ told_of : (rs : List Record) (p : Op) (t v : ℕ) (isa : T (is_access p)) (ht : 
     Told (recording rs ++ (act p t v ∷ [])) t v (length (recording rs)) eager (told (asked_for p t v isa ht) s)
 told_of rs p t v isa ht hv s eager y apart =
     record {
-      refused = refl;
       pairs = λ u hu. subst (λ (b : Bool). T b ↔ ((i : ℕ) × Latest all u i (length es))) (sym (low_bit s.walk.pairs u hu)) (pairs_told p t v isa ht es s y u hu);
       paths = λ u hu. subst (λ (b : Bool). T b ↔ ((i : ℕ) × Latest all u i (length es) × HappensBefore all i (length es))) (sym (paths_bit u hu)) (paths_told p t v isa ht es s y u hu);
       as_eager = λ u hu. paths_bit u hu ∙ (same u hu (by_test (bit s.walk.pairs u)) ∙ ap (λ (b : Bool). b && not (bit eager.arrived u)) (sym (low_bit s.walk.pairs u hu)));
@@ -268,8 +267,8 @@ pub answers_lazily : AnswersLazily lazily
 answers_lazily =
     record {
       without = answers_without right_before;
+      number = fed_number no_pairs (λ n. refl) (answers_without right_before);
       access_end = λ rs q e a.
           let x = accepted right_before rs q e in
-          subst (Told (recording rs ++ (event_of q ∷ [])) q.task q.on (length (recording rs)) (set_reckoning.masks (left_by set_reckoning rs) q)) (sym (x.answer ∙ rw a))
-          (access_told rs (shape_of (recording rs) q x.last) a x.last x.through);
+          (told q (before lazy_follower rs q).kept, x.answer ∙ rw a, access_told rs (shape_of (recording rs) q x.last) a x.last x.through);
     }

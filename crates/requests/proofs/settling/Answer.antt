@@ -1,5 +1,6 @@
 -- What is computed answers whether home can force Clear, for every list of records and every home set. The statement is in
 -- specs/settling/Answer.antt. Assumes nothing.
+use Rattle.std.specs.Prelude.{Ok}
 use mathlib.Core.Path.{◌≡◌, refl, ◌∙◌}
 use mathlib.Core.Bool.{Bool, true, false, cond}
 use mathlib.Core.List.{List, [], ◌∷◌, ◌++◌}
@@ -7,13 +8,14 @@ use Prim.Native.Nat.{ℕ}
 use lib.Dec.{eqb}
 use lib.ListN.{length}
 use Rattle.theory.specs.declared.record.Record.{Record}
+use Rattle.requests.specs.declared.settled.Settled.{Settled}
 use Rattle.theory.specs.order.Recording.{Event, event_of, accesses}
 use Rattle.theory.specs.acceptance.Table.{refusal, recording}
 use Rattle.theory.specs.acceptance.Control.{control_after}
 use Rattle.theory.specs.tables.Reckonings.{clock_mask}
 use Rattle.theory.specs.feeding.Step.{fresh_control}
 use Rattle.requests.specs.following.Following.{fed_refusal}
-use Rattle.requests.specs.settling.Fold.{home_only, Side, fresh_side, side_after, home_follower, says_no, says_yes, settled_of, settles}
+use Rattle.requests.specs.settling.Fold.{home_only, Side, fresh_side, side_after, Settling, home_follower, settles}
 use Rattle.requests.specs.settling.Answer.{Settles}
 use Rattle.theory.proofs.tables.ClockTables.{ExactClocks, fresh_clocks}
 use Rattle.theory.proofs.feeding.Simulation.{shape_of, Base, base_next, fresh_base, clocks_by}
@@ -54,7 +56,7 @@ module _ (home : ℕ) where
       test : Bool
       test = eqb (clock_mask kept.clocks kept.last q.kind q.task q.on) 0
 
-      pushed : (b : Bool) → cond b (settled_of 0 says_yes) (settled_of 0 says_no) ≡ settled_of 0 (cond b says_yes says_no)
+      pushed : (b : Bool) → cond {A = Settling} b (Ok Settled.Yes) (Ok Settled.No) ≡ Ok (cond b Settled.Yes Settled.No)
       pushed true = refl
       pushed false = refl
 

@@ -1,4 +1,5 @@
 -- The table of short recordings follows from the definitions: the search over home's best is computed, and it answers. Assumes nothing.
+use Rattle.std.specs.Prelude.{Ok}
 use mathlib.Core.Path.{◌≡◌, refl, sym, ap, subst, ◌∙◌}
 use mathlib.Core.Bool.{Bool, true, false, cond, ◌&&◌}
 use mathlib.Core.List.{List, [], ◌∷◌, ◌++◌, map, tail}
@@ -15,7 +16,8 @@ use Rattle.theory.specs.verdicts.Search.{Found, partner}
 use Rattle.theory.specs.feeding.Feeding.{event_record}
 use Rattle.requests.specs.following.Following.{fed_refusal}
 use Rattle.requests.specs.settling.Forcing.{Forced}
-use Rattle.requests.specs.settling.Fold.{home_only, says_no, says_yes, settled_of, settles}
+use Rattle.requests.specs.declared.settled.Settled.{Settled}
+use Rattle.requests.specs.settling.Fold.{home_only, settles}
 use Rattle.requests.specs.settling.Examples.{Question, AllForced, no_rows, and_row, questions, records_of, SettledExamples}
 use Rattle.theory.proofs.basics.Reflects.{by_test, both, passed, is_true}
 use Rattle.theory.proofs.order.Numbered.{same, same_true}
@@ -100,14 +102,14 @@ one_answer true c f g = sym (g.yes.1 (f.yes.0 refl))
 one_answer false c f g = sym (g.no.1 (f.no.0 refl))
 
 row_settled : {x : Question} → Good x → recording (map event_record x.before) ≡ x.before → fed_refusal (records_of x) ≡ 0 →
-    settles x.home (records_of x) ≡ settled_of 0 (cond x.forced says_yes says_no)
+    settles x.home (records_of x) ≡ Ok (cond x.forced Settled.Yes Settled.No)
 row_settled (good {before = before} {home = home} {b = b} o t n a f) e q =
     let (c, s, g) = (settled.access_end home (map event_record before) (event_record (act o t n)) q (access_tests o a)).says in
-    s ∙ ap (λ (d : Bool). settled_of 0 (cond d says_yes says_no)) (one_answer c b (rw (e, event_act o t n) at g) f)
+    s ∙ ap (λ (d : Bool). Ok (cond d Settled.Yes Settled.No)) (one_answer c b (rw (e, event_act o t n) at g) f)
 
 rows_settled : {xs : List Question} → AllGood xs → map (λ (x : Question). recording (map event_record x.before)) xs ≡ map (λ (x : Question). x.before) xs →
     map (λ (x : Question). fed_refusal (records_of x)) xs ≡ map (λ (x : Question). 0) xs →
-    map (λ (x : Question). settles x.home (records_of x)) xs ≡ map (λ (x : Question). settled_of 0 (cond x.forced says_yes says_no)) xs
+    map (λ (x : Question). settles x.home (records_of x)) xs ≡ map (λ (x : Question). Ok (cond x.forced Settled.Yes Settled.No)) xs
 rows_settled none_left e q = refl
 rows_settled (one_more_lem g gs) e q = rw (row_settled g (ap first_list e) (ap first_number q), rows_settled gs (ap tail e) (ap tail q))
   where

@@ -1,10 +1,12 @@
 -- What the lazy reckoning computes, in one pass over the list. It reads the access that ends the list first, and follows order from the accesses
 -- that this one asks about, and from those that a write of the acting task would ask about, in words that have a bit for each of them.
-use Rattle.std.specs.Prelude.{ℕ, ◌+◌, ◌*◌, ◌-◌, ◌%◌, ◌^◌, Bool, cond, not, ◌&&◌, ◌||◌, List, ltb, eqb, get_or, set, replicate}
+use Rattle.std.specs.Prelude.{ℕ, zero, suc, ◌+◌, ◌*◌, ◌-◌, ◌%◌, ◌^◌, Bool, cond, not, ◌&&◌, ◌||◌, List, [], ◌∷◌, ltb, eqb, get_or, set, replicate, Result, Ok, Err}
 use Rattle.std.specs.Int.Bits.{bit_and, bit_or}
 use Rattle.theory.specs.declared.record.Record.{Record}
 use Rattle.requests.specs.declared.walk.Walk.{Walk}
 use Rattle.requests.specs.declared.walk.Pairs.{Pairs}
+use Rattle.theory.specs.declared.refusal.Refusal.{Refusal}
+use Rattle.theory.specs.acceptance.Refusals.{row_number, numbered_row}
 use Rattle.theory.specs.basics.Turns.{turns, any_below}
 use Rattle.theory.specs.order.Limits.{tasks, variables}
 use Rattle.theory.specs.order.Recording.{read, write, take, give, look, set as sets, start, join, fresh, kind, loss_mark, accesses, numbered_kind}
@@ -137,8 +139,18 @@ fresh_lazy = lazy_of (replicate hub 0) (replicate word_bits 0) (walk_of 0 0 0 0)
 
 -- The answer
 
-abbrev pub pairs_of : ℕ → ℕ → ℕ → ℕ → Pairs
-pairs_of refused pairs paths walked = record { refused = refused; pairs = pairs; paths = paths; walked = walked }
+abbrev pub pairs_of : ℕ → ℕ → ℕ → Pairs
+pairs_of pairs paths walked = record { pairs = pairs; paths = paths; walked = walked }
+
+-- where there is no access to answer for, no pairs: by the number of the refusal, or 0
+abbrev pub no_pairs : ℕ → Result Pairs Refusal
+no_pairs zero = Ok (pairs_of 0 0 0)
+no_pairs (suc n) = Err (numbered_row (suc n))
+
+-- as four numbers, for a host that knows no enum: the refusal's or 0, and those of the pairs
+abbrev pub pairs_numbers : Result Pairs Refusal → List ℕ
+pairs_numbers (Ok a) = 0 ∷ a.pairs ∷ a.paths ∷ a.walked ∷ []
+pairs_numbers (Err row) = row_number row ∷ 0 ∷ 0 ∷ 0 ∷ []
 
 -- what task u's walk counts: nothing where it has no pair or needs none
 abbrev pub walk_by : ℕ → Lazy → ℕ → ℕ
@@ -150,7 +162,7 @@ walks own s = turns tasks (λ u n. n + walk_by own s u) 0
 
 abbrev pub told : Record → Lazy → Pairs
 told q s =
-    let own = word_at s.nodes q.task in pairs_of 0 (s.walk.pairs % 2 ^ tasks) (bit_and s.walk.pairs own % 2 ^ tasks) (walks own s)
+    let own = word_at s.nodes q.task in pairs_of (s.walk.pairs % 2 ^ tasks) (bit_and s.walk.pairs own % 2 ^ tasks) (walks own s)
 
 -- an access in range; where the list ends in anything else, nothing need be followed, and it is done for an access that says nothing
 abbrev pub asks_in_range : Record → Bool
@@ -159,9 +171,9 @@ asks_in_range q = accesses q.kind && (ltb q.task tasks && ltb q.on variables)
 abbrev pub question : Record → Record
 question q = cond (asks_in_range q) q (record { kind = kind read; task = 0; on = 0 })
 
-abbrev pub lazy_follower : Follower Lazy Pairs
-lazy_follower = record { fresh = fresh_lazy; next = λ q. lazy_after (question q); without = λ n. pairs_of n 0 0 0; told = told }
+abbrev pub lazy_follower : Follower Lazy (Result Pairs Refusal)
+lazy_follower = record { fresh = fresh_lazy; next = λ q. lazy_after (question q); without = no_pairs; told = λ q s. Ok (told q s) }
 
 -- the answer for a list of records
-abbrev pub lazily : List Record → Pairs
+abbrev pub lazily : List Record → Result Pairs Refusal
 lazily = answer_by lazy_follower

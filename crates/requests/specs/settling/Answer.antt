@@ -1,16 +1,17 @@
 -- F-10: what is answered, for every list of records and every home set. proofs/settling proves it of `settles`, and of the table of single tasks.
-use Rattle.std.specs.Prelude.{ℕ, suc, ◌-◌, ◌^◌, ◌<◌, ◌≡◌, Bool, true, false, cond, ◌↔◌, List, [], ◌∷◌, ◌++◌, T, length}
+use Rattle.std.specs.Prelude.{ℕ, suc, ◌-◌, ◌^◌, ◌<◌, ◌≡◌, Bool, true, false, cond, ◌↔◌, List, [], ◌∷◌, ◌++◌, T, length, Ok}
 use Rattle.theory.specs.declared.record.Record.{Record}
 use Rattle.requests.specs.declared.settled.Settled.{Settled}
 use Rattle.theory.specs.order.Limits.{tasks}
 use Rattle.theory.specs.order.Recording.{Event, event_of, accesses}
 use Rattle.theory.specs.fillings.Completion.{bit}
 use Rattle.theory.specs.acceptance.Table.{refusal, recording}
+use Rattle.theory.specs.acceptance.Refusals.{refusal_in}
 use Rattle.theory.specs.verdicts.Verdict.{Race, Clear, Doubt}
 use Rattle.theory.specs.verdicts.Demands.{Firm}
 use Rattle.requests.specs.following.Following.{fed_refusal, AnswersWithout}
 use Rattle.requests.specs.settling.Forcing.{is_home, CanForce, Forced}
-use Rattle.requests.specs.settling.Fold.{neither, says_no, says_yes, settled_of, home_of}
+use Rattle.requests.specs.settling.Fold.{Settling, unsettled, home_of}
 
 -- Home sets, by the tasks 0 to 15
 
@@ -32,16 +33,16 @@ SameTasks home home' = (t : ℕ) → t < tasks → is_home home t ≡ is_home ho
 
 -- The answers
 
-abbrev pub No : Settled → Type 0
-No a = a ≡ settled_of 0 says_no
+abbrev pub No : Settling → Type 0
+No a = a ≡ Ok Settled.No
 
-abbrev pub Yes : Settled → Type 0
-Yes a = a ≡ settled_of 0 says_yes
+abbrev pub Yes : Settling → Type 0
+Yes a = a ≡ Ok Settled.Yes
 
 -- the answer for an access that stands at place k and ends the recording es
-pub record AnsweredAt (home : ℕ) (es : List Event) (k : ℕ) (a : Settled) : Type 0 where
+pub record AnsweredAt (home : ℕ) (es : List Event) (k : ℕ) (a : Settling) : Type 0 where
   -- "say whether home can force Clear"; "nothing else is a reason for yes"
-  pub says : (b : Bool) × (a ≡ settled_of 0 (cond b says_yes says_no)) × Forced home es k b
+  pub says : (b : Bool) × (a ≡ Ok (cond b Settled.Yes Settled.No)) × Forced home es k b
   -- "By the same rule a Clear access gets yes and a Race access no", whoever gave the verdict
   pub clear : Firm es k Clear → Yes a
   pub race : Firm es k Race → No a
@@ -50,9 +51,10 @@ pub record AnsweredAt (home : ℕ) (es : List Event) (k : ℕ) (a : Settled) : T
   pub full_set : Firm es k Doubt → EveryTask home → Yes a
 
 -- of whatever answers lists of records, with a home set
-pub record Settles (answer : ℕ → List Record → Settled) : Type 0 where
+pub record Settles (answer : ℕ → List Record → Settling) : Type 0 where
   -- "A list refused there gets the same number; one that is empty or ends in another kind of record gets neither yes nor no"
-  pub without : (home : ℕ) → AnswersWithout (λ n. settled_of n neither) (answer home)
+  pub without : (home : ℕ) → AnswersWithout unsettled (answer home)
+  pub number : (home : ℕ) (rs : List Record) (n : ℕ) → fed_refusal rs ≡ suc n → refusal_in (answer home rs) ≡ suc n
   -- "the answer is for the access that ends it"
   pub access_end : (home : ℕ) (rs : List Record) (q : Record) → fed_refusal (rs ++ (q ∷ [])) ≡ 0 → accesses q.kind ≡ true →
       AnsweredAt home (recording rs ++ (event_of q ∷ [])) (length (recording rs)) (answer home (rs ++ (q ∷ [])))

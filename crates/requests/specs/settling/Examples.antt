@@ -1,13 +1,13 @@
 -- Short recordings that end in an access, each with a home set and whether that can force Clear. proofs/settling/Examples.antt proves the table, by
 -- computing it.
-use Rattle.std.specs.Prelude.{ℕ, ◌≡◌, Bool, true, false, cond, List, [], ◌∷◌, ◌++◌, map, length}
+use Rattle.std.specs.Prelude.{ℕ, ◌≡◌, Bool, true, false, cond, List, [], ◌∷◌, ◌++◌, map, length, Ok}
 use Rattle.theory.specs.declared.record.Record.{Record}
 use Rattle.requests.specs.declared.settled.Settled.{Settled}
 use Rattle.theory.specs.order.Recording.{Event, act, lost, read, take, give, start, join}
 use Rattle.theory.specs.verdicts.Examples.{w0, w1, r1}
 use Rattle.theory.specs.feeding.Feeding.{event_record}
 use Rattle.requests.specs.settling.Forcing.{Forced}
-use Rattle.requests.specs.settling.Fold.{says_no, says_yes, settled_of}
+use Rattle.requests.specs.settling.Fold.{Settling}
 
 -- what stands before the access, the access, the home set, and the answer
 pub record Question : Type 0 where
@@ -71,7 +71,7 @@ abbrev pub records_of : Question → List Record
 records_of x = map event_record x.before ++ (event_record x.access ∷ [])
 
 -- whatever answers lists of records gives the answers that stand there
-abbrev pub SettledExamples : (ℕ → List Record → Settled) → Type 0
+abbrev pub SettledExamples : (ℕ → List Record → Settling) → Type 0
 SettledExamples answer =
     map (λ (x : Question). answer x.home (records_of x)) questions
-    ≡ map (λ (x : Question). settled_of 0 (cond x.forced says_yes says_no)) questions
+    ≡ map (λ (x : Question). Ok (cond x.forced Settled.Yes Settled.No)) questions

@@ -1,14 +1,16 @@
 -- What is computed to say whether home can force Clear: a list is followed with one table of clocks, in which each mark is filled in by home's
 -- tasks alone.
-use Rattle.std.specs.Prelude.{ℕ, ◌^◌, cond, ◌&&◌, List, [], ◌∷◌, eqb, get_or, set, replicate}
+use Rattle.std.specs.Prelude.{ℕ, zero, suc, ◌^◌, cond, ◌&&◌, List, [], ◌∷◌, eqb, get_or, set, replicate, Result, Ok, Err}
 use Rattle.std.specs.Int.Bits.{bit_and}
 use Rattle.theory.specs.declared.record.Record.{Record}
 use Rattle.requests.specs.declared.settled.Settled.{Settled}
 use Rattle.theory.specs.declared.state.State.{State}
+use Rattle.theory.specs.declared.refusal.Refusal.{Refusal}
 use Rattle.theory.specs.basics.Turns.{turns}
 use Rattle.theory.specs.order.Limits.{tasks}
 use Rattle.theory.specs.order.Recording.{accesses}
 use Rattle.theory.specs.fillings.Completion.{Filling}
+use Rattle.theory.specs.acceptance.Refusals.{row_number, numbered_row}
 use Rattle.theory.specs.acceptance.Control.{control_refusal}
 use Rattle.theory.specs.history.History.{slots, last_after}
 use Rattle.theory.specs.tables.Rows.{cell_count}
@@ -39,29 +41,35 @@ side_after home control r s =
     side_of (last_after r.kind r.task r.on (next_number control) s.last)
     (next_clocks (home_only home) r.kind r.task r.on (next_number control) s.clocks)
 
--- The answer: the refusal of the first refused record, or 0, and one of these three
+-- The answer: the row that refuses the first refused record, or yes, no or neither
 
-abbrev pub neither : ℕ
-neither = 0
+abbrev pub Settling : Type 0
+Settling = Result Settled Refusal
 
-abbrev pub says_no : ℕ
-says_no = 1
+-- where there is no access to answer for: by the number of the refusal, or 0
+abbrev pub unsettled : ℕ → Settling
+unsettled zero = Ok Settled.Neither
+unsettled (suc n) = Err (numbered_row (suc n))
 
-abbrev pub says_yes : ℕ
-says_yes = 2
+-- as two numbers, for a host that knows no enum: the refusal's or 0, and 0 for neither yes nor no, 1 for no, 2 for yes
+abbrev pub settled_number : Settled → ℕ
+settled_number Settled.Neither = 0
+settled_number Settled.No = 1
+settled_number Settled.Yes = 2
 
-abbrev pub settled_of : ℕ → ℕ → Settled
-settled_of refused forced = record { refused = refused; forced = forced }
+abbrev pub settling_numbers : Settling → List ℕ
+settling_numbers (Ok answer) = 0 ∷ settled_number answer ∷ []
+settling_numbers (Err row) = row_number row ∷ 0 ∷ []
 
 -- yes where no task's latest conflicting access is without a path to the access, once home has filled in what it can
-abbrev pub forced_at : Record → Side → Settled
-forced_at q s = cond (eqb (clock_mask s.clocks s.last q.kind q.task q.on) 0) (settled_of 0 says_yes) (settled_of 0 says_no)
+abbrev pub forced_at : Record → Side → Settling
+forced_at q s = cond (eqb (clock_mask s.clocks s.last q.kind q.task q.on) 0) (Ok Settled.Yes) (Ok Settled.No)
 
-abbrev pub home_follower : ℕ → Follower Side Settled
-home_follower home = record { fresh = fresh_side; next = λ q. side_after home; without = λ n. settled_of n neither; told = forced_at }
+abbrev pub home_follower : ℕ → Follower Side Settling
+home_follower home = record { fresh = fresh_side; next = λ q. side_after home; without = unsettled; told = forced_at }
 
 -- the answer for a list of records
-abbrev pub settles : ℕ → List Record → Settled
+abbrev pub settles : ℕ → List Record → Settling
 settles home = answer_by (home_follower home)
 
 -- For the planner's table: each task as a home of its own. Table t of the homes has the clocks that task t alone fills in

@@ -9,6 +9,7 @@ use Rattle.theory.specs.declared.state.State.{State}
 use Rattle.theory.specs.order.Limits.{records}
 use Rattle.theory.specs.order.Recording.{Op, kind, loss_mark}
 use Rattle.theory.specs.acceptance.Table.{Proper, Fitting}
+use Rattle.theory.specs.acceptance.Refusals.{numbered_row}
 use Rattle.theory.specs.acceptance.Control.{count_in, control_standing, control_refusal}
 use Rattle.theory.specs.declared.masks.Masks.{Masks}
 use Rattle.theory.specs.tables.Reckonings.{masks_by}
@@ -33,11 +34,11 @@ fits_of {k} {task} {on} p o q = subst (λ (i : ℕ). Fitting i task on) q (p.act
 
 -- a refused record leaves the state as it was
 
-pub set_refused : (n : ℕ) (s : SetState) (r : Record) → ¬ (n ≡ 0) → record { state = s; answer = Refused n } ≡ set_step_unless n s r
+pub set_refused : (n : ℕ) (s : SetState) (r : Record) → ¬ (n ≡ 0) → record { state = s; answer = Refused (numbered_row n) } ≡ set_step_unless n s r
 set_refused zero s r h = absurd (h refl)
 set_refused (suc n) s r h = refl
 
-pub refused : (n : ℕ) (s : State) (r : Record) → ¬ (n ≡ 0) → record { state = s; answer = Refused n } ≡ step_unless n s r
+pub refused : (n : ℕ) (s : State) (r : Record) → ¬ (n ≡ 0) → record { state = s; answer = Refused (numbered_row n) } ≡ step_unless n s r
 refused zero s r h = absurd (h refl)
 refused (suc n) s r h = refl
 

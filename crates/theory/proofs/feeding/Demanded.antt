@@ -11,6 +11,7 @@ use Rattle.theory.specs.declared.record.Record.{Record}
 use Rattle.theory.specs.declared.answer.Answer.{Answer}
 use Rattle.theory.specs.order.Recording.{Event, act, event_of, Unmarked, accesses, is_access}
 use Rattle.theory.specs.acceptance.Table.{last_row, OfRow, standing_refusal, refusal, append_unless, extended, recording}
+use Rattle.theory.specs.acceptance.Control.{control_standing}
 use Rattle.theory.specs.verdicts.Verdict.{Verdict, Race, Clear, AccessAt, Unordered, With}
 use Rattle.theory.specs.verdicts.Demands.{Firm}
 use Rattle.theory.specs.verdicts.Search.{judge, is_access_event}
@@ -30,6 +31,7 @@ use Rattle.theory.proofs.feeding.Simulation.{Simulates, fed_to, clocks_simulate,
 use Rattle.theory.proofs.feeding.Cases.{judged_by}
 use Rattle.theory.proofs.feeding.Profile.{fed_profile, fed_owned}
 use Rattle.theory.proofs.acceptance.Rows.{refusal_bound, refusal_of_row}
+use Rattle.theory.proofs.acceptance.Numbered.{refuses_by_row}
 
 -- An accepted record's answer is no refusal
 
@@ -152,14 +154,14 @@ module _ {S : Type 0} (c : Checker S) (s : S) (r : Record) (refuse : (n : ℕ) �
 pub clocks_demand1 : Demand1 by_clocks
 unfolding step_of
 clocks_demand1 s r =
-    handled by_clocks s r (λ n e. (rw e, rw e))
+    handled by_clocks s r (λ n e. (rw e (refuses_by_row (control_standing s.control) r n e), rw e))
     (λ e q. rw e (accepted_verdict s.last r.kind r.on (next_number s.control) (clock_masks s.clocks s.fullclocks s.last r.kind r.task r.on) q))
     (λ e q. rw (e, q))
 
 pub sets_demand1 : Demand1 by_sets
 unfolding set_step_of
 sets_demand1 s r =
-    handled by_sets s r (λ n e. (rw e, rw e))
+    handled by_sets s r (λ n e. (rw e (refuses_by_row (control_standing s.control) r n e), rw e))
     (λ e q. rw e (accepted_verdict s.last r.kind r.on (next_number s.control) (set_masks s.sets s.fullsets s.last r.kind r.task r.on) q))
     (λ e q. rw (e, q))
 

@@ -42,6 +42,7 @@ use Rattle.theory.proofs.history.Slots.{ExactHistory, history_act, history_mark,
 use Rattle.theory.proofs.history.Numbers.{Ranged, ranged_act, ranged_mark, fresh_ranged}
 use Rattle.theory.proofs.fillings.HasActed.{Restricts, arrived_restricts, full_restricts, Seen, seen_event, fresh_seen, starts_unseen}
 use Rattle.theory.proofs.acceptance.Keeping.{act_keeps, mark_keeps}
+use Rattle.theory.proofs.acceptance.Numbered.{refuses_by_row}
 use Rattle.theory.proofs.skipping.Learnt.{Learnt, learnt_next, fresh_learnt}
 use Rattle.theory.proofs.skipping.Clocks.{skip_same}
 use Rattle.theory.proofs.tables.Finds.{clock_finds, set_finds, judged_found}
@@ -257,7 +258,7 @@ plain_simulate = record { begins = record { base = fresh_base; clocks = record {
         decided zero e =
             let h = shape_of es r e in
             (clock_answer_lem x.base x.clocks h, record { base = base_totalled (meaning (clock_answer s r)) r.on (base_next x.base h); clocks = clocks_next x.base x.clocks h })
-        decided (suc n) e = (refl, x)
+        decided (suc n) e = (refuses_by_row (standing es) r n e, x)
 
 -- where the state is a recording's, a step that skips a take leaves what the step without skipping leaves
 pub same_step : {es : List Event} {s : State} (r : Record) → Represents es s → step_of s r ≡ plain_step_of s r
@@ -303,4 +304,4 @@ sets_simulate = record { begins = record { base = fresh_base; sets = record { as
         decided zero e =
             let h = shape_of es r e in
             (set_answer_lem x.base x.sets h, record { base = base_totalled (meaning (set_answer s r)) r.on (base_next x.base h); sets = sets_next x.base.seen x.sets h })
-        decided (suc n) e = (refl, x)
+        decided (suc n) e = (refuses_by_row (standing es) r n e, x)

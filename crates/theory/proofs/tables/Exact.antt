@@ -12,7 +12,7 @@ use lib.ListN.{replicate}
 use Rattle.theory.specs.order.Recording.{Op, Event, act, lost, series, size_of, kind}
 use Rattle.theory.specs.fillings.Completion.{bit, Named, Filling, fills}
 use Rattle.theory.specs.tables.Rows.{hub, cell, released_row, onward, is_released, mix, mark, acted_row, table_rows}
-use Rattle.theory.specs.order.Limits.{tasks, flags}
+use Rattle.theory.specs.order.Limits.{tasks}
 use Rattle.theory.proofs.order.Carry.{Node, due, acted, semaphore, flag, Releases}
 use Rattle.theory.proofs.fillings.Fullest.{FillerAcquires, FillerReleases, named_task}
 use Rattle.theory.proofs.fillings.Reach.{nobody_named, acquired_due, acquired_acted, acquired_semaphore, acquired_flag, released_due, released_acted, released_semaphore, released_flag}

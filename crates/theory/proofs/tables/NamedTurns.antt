@@ -3,7 +3,7 @@
 use mathlib.Core.Path.{◌≡◌, refl, sym, ◌∙◌, ap, subst}
 use mathlib.Core.Bool.{Bool, true, false}
 use mathlib.Core.List.{List}
-use Prim.Native.Nat.{ℕ, zero, suc, ◌+◌, ◌*◌, ◌-◌, ◌/◌, ◌%◌, ◌^◌, ◌≤◌, ◌<◌, max}
+use Prim.Native.Nat.{ℕ, zero, suc, ◌+◌, ◌*◌, ◌-◌, ◌/◌, ◌%◌, ◌^◌, ◌≤◌, ◌<◌}
 use native.Mathlib.Omega.{arith}
 use lib.Count.{count_trailing_zeros, under}
 use lib.Bits.{bit_and, and_step, and_self}
@@ -18,7 +18,7 @@ use Rattle.theory.specs.tables.Reckonings.{lowest_task}
 use Rattle.theory.specs.tables.Rows.{hub, cell, join_row, row_or_hub, is_released, row_of, put_row}
 use Rattle.theory.proofs.basics.Reflects.{Reflects, right, wrong, at_most}
 use Rattle.theory.proofs.basics.Turns.{Turned, no_turn_yet, one_turn}
-use Rattle.theory.proofs.tables.Rows.{same_max, join_self, row_cell, put_other}
+use Rattle.theory.proofs.tables.Rows.{Same, join_self, row_cell, put_other}
 
 -- Digits
 
@@ -179,8 +179,8 @@ module _ {A : Type 0} {mask : ℕ} {f : ℕ → A → A} {b : A} where
 -- Idle turns of a mark
 
 -- the hub is joined with itself
-pub idle_gather : (mask : ℕ) (x : List ℕ) → Idle mask (λ t b. join_row max tasks hub (row_or_hub (bit mask t) t) b) x
-idle_gather mask x = record { same = λ k h e. rw e (sym (join_self same_max tasks hub x)) }
+pub idle_gather : {j : ℕ → ℕ → ℕ} → Same j → (w mask : ℕ) (x : List ℕ) → Idle mask (λ t b. join_row j w hub (row_or_hub (bit mask t) t) b) x
+idle_gather s w mask x = record { same = λ k h e. rw e (sym (join_self s w hub x)) }
 
 -- a copy of a row is put on the row itself
 put_copy : (w to : ℕ) (b : List ℕ) → put_row w to (row_of w to b) b ≡ b
@@ -191,8 +191,8 @@ put_copy w to b = steps w (omega arith)
     steps zero h = refl
     steps (suc n) h = rw (steps n (omega arith), row_cell w to b n h) (set-get_or b (to * w + n) 0)
 
-pub idle_spread : (mask : ℕ) {x row : List ℕ} → row_of tasks hub x ≡ row → Idle mask (λ q b. put_row tasks (row_or_hub (is_released mask q) q) row b) x
-idle_spread mask {x} {row} e = record { same = λ k h f. rw (lt-ltb k tasks h, f, ← e) (put_copy tasks hub x) }
+pub idle_spread : (w mask : ℕ) {x row : List ℕ} → row_of w hub x ≡ row → Idle mask (λ q b. put_row w (row_or_hub (is_released mask q) q) row b) x
+idle_spread w mask {x} {row} e = record { same = λ k h f. rw (lt-ltb k tasks h, f, ← e) (put_copy w hub x) }
 
 -- a row after another was overwritten
 pub row_put : (w from to : ℕ) (b row : List ℕ) → ¬ (from ≡ to) → row_of w from (put_row w to row b) ≡ row_of w from b

@@ -7,7 +7,8 @@ use mathlib.Core.List.{List}
 use Prim.Native.Nat.{ℕ, zero, suc, ◌+◌, ◌*◌, ◌-◌, ◌≤◌, ◌<◌, max}
 use native.Mathlib.Nat.{mul-le-mul_right, suc-mul}
 use native.Mathlib.Omega.{arith}
-use lib.Bits.{bit_or, or_self}
+use lib.Bits.{bit_or, or_self, or_comm, or_zero_r}
+use Rattle.std.proofs.lemmas.Nat.Bits.{bit_at_or, same_from_bits}
 use lib.ListN.{length, get_or, set, length-set, replicate, length-replicate, get_or-replicate}
 use lib.Seq.{set-get_or, get_or-set_same, get_or-set_other, ext_get_or}
 use Rattle.theory.specs.basics.Turns.{turns}
@@ -55,6 +56,27 @@ same_max = record { same = λ x. omega arith }
 
 pub same_or : Same bit_or
 same_or = record { same = or_self }
+
+-- in whatever order cells are joined, and however often one is, they know the same, and a cell of nothing adds nothing
+pub record Gathers (j : ℕ → ℕ → ℕ) : Type 0 where
+  pub alone : Same j
+  pub comm : (x y : ℕ) → j x y ≡ j y x
+  pub assoc : (x y z : ℕ) → j (j x y) z ≡ j x (j y z)
+  pub zero : (x : ℕ) → j x 0 ≡ x
+
+gathers_twice : {j : ℕ → ℕ → ℕ} → Gathers j → (x y : ℕ) → j (j x y) (j x y) ≡ j x (j y x)
+gathers_twice {j} g x y = g.alone.same (j x y) ∙ sym (ap (j x) (g.comm y x) ∙ (sym (g.assoc x x y) ∙ ap (λ z. j z y) (g.alone.same x)))
+
+pub gathers_max : Gathers max
+gathers_max = record { alone = same_max; comm = λ x y. omega arith; assoc = λ x y z. omega arith; zero = λ x. omega arith }
+
+pub gathers_or : Gathers bit_or
+gathers_or = record {
+  alone = same_or;
+  comm = or_comm;
+  assoc = λ x y z. same_from_bits _ _ (λ i. omega (arith, bit_at_or (bit_or x y) z i, bit_at_or x y i, bit_at_or x (bit_or y z) i, bit_at_or y z i));
+  zero = or_zero_r;
+}
 
 -- Size
 
@@ -245,84 +267,84 @@ pub put_other : (w : ℕ) (b row : List ℕ) (to r c : ℕ) → c < w → ¬ (r 
 unfolding put_row
 put_other w b row to r c l d = stores_other (to * w) (λ c x. get_or row c 0) b w (r * w + c) (λ k h e. d (one_place w r to c k l h e).0)
 
--- Joining by way of a row that gathers, for clocks
+-- Joining by way of a row that gathers
 
 -- the cells of a row that n turns of a join with a row by itself have not come to, and of all other rows
-with_other : (w : ℕ) (b row : List ℕ) (to n r c : ℕ) → n ≤ w → c < w → ¬ ((r ≡ to) × (c < n)) →
-    cell w (turns n (join_with_cell max w to row) b) r c ≡ cell w b r c
+with_other : (j : ℕ → ℕ → ℕ) (w : ℕ) (b row : List ℕ) (to n r c : ℕ) → n ≤ w → c < w → ¬ ((r ≡ to) × (c < n)) →
+    cell w (turns n (join_with_cell j w to row) b) r c ≡ cell w b r c
 unfolding turns
-with_other w b row to zero r c h l f = refl
-with_other w b row to (suc n) r c h l f =
-    cell_set_other w (turns n (join_with_cell max w to row) b) to n _ r c h l (λ x. f (x.0, omega arith))
-    ∙ with_other w b row to n r c (omega arith) l (λ x. f (x.0, omega arith))
+with_other j w b row to zero r c h l f = refl
+with_other j w b row to (suc n) r c h l f =
+    cell_set_other w (turns n (join_with_cell j w to row) b) to n _ r c h l (λ x. f (x.0, omega arith))
+    ∙ with_other j w b row to n r c (omega arith) l (λ x. f (x.0, omega arith))
 
-module _ (w to from : ℕ) (b row : List ℕ) where
-  joined_at : (c : ℕ) → c < w → to * w + c < length b → cell w (join_row max w to from b) to c ≡ max (cell w b to c) (cell w b from c)
+module _ (j : ℕ → ℕ → ℕ) (w to from : ℕ) (b row : List ℕ) where
+  joined_at : (c : ℕ) → c < w → to * w + c < length b → cell w (join_row j w to from b) to c ≡ j (cell w b to c) (cell w b from c)
   unfolding join_row
   joined_at c l m =
-      stores_at (to * w) (λ c x. max (cell w x to c) (cell w x from c)) b w c l m
-      ∙ rw (turns_other max w b to from c to c (omega arith) l (λ x. omega (arith, x.1)), turns_other max w b to from c from c (omega arith) l (λ x. omega (arith, x.1)))
+      stores_at (to * w) (λ c x. j (cell w x to c) (cell w x from c)) b w c l m
+      ∙ rw (turns_other j w b to from c to c (omega arith) l (λ x. omega (arith, x.1)), turns_other j w b to from c from c (omega arith) l (λ x. omega (arith, x.1)))
 
-  with_at : (c : ℕ) → c < w → to * w + c < length b → cell w (join_with max w to row b) to c ≡ max (cell w b to c) (get_or row c 0)
+  with_at : (c : ℕ) → c < w → to * w + c < length b → cell w (join_with j w to row b) to c ≡ j (cell w b to c) (get_or row c 0)
   unfolding join_with
   with_at c l m =
-      stores_at (to * w) (λ c x. max (cell w x to c) (get_or row c 0)) b w c l m
-      ∙ rw (with_other w b row to c to c (omega arith) l (λ x. omega (arith, x.1)))
+      stores_at (to * w) (λ c x. j (cell w x to c) (get_or row c 0)) b w c l m
+      ∙ rw (with_other j w b row to c to c (omega arith) l (λ x. omega (arith, x.1)))
 
-  acquired_cell : (c : ℕ) → c < w → get_or (acquired_with max w from row b) c 0 ≡ max (get_or row c 0) (cell w b from c)
+  acquired_cell : (c : ℕ) → c < w → get_or (acquired_with j w from row b) c 0 ≡ j (get_or row c 0) (cell w b from c)
   unfolding acquired_with
-  acquired_cell c h = filled w (λ k. max (get_or row k 0) (cell w b from k)) (replicate w 0) c h (omega (arith, length-replicate {A = ℕ} w 0))
+  acquired_cell c h = filled w (λ k. j (get_or row k 0) (cell w b from k)) (replicate w 0) c h (omega (arith, length-replicate {A = ℕ} w 0))
 
 -- a row that is joined with another knows what a row by itself has gathered from it
-module _ (w to from : ℕ) (b row : List ℕ) where
-  with_length : (row : List ℕ) → length (join_with max w to row b) ≡ length b
+module _ {j : ℕ → ℕ → ℕ} (g : Gathers j) (w to from : ℕ) (b row : List ℕ) where
+  with_length : (row : List ℕ) → length (join_with j w to row b) ≡ length b
   unfolding join_with
-  with_length row = stores_length (to * w) (λ c x. max (cell w x to c) (get_or row c 0)) b w
+  with_length row = stores_length (to * w) (λ c x. j (cell w x to c) (get_or row c 0)) b w
 
-  join_length : (x : List ℕ) → length (join_row max w to from x) ≡ length x
+  join_length : (x : List ℕ) → length (join_row j w to from x) ≡ length x
   unfolding join_row
-  join_length x = stores_length (to * w) (λ c x. max (cell w x to c) (cell w x from c)) x w
+  join_length x = stores_length (to * w) (λ c x. j (cell w x to c) (cell w x from c)) x w
 
-  with_outside : (row : List ℕ) (i : ℕ) → ((c : ℕ) → c < w → ¬ (i ≡ to * w + c)) → get_or (join_with max w to row b) i 0 ≡ get_or b i 0
+  with_outside : (row : List ℕ) (i : ℕ) → ((c : ℕ) → c < w → ¬ (i ≡ to * w + c)) → get_or (join_with j w to row b) i 0 ≡ get_or b i 0
   unfolding join_with
-  with_outside row i f = stores_other (to * w) (λ c x. max (cell w x to c) (get_or row c 0)) b w i f
+  with_outside row i f = stores_other (to * w) (λ c x. j (cell w x to c) (get_or row c 0)) b w i f
 
-  join_outside : (x : List ℕ) (i : ℕ) → ((c : ℕ) → c < w → ¬ (i ≡ to * w + c)) → get_or (join_row max w to from x) i 0 ≡ get_or x i 0
+  join_outside : (x : List ℕ) (i : ℕ) → ((c : ℕ) → c < w → ¬ (i ≡ to * w + c)) → get_or (join_row j w to from x) i 0 ≡ get_or x i 0
   unfolding join_row
-  join_outside x i f = stores_other (to * w) (λ c x. max (cell w x to c) (cell w x from c)) x w i f
+  join_outside x i f = stores_other (to * w) (λ c x. j (cell w x to c) (cell w x from c)) x w i f
 
   with_from : (c : ℕ) → c < w → to * w + c < length b →
-      max (cell w (join_with max w to row b) to c) (cell w (join_with max w to row b) from c) ≡ max (cell w b to c) (max (get_or row c 0) (cell w b from c))
+      j (cell w (join_with j w to row b) to c) (cell w (join_with j w to row b) from c) ≡ j (cell w b to c) (j (get_or row c 0) (cell w b from c))
   with_from c l m = decided (equal from to)
     where
-      there : cell w (join_with max w to row b) to c ≡ max (cell w b to c) (get_or row c 0)
-      there = with_at w to from b row c l m
+      there : cell w (join_with j w to row b) to c ≡ j (cell w b to c) (get_or row c 0)
+      there = with_at j w to from b row c l m
 
-      other : ¬ (from ≡ to) → cell w (join_with max w to row b) from c ≡ cell w b from c
-      other d = unfold join_with in with_other w b row to w from c (omega arith) l (λ x. d x.0)
+      other : ¬ (from ≡ to) → cell w (join_with j w to row b) from c ≡ cell w b from c
+      other d = unfold join_with in with_other j w b row to w from c (omega arith) l (λ x. d x.0)
 
       decided : {p : Bool} → Reflects (from ≡ to) p →
-          max (cell w (join_with max w to row b) to c) (cell w (join_with max w to row b) from c) ≡ max (cell w b to c) (max (get_or row c 0) (cell w b from c))
-      decided (right e) = rw (e, there) (omega arith)
-      decided (wrong d) = rw (there, other d) (omega arith)
+          j (cell w (join_with j w to row b) to c) (cell w (join_with j w to row b) from c) ≡ j (cell w b to c) (j (get_or row c 0) (cell w b from c))
+      decided (right e) = rw (e, there) (gathers_twice g _ _)
+      decided (wrong d) = rw (there, other d) (g.assoc _ _ _)
 
   acquired_inside : (c : ℕ) → c < w → to * w + c < length b →
-      cell w (join_row max w to from (join_with max w to row b)) to c ≡ cell w (join_with max w to (acquired_with max w from row b) b) to c
+      cell w (join_row j w to from (join_with j w to row b)) to c ≡ cell w (join_with j w to (acquired_with j w from row b) b) to c
   acquired_inside c l m =
-      joined_at w to from (join_with max w to row b) row c l (omega (arith, with_length row))
-      ∙ (with_from c l m ∙ sym (with_at w to from b (acquired_with max w from row b) c l m ∙ rw (acquired_cell w to from b row c l)))
+      joined_at j w to from (join_with j w to row b) row c l (omega (arith, with_length row))
+      ∙ (with_from c l m ∙ sym (with_at j w to from b (acquired_with j w from row b) c l m ∙ rw (acquired_cell j w to from b row c l)))
 
-  pub join_acquired : join_row max w to from (join_with max w to row b) ≡ join_with max w to (acquired_with max w from row b) b
-  join_acquired = ext_get_or 0 _ _ (long ∙ sym (with_length (acquired_with max w from row b))) (λ i h. decided i (omega (arith, long)) (at_most (to * w) i) (at_most (suc i) (to * w + w)))
+  pub join_acquired : join_row j w to from (join_with j w to row b) ≡ join_with j w to (acquired_with j w from row b) b
+  join_acquired = ext_get_or 0 _ _ (long ∙ sym (with_length (acquired_with j w from row b))) (λ i h. decided i (omega (arith, long)) (at_most (to * w) i) (at_most (suc i) (to * w + w)))
     where
-      long : length (join_row max w to from (join_with max w to row b)) ≡ length b
-      long = join_length (join_with max w to row b) ∙ with_length row
+      long : length (join_row j w to from (join_with j w to row b)) ≡ length b
+      long = join_length (join_with j w to row b) ∙ with_length row
 
       Same : ℕ → Type 0
-      Same i = get_or (join_row max w to from (join_with max w to row b)) i 0 ≡ get_or (join_with max w to (acquired_with max w from row b) b) i 0
+      Same i = get_or (join_row j w to from (join_with j w to row b)) i 0 ≡ get_or (join_with j w to (acquired_with j w from row b) b) i 0
 
       outside : (i : ℕ) → ((c : ℕ) → c < w → ¬ (i ≡ to * w + c)) → Same i
-      outside i f = join_outside (join_with max w to row b) i f ∙ (with_outside row i f ∙ sym (with_outside (acquired_with max w from row b) i f))
+      outside i f = join_outside (join_with j w to row b) i f ∙ (with_outside row i f ∙ sym (with_outside (acquired_with j w from row b) i f))
 
       decided : (i : ℕ) → i < length b → {p q : Bool} → Reflects (to * w ≤ i) p → Reflects (i < to * w + w) q → Same i
       decided i h (right l) (right m) =
@@ -332,14 +354,14 @@ module _ (w to from : ℕ) (b row : List ℕ) where
       decided i h (right l) (wrong f) = outside i (λ c l e. f (omega arith))
 
 -- a row of zeros has gathered nothing
-pub join_nothing : (w to : ℕ) (b : List ℕ) → join_with max w to (replicate w 0) b ≡ b
+pub join_nothing : {j : ℕ → ℕ → ℕ} → Gathers j → (w to : ℕ) (b : List ℕ) → join_with j w to (replicate w 0) b ≡ b
 unfolding join_with turns
-join_nothing w to b = steps w (omega arith)
+join_nothing {j} g w to b = steps w (omega arith)
   where
-    nothing : (x n : ℕ) → n < w → max x (get_or (replicate w 0) n 0) ≡ x
-    nothing x n h = rw (get_or-replicate {A = ℕ} w n 0 0 h) (omega arith)
+    nothing : (x n : ℕ) → n < w → j x (get_or (replicate w 0) n 0) ≡ x
+    nothing x n h = rw (get_or-replicate {A = ℕ} w n 0 0 h) (g.zero x)
 
-    steps : (n : ℕ) → n ≤ w → turns n (join_with_cell max w to (replicate w 0)) b ≡ b
+    steps : (n : ℕ) → n ≤ w → turns n (join_with_cell j w to (replicate w 0)) b ≡ b
     steps zero h = refl
     steps (suc n) h = rw (steps n (omega arith), nothing (cell w b to n) n h) (set-get_or b (to * w + n) 0)
 

@@ -4,6 +4,7 @@ use Rattle.std.specs.Prelude.{ℕ, Bool, true, false, List, [], ◌∷◌}
 use Rattle.theory.specs.declared.answer.Answer.{Answer}
 use Rattle.theory.specs.declared.answer.Answer.TheVariants.{Refused, Accepted}
 use Rattle.theory.specs.declared.answer.Answer.TheVariants as the
+use Rattle.theory.specs.acceptance.Refusals.{row_number}
 use Rattle.theory.specs.verdicts.Verdict.{Verdict, Race, Clear, Doubt}
 use Rattle.theory.specs.verdicts.Search.{Finding}
 
@@ -16,7 +17,7 @@ pub data Meaning : Type 0 where
   judges : (number : ℕ) → Verdict → (partner : ℕ) → Meaning
 
 abbrev pub meaning : Answer → Meaning
-meaning (Refused n) = refuses n
+meaning (Refused row) = refuses (row_number row)
 meaning (Accepted n) = takes n.0
 meaning (the.Clear n) = judges n.0 Clear 0
 meaning (the.Race n w) = judges n.0 Race w.0

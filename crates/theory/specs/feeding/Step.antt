@@ -11,6 +11,7 @@ use Rattle.theory.specs.declared.state.SetState.{SetState}
 use Rattle.theory.specs.declared.state.SetStepped.{SetStepped}
 use Rattle.theory.specs.declared.masks.Masks.{Masks}
 use Rattle.theory.specs.fillings.Completion.{arrived, full}
+use Rattle.theory.specs.acceptance.Refusals.{numbered_row}
 use Rattle.theory.specs.acceptance.Control.{count_in, skips_in, control_refusal, control_after}
 use Rattle.theory.specs.order.Limits.{tasks}
 use Rattle.theory.specs.totals.Totals.{control_cells, totalled}
@@ -95,7 +96,7 @@ accepted_as m s r =
 -- a refused record leaves the state as it was
 abbrev pub step_unless_as : ℕ → ℕ → State → Record → Stepped
 step_unless_as zero m s r = accepted_as m s r
-step_unless_as (suc n) m s r = record { state = s; answer = Refused (suc n) }
+step_unless_as (suc n) m s r = record { state = s; answer = Refused (numbered_row (suc n)) }
 
 abbrev pub step_unless : ℕ → State → Record → Stepped
 step_unless n s r = step_unless_as n (clock_kind s.control r.kind r.task r.on) s r
@@ -123,7 +124,7 @@ set_accepted s r =
 
 abbrev pub set_step_unless : ℕ → SetState → Record → SetStepped
 set_step_unless zero s r = set_accepted s r
-set_step_unless (suc n) s r = record { state = s; answer = Refused (suc n) }
+set_step_unless (suc n) s r = record { state = s; answer = Refused (numbered_row (suc n)) }
 
 unfoldable pub set_step_of : SetState → Record → SetStepped
 set_step_of s r = set_step_unless (control_refusal s.control r) s r

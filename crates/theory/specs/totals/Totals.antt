@@ -1,6 +1,6 @@
 -- The totals: for each variable how many accesses were Clear, Race and Doubt, and how many Races there were anywhere. They lie in the control table,
 -- after what acceptance looks at.
-use Rattle.std.specs.Prelude.{ℕ, ◌+◌, ◌*◌, Bool, true, false, List, ltb, get_or}
+use Rattle.std.specs.Prelude.{ℕ, ◌+◌, ◌*◌, Bool, cond, List, ltb, get_or, Option, Some, None}
 use Rattle.theory.specs.declared.verdict_totals.Totals.{Totals}
 use Rattle.theory.specs.order.Limits.{tasks, variables}
 use Rattle.theory.specs.tables.Counters.{raise}
@@ -44,13 +44,13 @@ races control = get_or control races_at 0
 abbrev pub any_race : List ℕ → Bool
 any_race control = ltb 0 (races control)
 
--- a variable's totals; none where there is no such variable
-abbrev pub totals_if : Bool → ℕ → List ℕ → Totals
-totals_if true v control = record { known = true; clear = total Clear v control; race = total Race v control; doubt = total Doubt v control }
-totals_if false v control = record { known = false; clear = 0; race = 0; doubt = 0 }
+-- a variable's totals
+abbrev pub totals_in : List ℕ → ℕ → Totals
+totals_in control v = record { clear = total Clear v control; race = total Race v control; doubt = total Doubt v control }
 
-abbrev pub totals_of : List ℕ → ℕ → Totals
-totals_of control v = totals_if (ltb v variables) v control
+-- those of any number: none where there is no such variable
+abbrev pub totals_of : List ℕ → ℕ → Option Totals
+totals_of control v = cond (ltb v variables) (Some (totals_in control v)) None
 
 -- How they are kept
 

@@ -11,10 +11,7 @@ use Rattle.theory.specs.declared.record.Record.{Record}
 use Rattle.requests.specs.entries.Table.{entry_count, access_in_range, tables_excuse}
 use Rattle.theory.proofs.history.Accesses.{OfAccess}
 use Rattle.checker.proofs.entries.excuse.Goals as goal
-
-pub returns-then-control-eq0 : goal.returns-then-control-eq0
-unfolding tables_excuse
-returns-then-control-eq0 c = rw c.if-control-eq0.true refl
+use Rattle.checker.proofs.entries.excuse.Goals.{else-control-ne0-via-then-control-ne0+else-access_in_range, else-control-ne0-via-else-control-ne0}
 
 -- what the test says of the record
 of_access : (r : Record) → access_in_range r ≡ true → OfAccess r.kind r.task r.on
@@ -26,24 +23,21 @@ of_access r e =
       variable_fits = ltb-true r.on variables (and_elim_right (ltb r.task tasks) (ltb r.on variables) q);
     }
 
-pub open_mask-open-requires : goal.open_mask-open-requires
-open_mask-open-requires c = of_access c.args.r (sym c.access_in_range.ensures ∙ c.if-access_in_range.true)
-
-pub excuse_open-requires : goal.excuse_open-requires
-excuse_open-requires c =
-    let o = of_access c.args.r (sym c.access_in_range.ensures ∙ c.if-access_in_range.true) in
-    (o.is_access_lem, o.variable_fits)
-
 pub returns-then-access_in_range : goal.returns-then-access_in_range
 unfolding tables_excuse
 returns-then-access_in_range c =
+    let is = c.of-access.ensures in
     -- an entry was taken in
     let some = lt-ltb 0 (entry_count c.args.control.now) (omega arith) in
-    rw (some, sym c.access_in_range.ensures ∙ c.if-access_in_range.true, ← c.open_mask-open.ensures) c.excuse_open.ensures
+    let mask = rw (is.0, is.1, is.2) at c.open_mask-open.ensures in
+    rw (some, sym c.access_in_range.ensures ∙ c.if-access_in_range.true, ← mask) (rw (is.0, is.2) at c.excuse_open.ensures)
 
 pub returns : goal.returns
 unfolding tables_excuse
 returns c =
-    -- an entry was taken in
-    let some = lt-ltb 0 (entry_count c.args.control.now) (omega arith) in
-    rw (some, sym c.access_in_range.ensures ∙ c.if-access_in_range.false) refl
+    elim c.else-control-ne0.branch [
+      | else-control-ne0-via-then-control-ne0+else-access_in_range w ↦
+          let some = lt-ltb 0 (entry_count c.args.control.now) (omega arith) in
+          rw (some, sym w.access_in_range.ensures ∙ w.if-access_in_range.false) refl
+      | else-control-ne0-via-else-control-ne0 w ↦ rw w.if-control-ne0.false refl
+    ]

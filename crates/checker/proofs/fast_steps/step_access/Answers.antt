@@ -1,10 +1,12 @@
 -- Only the rows of every act can refuse it; of an accepted one the calls' equations are put together.
-use mathlib.Core.Path.{◌≡◌, sym}
+use mathlib.Core.Path.{◌≡◌}
 use mathlib.Core.Bool.{Bool, true}
 use mathlib.Core.List.{List}
 use Prim.Native.Nat.{ℕ}
 use lib.Dec.{leb}
+use Rattle.std.specs.Prelude.{Result}
 use Rattle.theory.specs.declared.record.Record.{Record}
+use Rattle.theory.specs.declared.refusal.Refusal.{Refusal}
 use Rattle.theory.specs.order.Limits.{variables}
 use Rattle.theory.specs.order.Recording.{accesses}
 use Rattle.theory.specs.acceptance.Table.{first_row}
@@ -25,58 +27,39 @@ module _ (control : List ℕ) (r : Record) (access : accesses r.kind ≡ true) w
   plain : Plainly control r.kind r.task r.on
   plain = plain_access control r.task r.on r.kind access
 
-  asked : {o : Bool} {after : List ℕ} {a : Admitted} → o ≡ leb variables r.on →
-      (a ≡ admitted_as (first_row (common_rows (control_standing control) r.task o)) (next_number control) r.kind)
+  asked : {o : Bool} {after : List ℕ} {x : Result Admitted Refusal} → o ≡ leb variables r.on →
+      (x ≡ admitted_as (first_row (common_rows (control_standing control) r.task o)) (next_number control) r.kind)
       × (after ≡ unless (first_row (common_rows (control_standing control) r.task o)) (counted control) control) →
-      Answers control r a × Leaves control r after
+      Answers control r x × Leaves control r after
   asked o e = plain_as control r plain (rw (access_size r.kind access) o) e.0 e.1
 
   -- once no row applies
   fitting : {after : List ℕ} {a : Admitted} → Admits control r a after → OfAccess r.kind r.task r.on
   fitting x = of_access (x.accepted.proper.act_fits (access_acts r.kind access)) access
 
-pub returns-then-admitted-ne0 : goal.returns-then-admitted-ne0
-returns-then-admitted-ne0 c =
+pub returns-in-Err-clause-stepped : goal.returns-in-Err-clause-stepped
+returns-in-Err-clause-stepped c =
     let a = c.args in
-    let e = asked a.control.now a.r c.requires c.no_variable.ensures c.admit_plain-admitted.ensures in
-    refused_step a.control.now a.last.now a.clocks.now a.fullclocks.now a.r e.0 e.1 c.if-admitted-ne0.true
+    let e = asked a.tables.now.control.now a.r c.requires c.beyond.ensures c.admit_plain.ensures in
+    refused_step a.tables.now.control.now a.tables.now.last.now a.tables.now.clocks.now a.tables.now.fullclocks.now a.r e.0 e.1 c.in-Err.is
 
-pub clock_words-words-requires : goal.clock_words-words-requires
-clock_words-words-requires c =
-    let a = c.args in
-    let e = asked a.control.now a.r c.requires c.no_variable.ensures c.admit_plain-admitted.ensures in
-    fitting a.control.now a.r c.requires (admits a.control.now a.r e.0 e.1 c.if-admitted-ne0.false)
-
-pub own_both-requires : goal.own_both-requires
-own_both-requires c =
-    let a = c.args in
-    let e = asked a.control.now a.r c.requires c.no_variable.ensures c.admit_plain-admitted.ensures in
-    (fitting a.control.now a.r c.requires (admits a.control.now a.r e.0 e.1 c.if-admitted-ne0.false)).task_fits
-
-pub accept-requires : goal.accept-requires
-accept-requires c =
-    let a = c.args in
-    let e = asked a.control.now a.r c.requires c.no_variable.ensures c.admit_plain-admitted.ensures in
-    let x = admits a.control.now a.r e.0 e.1 c.if-admitted-ne0.false in
-    let w = c.clock_words-words.ensures in
-    (sym c.requires, x.accepted.proper, (halved_twice w.0 (mask_lt _)).1, (halved_twice w.1 (mask_lt _)).1)
-
-pub returns : goal.returns
-returns c =
+pub returns-clause-stepped : goal.returns-clause-stepped
+returns-clause-stepped c =
     let a = c.args in
     let k = a.r.kind in
     let t = a.r.task in
-    let n = next_number a.control.now in
-    let e = asked a.control.now a.r c.requires c.no_variable.ensures c.admit_plain-admitted.ensures in
-    let x = admits a.control.now a.r e.0 e.1 c.if-admitted-ne0.false in
-    let q = c.accept.ensures in
-    let w = c.clock_words-words.ensures in
-    let own = rw x.number at c.own_both.ensures in
-    let task_fits = (fitting a.control.now a.r c.requires x).task_fits in
+    let n = next_number a.tables.now.control.now in
+    let e = asked a.tables.now.control.now a.r c.requires c.beyond.ensures c.admit_plain.ensures in
+    let x = admits a.tables.now.control.now a.r e.0 e.1 c.in-Ok.is in
+    let is = c.of-access.ensures in
+    let q = rw (is.0, is.1, is.2) at c.accept_access.ensures in
+    let w = rw (is.0, is.1, is.2) at c.clock_words-words.ensures in
+    let own = rw (is.1, x.number) at c.own_both.ensures in
+    let task_fits = (fitting a.tables.now.control.now a.r c.requires x).task_fits in
     let act = access_acts k c.requires in
     let keeps = access_keeps k c.requires in
-    let unskipped = (plain a.control.now a.r c.requires).unskipped in
-    stepped a.control.now a.last.now a.r x.refusal (accepted_by x q.0 q.1 q.2) a.clocks.now a.fullclocks.now
+    let unskipped = (plain a.tables.now.control.now a.r c.requires).unskipped in
+    stepped a.tables.now.control.now a.tables.now.last.now a.r x.refusal (accepted_by x q.0 q.1 q.2) a.tables.now.clocks.now a.tables.now.fullclocks.now
     (λ _. rw ((halved_twice w.0 (mask_lt _)).0, (halved_twice w.1 (mask_lt _)).0))
-    (rw unskipped (kept_moved arrived k t a.r.on n a.clocks.now act keeps task_fits own.0))
-    (rw unskipped (kept_moved full k t a.r.on n a.fullclocks.now act keeps task_fits own.1))
+    (rw unskipped (kept_moved arrived k t a.r.on n a.tables.now.clocks.now act keeps task_fits own.0))
+    (rw unskipped (kept_moved full k t a.r.on n a.tables.now.fullclocks.now act keeps task_fits own.1))

@@ -3,15 +3,14 @@ use native.Mathlib.Omega.{arith}
 use lib.ListN.{length}
 use Rattle.theory.specs.history.History.{askers, emptied}
 use Rattle.theory.proofs.basics.Turns.{no_turn, one_turn, all_turns}
-use Rattle.std.proofs.Common.{rules}
 use Rattle.checker.proofs.history.empty.Goals as goal
 
 pub loop-a-init : goal.loop-a-init
-loop-a-init c = (search rules, no_turn)
+loop-a-init c = no_turn
 
 pub loop-a-preserved : goal.loop-a-preserved
-loop-a-preserved c = (search rules, one_turn c.loop-a.invariant.1 c.empty_under.ensures)
+loop-a-preserved c = one_turn c.loop-a.invariant c.empty_under.ensures
 
 pub returns : goal.returns
 unfolding emptied
-returns c = all_turns (length askers) c.loop-a.invariant.1 (omega arith) (omega arith)
+returns c = all_turns (length askers) c.loop-a.invariant (omega arith) (omega arith)

@@ -7,14 +7,13 @@ use Rattle.theory.specs.order.Limits.{tasks, variables}
 use Rattle.theory.specs.basics.Turns.{turns}
 use Rattle.theory.specs.history.History.{emptied_under}
 use Rattle.theory.proofs.basics.Turns.{no_turn, one_turn, all_turns}
-use Rattle.std.proofs.Common.{rules}
 use Rattle.checker.proofs.history.empty_under.Goals as goal
 
 pub loop-u-init : goal.loop-u-init
-loop-u-init c = (search rules, no_turn)
+loop-u-init c = no_turn
 
 pub loop-u-preserved : goal.loop-u-preserved
-loop-u-preserved c = (search rules, one_turn c.loop-u.invariant.1 refl)
+loop-u-preserved c = one_turn c.loop-u.invariant refl
 
 pub returns : goal.returns
 unfolding emptied_under
@@ -24,4 +23,4 @@ returns c =
     let from = c.slot-from.result in
     let e : from ≡ (a.a * variables + a.v.0) * tasks = omega arith in
     subst (λ (k : ℕ). c.loop-u.last ≡ turns tasks (λ u l. set l (k + u) 0) a.last.now) e
-    (all_turns tasks c.loop-u.invariant.1 (omega arith) (omega arith))
+    (all_turns tasks c.loop-u.invariant (omega arith) (omega arith))

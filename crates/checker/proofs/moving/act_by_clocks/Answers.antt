@@ -1,12 +1,7 @@
 -- Its own part, and order passed on where its kind does.
 use mathlib.Core.Path.{sym, ◌∙◌}
-use mathlib.Core.Bool.{true, false}
-use Rattle.theory.specs.order.Limits.{tasks}
 use Rattle.theory.specs.fillings.Completion.{arrived, full}
-use Rattle.theory.specs.tables.Reckonings.{clock_own}
-use Rattle.theory.proofs.tables.Rows.{same_max}
-use Rattle.theory.proofs.tables.Onward.{passed_on}
-use Rattle.theory.proofs.feeding.Parts.{kept_moved, act_moved}
+use Rattle.theory.proofs.feeding.Parts.{kept_moved}
 use Rattle.checker.proofs.moving.act_by_clocks.Goals as goal
 
 pub returns-then-not-passes_on : goal.returns-then-not-passes_on
@@ -20,15 +15,3 @@ returns-then-not-passes_on c =
     let fits = c.requires.0.task_fits in
     let own = c.own_both.ensures in
     (kept_moved arrived k t a.on n a.clocks.now act keeps fits own.0, kept_moved full k t a.on n a.fullclocks.now act keeps fits own.1)
-
-pub returns : goal.returns
-returns c =
-    let a = c.args in
-    let k = a.kind in
-    let t = a.task.0 in
-    let n = a.number.0 in
-    let act = c.requires.1 in
-    let own = c.own_both.ensures in (
-      act_moved arrived k t a.on n a.clocks.now act (passed_on same_max tasks false k t a.on (clock_own t n a.clocks.now) own.0 c.pass_on.ensures),
-      act_moved full k t a.on n a.fullclocks.now act (passed_on same_max tasks true k t a.on (clock_own t n a.fullclocks.now) own.1 c.pass_on-2.ensures),
-    )

@@ -10,10 +10,10 @@ use Rattle.checker.proofs.set_steps.access_by_sets.Goals as goal
 pub returns : goal.returns
 returns c =
     let a = c.args in
-    let k = a.kind in
-    let t = a.task.0 in
-    let v = a.v.0 in
-    let p = c.requires in
+    let k = a.access.kind in
+    let t = a.access.task.0 in
+    let v = a.access.variable.0 in
+    let p = a.access.in_range in
     let keeps = access_keeps k p.is_access_lem in
     let act = ne_eqb _ _ (access_acts k p.is_access_lem) in (
       simp act (onward_kept same_or slot_words false k t v (set_own k t v a.sets.now) c.own.ensures keeps p.task_fits),

@@ -6,4 +6,4 @@ use Rattle.checker.proofs.sets.apart.Goals as goal
 pub returns : goal.returns
 returns c =
     let a = c.args in
-    rw (c.both.ensures, c.latest_number.ensures, c.weight.ensures.0 (omega (arith, c.requires.task_fits)), and_weight a.known a.u.0)
+    rw (c.latest_number.ensures, c.weight.ensures.0 (omega arith), and_weight a.known a.u.0)

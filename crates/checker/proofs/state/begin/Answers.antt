@@ -2,6 +2,6 @@
 use Rattle.theory.specs.feeding.Step.{fresh_state}
 use Rattle.checker.proofs.state.begin.Goals as goal
 
-pub returns : goal.returns
+pub returns-clause-fresh : goal.returns-clause-fresh
 unfolding fresh_state
-returns c = rw c.fresh_control.ensures
+returns-clause-fresh c = rw c.fresh_control-tables.ensures

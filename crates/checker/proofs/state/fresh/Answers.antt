@@ -4,4 +4,4 @@ use Rattle.checker.proofs.state.fresh.Goals as goal
 
 pub returns : goal.returns
 unfolding fresh_state
-returns c = rw c.fresh_control-control.ensures
+returns c = rw c.fresh_control.ensures

@@ -1,10 +1,17 @@
--- Each turn of the loop is one of `any_below`.
-use Rattle.theory.proofs.basics.Turns.{no_turn, one_turn}
+-- Of the columns of a write, one after another.
+use mathlib.Core.Path.{refl, ◌∙◌}
+use mathlib.Core.Bool.{not, ◌&&◌}
+use Rattle.theory.specs.order.Limits.{tasks}
+use Rattle.theory.specs.fillings.Completion.{bit}
+use Rattle.requests.specs.lazy.Fold.{by_write, column}
 use Rattle.std.proofs.Common.{rules}
+use Rattle.std.proofs.lemmas.Iterator.{YieldsList-from_range}
+use Rattle.std.proofs.lemmas.Iterator.Search.{any_from_yields_List}
+use Rattle.lazy_sets.proofs.Any.{any_in_range}
 use Rattle.lazy_sets.proofs.walking.unordered.Goals as goal
 
-pub loop-u-init : goal.loop-u-init
-loop-u-init c = (search rules, no_turn)
-
-pub loop-u-preserved : goal.loop-u-preserved
-loop-u-preserved c = (search rules, one_turn c.loop-u.invariant.1 (rw (c.either-found.ensures, c.only_in.ensures)))
+pub returns : goal.returns
+returns c =
+    let a = c.args in
+    any_from_yields_List (λ u. bit a.pairs (column by_write u) && not (bit a.own (column by_write u))) _ _ _ c.any.ensures.ran (YieldsList-from_range 0 tasks tasks refl refl) (λ x b q k. search rules)
+    ∙ any_in_range _ tasks

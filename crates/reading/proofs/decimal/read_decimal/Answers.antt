@@ -10,5 +10,5 @@ read_digits-requires c = omega (arith, plain_fits _ (sym c.is_plain.ensures ∙ 
 pub returns-then-is_plain : goal.returns-then-is_plain
 returns-then-is_plain c = c.read_digits.ensures ∙ sym (decimal_plain _ (sym c.is_plain.ensures ∙ c.if-is_plain.true))
 
-pub returns : goal.returns
-returns c = sym (decimal_other _ (sym c.is_plain.ensures ∙ c.if-is_plain.false))
+pub returns-else-is_plain : goal.returns-else-is_plain
+returns-else-is_plain c = sym (decimal_other _ (sym c.is_plain.ensures ∙ c.if-is_plain.false))

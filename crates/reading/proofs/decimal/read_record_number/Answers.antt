@@ -11,6 +11,6 @@ pub returns-then-record_wide : goal.returns-then-record_wide
 unfolding read_record_number
 returns-then-record_wide c = rw (sym c.record_wide.ensures ∙ c.if-record_wide.true) c.read_digits.ensures
 
-pub returns : goal.returns
+pub returns-else-record_wide : goal.returns-else-record_wide
 unfolding read_record_number
-returns c = rw (sym c.record_wide.ensures ∙ c.if-record_wide.false)
+returns-else-record_wide c = rw (sym c.record_wide.ensures ∙ c.if-record_wide.false)

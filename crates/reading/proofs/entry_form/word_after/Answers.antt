@@ -3,4 +3,4 @@ use Rattle.text.proofs.EntryForm.{word_cut}
 use Rattle.reading.proofs.entry_form.word_after.Goals as goal
 
 pub returns : goal.returns
-returns c = word_cut _ _ _ c.place_of-e.result c.after_spaces-rest.ensures c.place_of-e.ensures.0
+returns c = word_cut _ _ _ c.place_of.result c.after_spaces-rest.ensures c.place_of.ensures.0

@@ -1,12 +1,9 @@
 -- `reading::scan::lfs`: the LFs counted, 64 bytes at a time, and those that are left are all of them. Assumes nothing.
 use mathlib.Core.Path.{◌≡◌}
-use Prim.Native.Nat.{◌+◌, ◌-◌, ◌≤◌}
-use lib.ListN.{length, drop}
+use Prim.Native.Nat.{◌+◌, ◌*◌, ◌≤◌}
+use lib.ListN.{drop}
 use Rattle.text.specs.Lines.{lf_count}
 use Rattle.reading.proofs.scan.lfs.Given as goal
 
-abbrev pub invariant-loop-i : goal.invariant-loop-i
-invariant-loop-i l = (l.i ≤ length l.text) × (l.n ≤ l.i) × (l.n + lf_count (drop l.i l.text) ≡ lf_count l.text)
-
-abbrev pub decreases-loop-i : goal.decreases-loop-i
-decreases-loop-i l = length l.text - l.i
+abbrev pub invariant-loop-part : goal.invariant-loop-part
+invariant-loop-part l = (l.n ≤ l.part-index * 64) × (l.n + lf_count (drop (l.part-index * 64) l.text) ≡ lf_count l.text)

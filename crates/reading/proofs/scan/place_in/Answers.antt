@@ -1,14 +1,20 @@
--- `reading::scan::place_in`: what is left to look through has its first b where the whole has it. Assumes nothing.
-use mathlib.Core.Path.{sym, ◌∙◌}
-use Rattle.std.proofs.Common.{rules}
-use Rattle.text.proofs.Bytes.{found_at, passed_at, ended_at}
+-- `reading::scan::place_in`: where the first b stands is the position of the first byte that is b. Assumes nothing.
+use mathlib.Core.Path.{◌≡◌, ap, ◌∙◌}
+use mathlib.Core.List.{List}
+use Prim.Native.Nat.{ℕ, ◌-◌}
+use native.Mathlib.Omega.{arith}
+use lib.ListN.{length, take, drop, length-drop}
+use Rattle.std.specs.Option.{unwrap_or}
+use Rattle.text.specs.Bytes.{index_of}
+use Rattle.text.proofs.Bytes.{index_fits}
+use Rattle.text.proofs.LineForm.{part_from}
+use Rattle.reading.proofs.Std.{position_of}
 use Rattle.reading.proofs.scan.place_in.Goals as goal
 
-pub returns-then-text-i : goal.returns-then-text-i
-returns-then-text-i c = (sym (c.loop-i.invariant.1 ∙ found_at _ _ _ c.loop-i-test.true c.if-text-i.true), search rules)
-
-pub loop-i-preserved : goal.loop-i-preserved
-loop-i-preserved c = (search rules, c.loop-i.invariant.1 ∙ passed_at _ _ _ c.loop-i-test.true c.if-text-i.false)
-
 pub returns : goal.returns
-returns c = (sym (c.loop-i.invariant.1 ∙ ended_at _ _ _ c.loop-i-test.false), search rules)
+returns c =
+    let a = c.args in
+    let rest : List ℕ = take (length a.text.now - a.from) (drop a.from a.text.now) in
+    let q : c.unwrap_or.result ≡ index_of a.b (drop a.from a.text.now) =
+    c.unwrap_or.ensures ∙ ap (λ o. unwrap_or o (length rest)) c.position.ensures ∙ position_of a.b rest ∙ ap (index_of a.b) (part_from a.text.now a.from) in
+    (omega (arith, q), omega (arith, q, index_fits a.b (drop a.from a.text.now), length-drop a.from a.text.now))

@@ -11,6 +11,7 @@ use borrow.Author.Tests.{le-ltb}
 use Rattle.text.specs.Bytes.{index_of}
 use Rattle.text.proofs.Bytes.{passed_over, found_in}
 use Rattle.text.proofs.Lines.{cut_fits}
+use Rattle.reading.proofs.Std.{has_it}
 use Rattle.reading.proofs.scan.place_of.Goals as goal
 
 -- the sixteen bytes, and the eight after them
@@ -37,7 +38,7 @@ pub returns-then-n-lt8 : goal.returns-then-n-lt8
 returns-then-n-lt8 c =
     let a = c.args in
     let l : a.from + 24 ≤ length a.text.now = omega (arith, c.if-text-from-lt24.false, c.requires) in
-    let p = passed_sixteen a.b a.text.now a.from l (sym c.has.ensures ∙ c.if-has.false) in
+    let p = passed_sixteen a.b a.text.now a.from l (sym (has_it a.b _) ∙ sym c.contains.ensures.value ∙ c.if-contains.false) in
     let q : index_of a.b (eight a.text.now a.from) < 8 = omega (arith, c.index_in-n.ensures, c.if-n-lt8.true) in
     (omega (arith, p, found_eight a.b a.text.now a.from l q, c.index_in-n.ensures), omega (arith, l, c.if-n-lt8.true))
 
@@ -45,6 +46,6 @@ pub returns : goal.returns
 returns c =
     let a = c.args in
     let l : a.from + 24 ≤ length a.text.now = omega (arith, c.if-text-from-lt24.false, c.requires) in
-    let p = passed_sixteen a.b a.text.now a.from l (sym c.has.ensures ∙ c.if-has.false) in
+    let p = passed_sixteen a.b a.text.now a.from l (sym (has_it a.b _) ∙ sym c.contains.ensures.value ∙ c.if-contains.false) in
     let q : 8 ≤ index_of a.b (eight a.text.now a.from) = omega (arith, c.index_in-n.ensures, c.if-n-lt8.false) in
     (omega (arith, c.place_in-2.ensures.0, p, passed_eight a.b a.text.now a.from l q), search rules)

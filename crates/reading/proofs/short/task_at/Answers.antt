@@ -15,7 +15,7 @@ pub returns : goal.returns
 returns c =
     let t = c.guess_task-t in (
       omega (arith, t.ensures.2, decimal_fits 1 t.result.task (omega (arith, t.ensures.0))),
-      λ _. rw t.ensures.2
+      rw t.ensures.2
           (says_task t.result.task t.ensures.0 c.args.s.now c.args.p c.requires (λ i. (c.type_inv.s i).fits)
           (c.has_four.ensures c.if-not-has_four.false) (sym c.four-bytes.ensures ∙ c.if-bytes-t.false ∙ t.ensures.1)),
     )

@@ -1,13 +1,11 @@
 -- The loop over the lines of a text: what is written and what is left make what was to be said, with a line read ahead.
-use mathlib.Core.Path.{◌∙◌, refl, sym}
+use mathlib.Core.Path.{◌∙◌, sym}
 use native.Mathlib.Omega.{arith}
 use Rattle.text.proofs.RoundTrip.{only_sayable}
 use Rattle.text.proofs.Reporting.{left_room, left_number, left_said}
-use Rattle.report.proofs.Ahead.{ahead_start, caught_up, read_ahead, less_ahead}
+use Rattle.checker.proofs.Lent.{same_on}
+use Rattle.report.proofs.Ahead.{caught_up, read_ahead, less_ahead}
 use Rattle.report.proofs.answering.put_lines.Goals as goal
-
-pub loop-going-init : goal.loop-going-init
-loop-going-init c = (refl, ahead_start)
 
 pub put_held-reached-requires : goal.put_held-reached-requires
 put_held-reached-requires c =
@@ -36,8 +34,9 @@ loop-going-preserved c =
     let start = at-loop in
     let (said, next) = at_read.read_record-next.ensures in (
       at-put.put_held-reached.auto.out ∙ at-loop.loop-going.invariant.0,
-      read_ahead (caught_up start.requires.uncut in-loop.loop-going-test.true at-loop.loop-going.invariant.1 at-put.put_held-reached.ensures) said next,
+      read_ahead (caught_up start.requires.uncut in-loop.loop-going-test.true at-loop.loop-going.invariant.1 at-put.put_held-reached.ensures.answered) said next,
+      same_on at-loop.loop-going.invariant.2 at-put.put_held-reached.ensures.same,
     )
 
-pub returns : goal.returns
-returns c = let x = c.loop-going.invariant.1 in left_said x.left (x.over c.loop-going-test.false)
+pub returns-clause-answered : goal.returns-clause-answered
+returns-clause-answered c = let x = c.loop-going.invariant.1 in left_said x.left (x.over c.loop-going-test.false)

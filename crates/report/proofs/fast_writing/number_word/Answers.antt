@@ -5,10 +5,6 @@ use Rattle.text.specs.Bytes.{little}
 use Rattle.text.proofs.Seven.{by_tens, pairs_below}
 use Rattle.report.proofs.fast_writing.number_word.Goals as goal
 
-pub overflow_sub-result : goal.overflow_sub-result
-unfolding little
-overflow_sub-result c = (by_tens c.args.n c.in_pairs-pairs.result c.little_endian.result c.requires c.in_pairs-pairs.ensures c.little_endian.ensures).0
-
 pub overflow_add-result : goal.overflow_add-result
 unfolding little
 overflow_add-result c =

@@ -9,11 +9,11 @@ put_lines-requires c =
     let (f, last, some) = c.requires in
     lines_before _ 0 last (omega arith) (omega (arith, f.room, last.within)) (omega (arith, f.counted, last.within))
 
-pub returns-then-begun-eq0 : goal.returns-then-begun-eq0
-returns-then-begun-eq0 c =
+pub returns-then-begun-eq0-clause-answered : goal.returns-then-begun-eq0-clause-answered
+returns-then-begun-eq0-clause-answered c =
     let at-if1 = c in
     let (f, last, some) = at-if1.requires in
-    rw at-if1.if-begun-eq0.true (none_begun _ _ last c.put_lines.ensures)
+    rw at-if1.if-begun-eq0.true (none_begun _ _ last c.put_lines.ensures.answered)
 
 pub put_first-at-requires : goal.put_first-at-requires
 put_first-at-requires c =
@@ -40,14 +40,14 @@ put_lines-requires-2 c =
     let (f, last, some) = start.requires in
     let ends = some_lf start.args.piece.now at-line-end.line_end-e.ensures last some in
     let before = first_before start.args.piece.now _ at-line-end.line_end-e.ensures ends last in
-    let a = at-put-first.put_first-at.ensures in
+    let a = at-put-first.put_first-at.ensures.answered in
     lines_before _ _ last before (omega (arith, f.room, last.within, before, a.room, as_long a.wrote)) (omega (arith, f.counted, last.within, before))
 
-pub returns : goal.returns
-returns c =
+pub returns-clause-answered : goal.returns-clause-answered
+returns-clause-answered c =
     let at-put-first = c in
     let at-line-end = at-put-first in
     let start = at-line-end in
     let (f, last, some) = start.requires in
     let ends = some_lf start.args.piece.now at-line-end.line_end-e.ensures last some in
-    some_begun _ _ _ _ _ (short_held _ f.short) at-line-end.line_end-e.ensures ends last at-put-first.put_first-at.ensures c.put_lines-2.ensures
+    some_begun _ _ _ _ _ (short_held _ f.short) at-line-end.line_end-e.ensures ends last at-put-first.put_first-at.ensures.answered c.put_lines-2.ensures.answered

@@ -1,64 +1,41 @@
 -- What is held and the rest are put together in memory of their own, and answered as a text of one line.
 use native.Mathlib.Omega.{arith}
-use lib.ListN.{take, length-take}
+use lib.ListN.{take}
 use mathlib.Core.List.{◌++◌}
-use Rattle.text.proofs.Wrote.{as_long}
 use Rattle.text.proofs.Held.{length_taken, held_fits, still_fits, first_without, joined_fits, joined_answered}
 use Rattle.report.proofs.streaming.put_first.Goals as goal
-
-pub slice_bounds-put_bytes-end-2 : goal.slice_bounds-put_bytes-end-2
-slice_bounds-put_bytes-end-2 c =
-    let start = c in
-    length_taken _ _ (omega (arith, start.requires.0.short, start.requires.0.holds))
-
-pub put_bytes-joined-requires : goal.put_bytes-joined-requires
-put_bytes-joined-requires c =
-    let start = c in
-    let l = length-take start.args.begun.held start.args.held.now in omega (arith, l, start.requires.0.short)
-
-pub slice_bounds-hold-end-2 : goal.slice_bounds-hold-end-2
-slice_bounds-hold-end-2 c =
-    let start = c in
-    length_taken _ _ (omega (arith, start.requires.3))
-
-pub hold-end-requires : goal.hold-end-requires
-hold-end-requires c =
-    let at-put-bytes = c in
-    let start = at-put-bytes in
-    let l = length-take start.args.begun.held start.args.held.now in
-    (omega (arith, l, start.requires.0.short, at-put-bytes.put_bytes-joined.ensures.place), omega (arith, as_long at-put-bytes.put_bytes-joined.ensures))
 
 pub slice_bounds-line-end : goal.slice_bounds-line-end
 slice_bounds-line-end c =
     let at-hold = c in
-    let at-put-bytes = at-hold in
-    let start = at-put-bytes in
-    held_fits at-put-bytes.put_bytes-joined.new.out (take at-put-bytes.put_bytes-joined.result at-put-bytes.put_bytes-joined.new.out ++ take start.args.e start.args.piece.now) at-hold.hold-end.ensures.0 at-hold.hold-end.ensures.1 (still_fits at-put-bytes.put_bytes-joined.ensures (omega arith))
+    let at-put-over = at-hold in
+    let start = at-put-over in
+    held_fits at-put-over.put_over-joined.new.out (take at-put-over.put_over-joined.result at-put-over.put_over-joined.new.out ++ take start.args.e start.args.piece.now) at-hold.hold-end.ensures.0 at-hold.hold-end.ensures.1 (still_fits at-put-over.put_over-joined.ensures (omega arith))
 
 pub slice_bounds-put_lines-end : goal.slice_bounds-put_lines-end
 slice_bounds-put_lines-end c =
     let at-hold = c in
-    let at-put-bytes = at-hold in
-    let start = at-put-bytes in
-    length_taken _ _ (held_fits at-put-bytes.put_bytes-joined.new.out (take at-put-bytes.put_bytes-joined.result at-put-bytes.put_bytes-joined.new.out ++ take start.args.e start.args.piece.now) at-hold.hold-end.ensures.0 at-hold.hold-end.ensures.1 (still_fits at-put-bytes.put_bytes-joined.ensures (omega arith)))
+    let at-put-over = at-hold in
+    let start = at-put-over in
+    length_taken _ _ (held_fits at-put-over.put_over-joined.new.out (take at-put-over.put_over-joined.result at-put-over.put_over-joined.new.out ++ take start.args.e start.args.piece.now) at-hold.hold-end.ensures.0 at-hold.hold-end.ensures.1 (still_fits at-put-over.put_over-joined.ensures (omega arith)))
 
 pub put_lines-answered-requires : goal.put_lines-answered-requires
 put_lines-answered-requires c =
     let at-hold = c in
-    let at-put-bytes = at-hold in
-    let start = at-put-bytes in
+    let at-put-over = at-hold in
+    let start = at-put-over in
     let (f, some, q, ends) = start.requires in
     joined_fits _ start.args.held.now (take start.args.e start.args.piece.now) some f.short f.holds f.whole (omega arith)
-    at-put-bytes.put_bytes-joined.ensures at-hold.hold-end.ensures.0 at-hold.hold-end.ensures.1 (first_without start.args.piece.now start.args.e q)
+    at-put-over.put_over-joined.ensures at-hold.hold-end.ensures.0 at-hold.hold-end.ensures.1 (first_without start.args.piece.now start.args.e q)
     (omega (arith, f.room, ends)) (omega (arith, f.counted, ends))
 
-pub returns : goal.returns
-returns c =
+pub returns-clause-answered : goal.returns-clause-answered
+returns-clause-answered c =
     let at-put-lines = c in
     let at-hold = at-put-lines in
-    let at-put-bytes = at-hold in
-    let start = at-put-bytes in
+    let at-put-over = at-hold in
+    let start = at-put-over in
     let (f, some, q, ends) = start.requires in
     joined_answered _ start.args.held.now (take start.args.e start.args.piece.now) some f.short f.holds f.whole (omega arith)
-    at-put-bytes.put_bytes-joined.ensures at-hold.hold-end.ensures.0 at-hold.hold-end.ensures.1 (first_without start.args.piece.now start.args.e q)
-    at-put-lines.put_lines-answered.ensures
+    at-put-over.put_over-joined.ensures at-hold.hold-end.ensures.0 at-hold.hold-end.ensures.1 (first_without start.args.piece.now start.args.e q)
+    at-put-lines.put_lines-answered.ensures.answered

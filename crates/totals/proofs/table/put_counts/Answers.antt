@@ -19,7 +19,7 @@ put_aligned-c-requires c = omega (arith, length_counts c.args.s, c.put_aligned-a
 
 pub put_aligned-d-requires : goal.put_aligned-d-requires
 put_aligned-d-requires c =
-    rw c.all_of.ensures
+    rw c.all.ensures
     (omega (arith, length_counts c.args.s, c.put_aligned-a.ensures.place, c.put_aligned-b.ensures.place, c.put_aligned-c.ensures.place))
 
 pub put_padded-requires : goal.put_padded-requires
@@ -28,7 +28,7 @@ put_padded-requires c =
       arith,
       c.requires.0,
       length_counts c.args.s,
-      ap (λ (n : ℕ). length (right_aligned count_width n)) c.all_of.ensures,
+      ap (λ (n : ℕ). length (right_aligned count_width n)) c.all.ensures,
       c.put_aligned-a.ensures.place,
       c.put_aligned-b.ensures.place,
       c.put_aligned-c.ensures.place,
@@ -39,4 +39,4 @@ pub returns : goal.returns
 unfolding count_columns
 returns c =
     c.put_aligned-a.ensures then c.put_aligned-b.ensures then c.put_aligned-c.ensures
-    then (rw c.all_of.ensures at c.put_aligned-d.ensures) then c.put_padded.ensures
+    then (rw c.all.ensures at c.put_aligned-d.ensures) then c.put_padded.ensures

@@ -1,30 +1,23 @@
--- A copy, byte by byte: so far the bytes below i are written.
+-- Spaces and then a copy, each over a part of the memory.
+use mathlib.Core.Path.{◌≡◌, ◌∙◌}
+use Prim.Native.Nat.{◌+◌, ◌-◌}
 use native.Mathlib.Omega.{arith}
-use mathlib.Core.Path.{sym}
+use lib.ListN.{length, replicate, take, drop, length-replicate, length-drop}
+use lib.Seq.{length-take-le}
 use Rattle.std.proofs.Common.{rules}
-use Rattle.text.proofs.Wrote.{wrote_none, one_more_byte, wrote_all}
-use Rattle.totals.specs.Table.{padded}
-use Rattle.totals.proofs.Aligned.{length_padded}
+use Rattle.text.specs.LineForm.{space}
+use Rattle.text.proofs.Wrote.{◌then◌, as_long}
+use Rattle.totals.proofs.Aligned.{wrote_part, length_padded}
 use Rattle.totals.proofs.table.put_padded.Goals as goal
-
-pub overflow_add-n : goal.overflow_add-n
-overflow_add-n c = let a = c.args in omega (arith, length_padded a.spaces a.bytes.now)
-
-pub loop-i-init : goal.loop-i-init
-loop-i-init c =
-    let a = c.args in
-    (search rules, sym (length_padded a.spaces a.bytes.now), search rules, wrote_none (padded a.spaces a.bytes.now))
-
-pub loop-i-preserved : goal.loop-i-preserved
-loop-i-preserved c =
-    let l = c.loop-i in
-    let a = c.args in (
-      search rules,
-      l.invariant.1,
-      search rules,
-      rw c.padded_byte.ensures (one_more_byte (padded a.spaces a.bytes.now) (omega arith) l.invariant.3),
-    )
 
 pub returns : goal.returns
 returns c =
-    let a = c.args in wrote_all (padded a.spaces a.bytes.now) (omega arith) c.loop-i.invariant.3
+    let a = c.args in
+    let n : length (replicate a.spaces space) ≡ a.spaces = length-replicate a.spaces space in
+    let fits = length_padded a.spaces a.bytes.now in
+    let part : length (take (a.at + a.spaces - a.at) (drop a.at a.out.now)) ≡ a.spaces =
+    length-take-le (a.at + a.spaces - a.at) (drop a.at a.out.now) (omega (arith, length-drop a.at a.out.now, fits, c.requires)) ∙ omega arith in
+    let blank : c.fill.new.self ≡ replicate a.spaces space = rw part at (c.fill.ensures.after (λ y h. search rules)) in
+    let first = wrote_part {l = a.out.now} {at = a.at} {k = a.at + a.spaces - a.at} {to = a.at + a.spaces} (replicate a.spaces space) blank
+    (omega (arith, n)) (omega (arith, n)) (omega (arith, n, fits, c.requires)) in
+    first then wrote_part a.bytes.now c.copy_from_slice.ensures.after (omega arith) (omega arith) (omega (arith, fits, c.requires, as_long first))

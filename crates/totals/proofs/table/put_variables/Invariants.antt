@@ -1,6 +1,5 @@
 -- So far the lines of the variables below v are written, and their totals added.
-use Rattle.std.proofs.Common.{◌≡◌, ◌+◌, ◌*◌, ◌-◌, ◌^◌, ◌≤◌, length}
-use Rattle.theory.specs.order.Limits.{variables}
+use Rattle.std.proofs.Common.{◌≡◌, ◌+◌, ◌*◌, ◌^◌, ◌≤◌}
 use Rattle.text.specs.Wrote.{Wrote}
 use Rattle.totals.specs.Table.{line, sums_below, lines_below}
 use Rattle.totals.proofs.Lines.{WithinSums}
@@ -8,8 +7,5 @@ use Rattle.totals.proofs.table.put_variables.Given as goal
 
 abbrev pub invariant-loop-v : goal.invariant-loop-v
 invariant-loop-v l =
-    (l.v ≤ variables) × (length l.out ≡ length l.initial.out) × (l.to ≤ l.at + l.v * line) × WithinSums (l.v * 2 ^ 32) l.sums
-    × Wrote l.initial.out l.at (lines_below l.control l.v) l.out l.to × (l.sums ≡ sums_below l.control l.v)
-
-abbrev pub decreases-loop-v : goal.decreases-loop-v
-decreases-loop-v l = variables - l.v
+    (l.to ≤ l.at + l.v * line) × WithinSums (l.v * 2 ^ 32) l.sums × Wrote l.initial.out l.at (lines_below l.control l.v) l.out l.to
+    × (l.sums ≡ sums_below l.control l.v)

@@ -1,0 +1,2 @@
+-- Lemmas that several functions' proofs share.
+pub mod Std

@@ -1,8 +1,0 @@
-use theory::Record;
-
-// What a line says.
-#[derive(Clone, Copy)]
-pub enum Parsed {
-    Record(Record),
-    Nothing,
-}
