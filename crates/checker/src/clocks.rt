@@ -38,6 +38,10 @@ impl Reckoning<COLUMNS, CLOCK_CELLS> for ByClocks {
         a.max(b)
     }
 
+    fn join_rows(cells: &mut Clocks, to: usize, from: usize) {
+        join_newer(cells, to, from);
+    }
+
     fn access_mask(cells: &Clocks, last: &History, access: AccessInRange) -> u16 {
         let row = task_row(access.task) * COLUMNS;
         let from = slot(ask_at(access.kind), access.variable, Task(0));
@@ -46,7 +50,7 @@ impl Reckoning<COLUMNS, CLOCK_CELLS> for ByClocks {
 }
 
 // What row `from` knows is known to row `to` as well, in one pass: each newer entry is copied, and the answer is whether any was newer. `join_row` (rows.rt)
-// joins too, but answers nothing, and asks whether the rows are one, which `hand_over` does without.
+// calls it and leaves the answer; `hand_over` calls it itself, without asking whether the rows are one.
 fn join_newer(cells: &mut Clocks, to: usize, from: usize) -> bool
     requires { (to ≤ acted_row) × (from ≤ acted_row) }
     ensures { (result ≡ any_newer tasks to from cells.old)
@@ -54,8 +58,8 @@ fn join_newer(cells: &mut Clocks, to: usize, from: usize) -> bool
 {
     let mut newer = false;
     for c in 0..COLUMNS {
-        let at = ByClocks::place(to, c);
-        let told = cells[ByClocks::place(from, c)];
+        let at = to * COLUMNS + c;
+        let told = cells[from * COLUMNS + c];
         newer |= cells[at] < told;
         cells[at] = ByClocks::join(cells[at], told);
     }

@@ -1,7 +1,7 @@
 // Tables that have a row for each node, through which order is carried on, and one row more that says which tasks have acted. Both reckonings keep such
 // tables, and do all of this alike. They differ in how many cells a row has and in what two cells know together: ByClocks has the later of two record
 // numbers, BySets the accesses of both words.
-// A row is a bare number, as basics gives it: a type of rows up to ACTED would take `row ≤ acted_row` from eleven contracts and ask the same proofs wherever
+// A row is a bare number, as basics gives it: a type of rows up to ACTED would take `row ≤ acted_row` from twelve contracts and ask the same proofs wherever
 // a row is made. A task's number is below `tasks` by the contracts and not by its type: theory's Task is what hosts and records carry unchecked.
 ghost use Rattle.std.specs.Prelude.{◌≡◌, ℕ, List, ◌<◌, ◌≤◌, ◌+◌, ◌*◌, ltb};
 ghost use Rattle.theory.specs.order.Limits.{tasks};
@@ -21,6 +21,12 @@ pub(crate) trait Reckoning<const WIDTH: usize, const CELLS: usize> {
     // What two cells know together.
     fn join(a: u32, b: u32) -> u32
         ensures { result ≡ joined a b };
+
+    // What row `from` knows is known to row `to` as well, in a loop of the reckoning's own: that of clocks answers, too. It finds its cells without
+    // `place`: to the prover an impl's method that comes to call a final one of its trait is a cycle of calls.
+    fn join_rows(cells: &mut [u32; CELLS], to: usize, from: usize)
+        requires { (to ≤ acted_row) × (from ≤ acted_row) }
+        ensures { cells.new ≡ join_row joined WIDTH to from cells.old };
 
     ghost access_mask: { List ℕ → List ℕ → ℕ → ℕ → ℕ → ℕ };
 
@@ -42,7 +48,7 @@ pub(crate) trait Reckoning<const WIDTH: usize, const CELLS: usize> {
         row * WIDTH + column
     }
 
-    // What row `from` knows is known to row `to` as well.
+    // What row `from` knows is known to row `to` as well; for a row and itself no loop is run.
     final fn join_row(cells: &mut [u32; CELLS], to: usize, from: usize)
         requires { (to ≤ acted_row) × (from ≤ acted_row) }
         ensures { cells.new ≡ join_row joined WIDTH to from cells.old }
@@ -50,10 +56,7 @@ pub(crate) trait Reckoning<const WIDTH: usize, const CELLS: usize> {
         if to == from {
             return;
         }
-        for c in 0..WIDTH {
-            let at = Self::place(to, c);
-            cells[at] = Self::join(cells[at], cells[Self::place(from, c)]);
-        }
+        Self::join_rows(cells, to, from);
     }
 
     // A row by itself.

@@ -37,6 +37,13 @@ impl Reckoning<SLOT_WORDS, SET_CELLS> for BySets {
         a | b
     }
 
+    fn join_rows(cells: &mut Sets, to: usize, from: usize) {
+        for c in 0..SLOT_WORDS {
+            let at = to * SLOT_WORDS + c;
+            cells[at] = Self::join(cells[at], cells[from * SLOT_WORDS + c]);
+        }
+    }
+
     fn access_mask(cells: &Sets, last: &History, access: AccessInRange) -> u16 {
         let known = known_slots(
             cells,

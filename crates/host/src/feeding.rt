@@ -1,6 +1,6 @@
 // The running state and the sets for a host program in C, which lends the tables. include/order.h has the same functions for C.
 ghost use Rattle.std.specs.Prelude.{◌≡◌};
-ghost use Rattle.theory.specs.feeding.Meaning.{refuses};
+ghost use Rattle.theory.specs.feeding.Meaning.{Meaning, meaning, refuses};
 ghost use Rattle.theory.specs.feeding.Step.{answer_numbers, three_numbers, record_of, step_of, set_step_of, fresh_state, fresh_sets};
 ghost use Rattle.theory.specs.feeding.Lent.{tables, set_tables};
 
@@ -25,17 +25,45 @@ pub fn refusal_numbers(number: u32) -> [u32; 3]
     [REFUSED, number, 0]
 }
 
-// An answer as three numbers: which case it is, the number of the refusal or of the record, and the partner's.
-pub fn answer_numbers(a: Answer) -> [u32; 3]
-    ensures { result ≡ answer_numbers a }
-{
-    match a {
-        Answer::Refused(row) => refusal_numbers(row as u32),
-        Answer::Accepted(n) => [ACCEPTED, n.0, 0],
-        Answer::Clear(n) => [CLEAR, n.0, 0],
-        Answer::Race(n, w) => [RACE, n.0, w.0],
-        Answer::Doubt(n, w) => [DOUBT, n.0, w.0],
+// What comes to a host as three numbers, by what it means: what a record was answered, or a refusal by its number.
+pub trait InNumbers {
+    ghost meant: { Self → Meaning };
+
+    fn numbers(self) -> [u32; 3]
+        ensures { result ≡ three_numbers (meant self) };
+}
+
+impl InNumbers for Answer {
+    ghost meant = { meaning };
+
+    fn numbers(self) -> [u32; 3] {
+        match self {
+            Answer::Refused(row) => refusal_numbers(row as u32),
+            Answer::Accepted(n) => [ACCEPTED, n.0, 0],
+            Answer::Clear(n) => [CLEAR, n.0, 0],
+            Answer::Race(n, w) => [RACE, n.0, w.0],
+            Answer::Doubt(n, w) => [DOUBT, n.0, w.0],
+        }
     }
+}
+
+// A refusal by any number, also one that no row of the table has, which an Answer cannot hold.
+#[derive(Clone, Copy)]
+pub struct RefusedBy(pub u32);
+
+impl InNumbers for RefusedBy {
+    ghost meant = { λ r. refuses r.0 };
+
+    fn numbers(self) -> [u32; 3] {
+        refusal_numbers(self.0)
+    }
+}
+
+// An answer as three numbers: which case it is, the number of the refusal or of the record, and the partner's.
+pub fn answer_numbers<A: InNumbers>(a: A) -> [u32; 3]
+    ensures { result ≡ three_numbers (A.meant a) }
+{
+    a.numbers()
 }
 
 // Makes the lent tables those of a fresh state.

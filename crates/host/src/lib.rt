@@ -7,7 +7,8 @@ mod settling;
 mod totals;
 
 pub use feeding::{
-    answer_numbers, order_begin, order_feed, order_sets_begin, order_sets_feed, refusal_numbers,
+    InNumbers, RefusedBy, answer_numbers, order_begin, order_feed, order_sets_begin,
+    order_sets_feed, refusal_numbers,
 };
 pub use lazy::order_lazy;
 pub use settling::order_settle;

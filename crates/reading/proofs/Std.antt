@@ -18,7 +18,7 @@ use borrow.Author.Tests.{eq-eqb, ne_eqb, eqb-true, eqb-false, lt-ltb, le-ltb, lt
 use Rattle.text.specs.Bytes.{index_of, starts_with, is_word, little}
 use Rattle.text.specs.Lines.{lf_count}
 use Rattle.text.proofs.Lines.{lf_cut}
-use Rattle.text.proofs.Bytes.{index_fits, little_next, little_none}
+use Rattle.text.proofs.Bytes.{index_fits, differs_at, little_next, little_none}
 
 -- The beginning of a part
 
@@ -48,6 +48,15 @@ same_word (x ∷ w) (y ∷ s) =
     swapped true false c = refl
     swapped false true c = refl
     swapped false false c = refl
+
+-- the word is not a list of another length, nor one of the same with another first element
+pub other_length : (w s : List ℕ) → (length s ≡ length w → ⊥) → is_word w s ≡ false
+unfolding is_word
+other_length w s d = rw (ne_eqb (length s) (length w) d)
+
+pub other_first : (w s : List ℕ) → 0 < length w → length s ≡ length w → (get_or s 0 0 ≡ get_or w 0 0 → ⊥) → is_word w s ≡ false
+unfolding is_word
+other_first w s h e d = rw (eq-eqb (length s) (length w) e, differs_at w s 0 h (omega arith) d)
 
 -- Numbers of bytes
 

@@ -2,7 +2,7 @@
 ghost use Rattle.std.specs.Prelude.{◌≡◌, ◌++◌, ◌+◌, ◌≤◌, ◌<◌, length, take, drop, IfSome};
 ghost use Rattle.theory.specs.order.Recording.{loss_mark};
 ghost use Rattle.reading.specs.Places.{IsPlace};
-ghost use Rattle.text.specs.Bytes.{up_to, little};
+ghost use Rattle.text.specs.Bytes.{up_to, is_word, little};
 ghost use Rattle.text.specs.LineForm.{field_of, named_kind, place_of, words, word_of, op_name, space};
 ghost use Rattle.text.specs.Places.{OpAt, kind_opening, op_bytes};
 
@@ -30,6 +30,22 @@ const OPENINGS: [[u8; 8]; KINDS as usize] = [
     *b"op=owned",
 ];
 
+// The part is the word. Not made part of its caller: the loop over the words is small without it, and the compiler then makes of that one test after the other.
+#[inline(never)]
+fn same_bytes(word: &[u8], s: &[u8]) -> bool
+    ensures { result ≡ is_word word.now s.now }
+{
+    s == word
+}
+
+// The same. Their lengths and first bytes are looked at first: most words differ there, and then no more is compared.
+fn is_word(word: &[u8], s: &[u8]) -> bool
+    requires { 0 < length word.now }
+    ensures { result ≡ is_word word.now s.now }
+{
+    s.len() == word.len() && s[0] == word[0] && same_bytes(word, s)
+}
+
 // The kind that a word names, if it is one of the table.
 fn kind_of(word: &[u8]) -> Option<u8>
     ensures { IsPlace result (place_of words word.now) (length words) }
@@ -37,7 +53,7 @@ fn kind_of(word: &[u8]) -> Option<u8>
     let openings = OPENINGS;
     for k in 0..KINDS {
         let o = openings[k as usize];
-        if word == &o[3..op_bytes(&o)] {
+        if is_word(&o[3..op_bytes(&o)], word) {
             return Some(k);
         }
     }

@@ -1,5 +1,5 @@
 // The recording line by line: as much of a line as a record can have is held until its LF has come.
-ghost use Rattle.std.specs.Prelude.{◌≤◌, ◌≡◌};
+ghost use Rattle.std.specs.Prelude.{◌≤◌, ◌≡◌, None};
 ghost use Rattle.std.specs.Option.{ForSome};
 ghost use Rattle.text.specs.LineForm.{parse_of};
 ghost use Rattle.text.specs.Stream.{held_most};
@@ -26,10 +26,13 @@ pub(crate) struct Reading {
 }
 
 // Before the first line.
-pub(crate) fn nothing_read() -> Reading {
+pub(crate) fn nothing_read() -> Reading
+    ensures { (result.held ≡ 0) × (result.ended ≡ None) }
+{
+    let held = 0;
     Reading {
         piece: Span::START,
-        held: 0,
+        held,
         ended: None,
     }
 }

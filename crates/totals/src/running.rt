@@ -1,4 +1,6 @@
 // The recording to its end, line by line, with the tables that are due on the way.
+ghost use Rattle.std.specs.Prelude.{◌≡◌, ◌&&◌, ◌-◌, ◌^◌, cond, ltb, Some, None};
+
 use crate::showing::show_due;
 use checker::Tables;
 use input::{BLOCK, PIECE, Span, next_piece};
@@ -9,6 +11,14 @@ use theory::{COUNT, State};
 
 // Memory for the report of a piece, which is thrown away: the totals are what the records leave in the control table.
 const REPORT: usize = LINE_ROOM * PIECE;
+
+// Where the next report begins: at the start of its memory, since that of a piece is thrown away. None where the run breaks off: the piece was not
+// taken in, or what was due could not be written.
+fn next_place(at: usize, written: bool) -> Option<usize>
+    ensures { result ≡ cond (written && ltb at (2 ^ 64 - 1)) (Some 0) None }
+{
+    (written && at < REFUSED).then_some(0)
+}
 
 // Piece by piece, in each of which at most one line ends. A table is written as soon as it is due: more input may be long in coming. Says whether it
 // came to the end: it breaks off where a piece was not taken in, and where the output is closed.
@@ -52,13 +62,15 @@ pub(crate) fn run<I: Read, O: Write, E: Write>(
                 fullclocks: &mut state.fullclocks,
             },
         );
-        if now.at == REFUSED || !show_due(stdout, &state.control, every, before) {
+        // Nothing is due where the piece was not taken in.
+        let written = now.at == REFUSED || show_due(stdout, &state.control, every, before);
+        let Some(at) = next_place(now.at, written) else {
             return false;
-        }
+        };
+        now.at = at;
         if !piece.more {
             break;
         }
-        now.at = 0;
     }
     true
 }

@@ -1,6 +1,6 @@
 -- What the code of the lazy reckoning counts on: it adds numbers that fit, and a question may be that of a clipped record. Assumes nothing.
 use mathlib.Core.Path.{◌≡◌, refl, sym, ◌∙◌, ap}
-use mathlib.Core.Bool.{Bool, true, false, cond, not, ◌&&◌, ◌||◌}
+use mathlib.Core.Bool.{Bool, true, false, cond, not, ◌&&◌, ◌||◌, true≢false}
 use mathlib.Core.List.{List}
 use Prim.Native.Nat.{ℕ, zero, suc, ◌+◌, ◌-◌, ◌≤◌, ◌<◌}
 use native.Mathlib.Omega.{arith}
@@ -10,7 +10,7 @@ use lib.ListN.{length, get_or, set, length-set}
 use lib.Seq.{get_or-set_same}
 use Rattle.theory.specs.declared.record.Record.{Record}
 use Rattle.theory.specs.basics.Turns.{turns}
-use Rattle.theory.specs.order.Recording.{read, write, fresh, kind, kinds, numbered_kind, kind_accesses, accesses, loss_mark}
+use Rattle.theory.specs.order.Recording.{read, write, join, fresh, kind, kinds, numbered_kind, kind_accesses, accesses, loss_mark}
 use Rattle.theory.specs.fillings.Completion.{bit}
 use Rattle.theory.specs.acceptance.Table.{Proper}
 use Rattle.theory.specs.acceptance.Control.{count_at, count_in, updated, control_after}
@@ -18,7 +18,7 @@ use Rattle.theory.specs.history.History.{asker, kind_clashes}
 use Rattle.theory.specs.tables.Reckonings.{word_bits}
 use Rattle.requests.specs.lazy.Fold.{by_end, by_write, asker_on, walkable, Lazy, arrived_now, keep_on, accessed, walked_over, noted, acted, recorded, question}
 use Rattle.theory.specs.feeding.Step.{record_of}
-use Rattle.theory.proofs.basics.Reflects.{Reflects, right, wrong, at_most}
+use Rattle.theory.proofs.basics.Reflects.{Reflects, right, wrong, equal, at_most}
 use Rattle.theory.proofs.acceptance.Updated.{rewritten_length, rewritten_count, updated_rewrites}
 use Rattle.requests.proofs.following.Listed.{clipped_kind, clipped, clipped_known}
 use Rattle.theory.proofs.order.Numbered.{kind_above}
@@ -37,6 +37,21 @@ no_arrival word walked counts = none word_bits
     none : (n : ℕ) → turns n (λ c l. cond (bit word c && not (bit word c)) (set l c (walked - get_or l c 0)) l) counts ≡ counts
     none zero = refl
     none (suc n) = never (bit word n) _ _ ∙ none n
+
+-- Kinds
+
+-- a test that makes no difference
+pub either_same : (b : Bool) (s : Lazy) → s ≡ cond b s s
+either_same true s = refl
+either_same false s = refl
+
+-- what is a join and more is a join
+pub join_kind : (k : ℕ) (b : Bool) → (eqb k (kind join) && b) ≡ true → k ≡ kind join
+join_kind k b e = decided (equal k (kind join)) e
+  where
+    decided : {a : Bool} → Reflects (k ≡ kind join) a → (a && b) ≡ true → k ≡ kind join
+    decided (right q) e = q
+    decided (wrong n) e = absurd (true≢false (sym e))
 
 -- How many records were walked
 

@@ -15,8 +15,8 @@ loop-c-preserved c =
     let a = c.args in
     let inv = c.loop-c.invariant in
     let e = column_unread max tasks a.to a.from inv.0 c.loop-c-test.true in (
-      one_turn inv.0 (rw (c.join.ensures, c.place-at.ensures.0, c.place.ensures.0)),
-      one_turn inv.1 (rw (← e.0, ← e.1, c.place-at.ensures.0, c.place.ensures.0)),
+      one_turn inv.0 (rw c.join.ensures),
+      one_turn inv.1 (rw (← e.0, ← e.1)),
     )
 
 pub returns : goal.returns

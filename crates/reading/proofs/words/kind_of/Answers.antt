@@ -8,15 +8,14 @@ use Rattle.text.specs.Bytes.{is_word}
 use Rattle.text.specs.LineForm.{words}
 use Rattle.text.proofs.LineForm.{word_passed, word_found, words_ended}
 use Rattle.text.proofs.Ops.{opening_word}
-use Rattle.reading.proofs.Std.{same_word}
 use Rattle.reading.proofs.words.kind_of.Goals as goal
 
-pub returns-then-eq : goal.returns-then-eq
-returns-then-eq c =
+pub returns-then-is_word : goal.returns-then-is_word
+returns-then-is_word c =
     let k : ℕ = c.loop-k.k in
     let s : List ℕ = c.args.word.now in (
       word_found words s k c.loop-k.invariant (omega arith)
-          (ap (λ (w : List ℕ). is_word w s) (sym (opening_word k (omega arith) c.op_bytes.result c.op_bytes.ensures.0)) ∙ sym (same_word _ s) ∙ sym c.eq.ensures ∙ c.if-eq.true),
+          (ap (λ (w : List ℕ). is_word w s) (sym (opening_word k (omega arith) c.op_bytes.result c.op_bytes.ensures.0)) ∙ sym c.is_word.ensures ∙ c.if-is_word.true),
       omega arith,
     )
 
@@ -25,7 +24,7 @@ loop-k-preserved c =
     let k : ℕ = c.loop-k.k in
     let s : List ℕ = c.args.word.now in
     word_passed words s k c.loop-k.invariant (omega arith)
-    (ap (λ (w : List ℕ). is_word w s) (sym (opening_word k (omega arith) c.op_bytes.result c.op_bytes.ensures.0)) ∙ sym (same_word _ s) ∙ sym c.eq.ensures ∙ c.if-eq.false)
+    (ap (λ (w : List ℕ). is_word w s) (sym (opening_word k (omega arith) c.op_bytes.result c.op_bytes.ensures.0)) ∙ sym c.is_word.ensures ∙ c.if-is_word.false)
 
 pub returns : goal.returns
 returns c =
