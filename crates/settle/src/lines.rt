@@ -29,6 +29,7 @@ pub(crate) struct Reading {
 pub(crate) fn nothing_read() -> Reading
     ensures { (result.held ≡ 0) × (result.ended ≡ None) }
 {
+    // On a line of its own, so that a must-fail edit finds it.
     let held = 0;
     Reading {
         piece: Span::START,
